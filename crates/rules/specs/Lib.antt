@@ -1,0 +1,10 @@
+pub mod Answer
+pub mod Field
+pub mod Layout
+pub mod Presence
+pub mod Record
+pub mod Block
+pub mod Recording
+pub mod Category017
+pub mod Category018
+pub mod Entry
