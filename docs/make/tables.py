@@ -36,7 +36,8 @@ Message = namedtuple("Message", "number name compulsory optional")
 # A cell that depends on more than the message type, as printed in the table, and the ground.
 Cell = namedtuple("Cell", "number reference printed ground")
 
-Category = namedtuple("Category", "number document edition octets items profile messages cells")
+# A category: octets is the most that an FSPEC has.
+Category = namedtuple("Category", "number document edition octets items profile messages cells note")
 
 
 def unsigned(name, bits, width, unit="", says="", least=0, greatest=None):
@@ -109,7 +110,7 @@ ITEMS_017 = [
           note="The figure is lost; the two units place speed above heading (R8), and no range is left to enforce (R6)."),
     repeated("210", "5.2.9", "Mode S Address List", 3, 0,
              unsigned("address", "24/1", 24, says="Mode S address, A23 to A0"),
-             note="May be empty: its encoding rule says so (R4). " + LOST),
+             note="The empty list is its encoding rule's own (R4). " + LOST),
     fixed("220", "5.2.10", "Aircraft Address", 3,
           unsigned("address", "24/1", 24, says="Mode S address, A23 to A0"),
           note=LOST),
@@ -169,19 +170,19 @@ ITEMS_018 = [
               spare("7/2", 6),
               FX_BIT]),
     extended("009", "5.2.9", "Aircraft Data Link Report Request",
-             [unsigned("SR", "8", 1, says="1: report I018/008 next"),
-              unsigned("AR", "7", 1, says="1: report I018/010"),
-              unsigned("ER", "6", 1, says="1: report I018/011"),
-              unsigned("FR", "5", 1, says="1: report I018/012"),
-              unsigned("MR", "4", 1, says="1: report I018/013"),
-              unsigned("PR", "3", 1, says="1: report I018/014"),
-              unsigned("CR", "2", 1, says="1: report I018/015"),
+             [unsigned("SR", "8", 1, says="1: I018/008 in the next report"),
+              unsigned("AR", "7", 1, says="1: I018/010 in the next report"),
+              unsigned("ER", "6", 1, says="1: I018/011 in the next report"),
+              unsigned("FR", "5", 1, says="1: I018/012 in the next report"),
+              unsigned("MR", "4", 1, says="1: I018/013 in the next report"),
+              unsigned("PR", "3", 1, says="1: I018/014 in the next report"),
+              unsigned("CR", "2", 1, says="1: I018/015 in the next report"),
               FX_BIT],
-             [unsigned("ID", "8", 1, says="1: report I018/031"),
-              unsigned("MA", "7", 1, says="1: report I018/032"),
-              unsigned("SP", "6", 1, says="1: report I018/034"),
-              unsigned("HG", "5", 1, says="1: report I018/033"),
-              unsigned("HD", "4", 1, says="1: report I018/035"),
+             [unsigned("ID", "8", 1, says="1: I018/031 in the next report"),
+              unsigned("MA", "7", 1, says="1: I018/032 in the next report"),
+              unsigned("SP", "6", 1, says="1: I018/034 in the next report"),
+              unsigned("HG", "5", 1, says="1: I018/033 in the next report"),
+              unsigned("HD", "4", 1, says="1: I018/035 in the next report"),
               spare("3/2", 2),
               FX_BIT]),
     fixed("010", "5.2.10", "Transponder Communications Capability", 1,
@@ -421,10 +422,11 @@ CELLS_018 = [
     Cell(0x43, "029", "O", "5.2.27: not where the extraction failed"),
 ]
 
-# FSPEC octets: 5.3.1 says three for 017; for 018 five, by table 9 and against the sentence below it (R1).
 CATEGORIES = {
-    17: Category(17, "000", "1.3", 3, ITEMS_017, PROFILE_017, MESSAGES_017, CELLS_017),
-    18: Category(18, "002", "1.6", 5, ITEMS_018, PROFILE_018, MESSAGES_018, CELLS_018),
+    17: Category(17, "000", "1.3", 3, ITEMS_017, PROFILE_017, MESSAGES_017, CELLS_017,
+                 "Table 2 and the sentence below it give the FSPEC three octets."),
+    18: Category(18, "002", "1.6", 5, ITEMS_018, PROFILE_018, MESSAGES_018, CELLS_018,
+                 "Table 9 gives the FSPEC five octets, the sentence below it six; the table is followed (R1)."),
 }
 
 
