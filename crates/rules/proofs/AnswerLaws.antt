@@ -2,7 +2,7 @@
 -- was read was written, what is written is octets.
 --
 -- In order: answers taken apart; octets; the three laws; ways to make a rule with the laws from others. Assumes nothing.
-use Prim.Native.Nat.{ℕ, _<_}
+use Prim.Native.Nat.{ℕ, _+_, _<_}
 use mathlib.Core.Path.{_≡_, refl, sym, _∙_, ap, subst}
 use mathlib.Core.Logic.{_↔_, _⊎_, inl, inr}
 use mathlib.Core.Bool.{Bool, true, false, _&&_, false≢true}
@@ -37,6 +37,10 @@ pub need-in : {A : Type 0} (t : Bool) (n : ℕ) {x r : Answer A} → T t → x �
 unfolding need_or_then_
 need-in true n p q = q
 need-in false n p q = absurd p
+
+pub need-out : {A : Type 0} {t : Bool} (n : ℕ) (x : Answer A) → t ≡ false → (need t or n then x) ≡ refused n 0
+unfolding need_or_then_
+need-out n x p = rw p
 
 pub need-bind : {A B : Type 0} (t : Bool) (n : ℕ) (x : Answer A) (f : A → Answer B) → ((need t or n then x) >>= f) ≡ (need t or n then (x >>= f))
 unfolding need_or_then_ _>>=_
@@ -93,6 +97,22 @@ expect-elim none n h k = refused-ok h
 pub expect-in : {A : Type 0} {x : Option A} (n : ℕ) {a : A} → x ≡ some a → (expect x or n) ≡ ok a
 unfolding expect_or_
 expect-in n h = rw h
+
+pub expect-out : {A : Type 0} {x : Option A} (n : ℕ) → x ≡ none → (expect x or n) ≡ refused n 0
+unfolding expect_or_
+expect-out n h = rw h
+
+pub bind-out : {A B : Type 0} {m : Answer A} (f : A → Answer B) {n p : ℕ} → m ≡ refused n p → (m >>= f) ≡ refused n p
+unfolding _>>=_
+bind-out f h = rw h
+
+pub later-out : {A : Type 0} (k : ℕ) {x : Answer A} {n p : ℕ} → x ≡ refused n p → later k x ≡ refused n (k + p)
+unfolding later
+later-out k h = rw h
+
+-- a test that is true
+pub T-true : {t : Bool} → t ≡ true → T t
+T-true p = subst T (sym p) tt
 
 pub octetsOf-ok : {m : Answer (List ℕ)} {bs : List ℕ} → m ≡ ok bs → octetsOf m ≡ bs
 unfolding octetsOf

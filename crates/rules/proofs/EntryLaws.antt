@@ -187,7 +187,7 @@ pub record ItemFound (ps : List (Option Place)) (vs : List (Option Values)) (ref
   pub size : item .size ≡ length out
   pub lies : Lies bs (item .start) out
 
-layout-item : (ps : List (Option Place)) (ref : ℕ) (l : Layout) → layoutAs ref ps ≡ some l → isItem ref ps ≡ true
+pub layout-item : (ps : List (Option Place)) (ref : ℕ) (l : Layout) → layoutAs ref ps ≡ some l → isItem ref ps ≡ true
 layout-item [] ref l h = none-some h
 layout-item (none ∷ ps) ref l h = layout-item ps ref l h
 layout-item (some p ∷ ps) ref l h =

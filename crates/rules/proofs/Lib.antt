@@ -8,3 +8,4 @@ pub mod RecordingLaws
 pub mod Tables
 pub mod EntryLaws
 pub mod Starred
+pub mod Demands

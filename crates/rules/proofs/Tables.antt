@@ -10,6 +10,7 @@ use mathlib.Core.Bool.{Bool, true, false, _&&_, not}
 use mathlib.Core.Option.{Option, none, some}
 use mathlib.Core.List.{List, [], _∷_, _++_, map}
 use lib.Dec.{leb, eqb}
+use lib.ListN.{length}
 use Rattle.rules.specs.Answer.{Answer, ok, _>>=_, if_then_else_}
 use Rattle.rules.specs.Field.{bits}
 use Rattle.rules.specs.Layout.{Group, Layout, fixed, repeated, led, extended, groups}
@@ -94,6 +95,11 @@ distinct (some p ∷ ps) = not (isItem (p .reference) ps) && distinct ps
 pub tables-distinct : everyCategory (λ c. distinct (places c)) categories ≡ true
 unfolding categories category017 category018 if_then_else_
 tables-distinct = refl
+
+-- no profile has more places than the record map
+pub tables-few : everyCategory (λ c. leb (length (places c)) 35) categories ≡ true
+unfolding categories category017 category018
+tables-few = refl
 
 -- ---- the column "Length in octets" of each profile: a fixed length; 1 of 1+n; 3 of 3+; 0 for an unusable FRN
 
@@ -206,7 +212,6 @@ rows018 =
     ∷ row 013 [] (0x10 ∷ 0x11 ∷ [])
     ∷ []
 
--- the rows stand in the order of the profile, and every cell is the same by row and by column
 abbrev referenceAt : Option Place → List ℕ
 referenceAt none = []
 referenceAt (some p) = p .reference ∷ []
@@ -215,7 +220,7 @@ abbrev referencesOf : List (Option Place) → List ℕ
 referencesOf [] = []
 referencesOf (p ∷ ps) = referenceAt p ++ referencesOf ps
 
--- no message names an item that has no row: as many cells by column as by row
+-- the rows stand in the order of the profile, and every cell is the same by row and by column
 abbrev pub Entered : Category → List Row → Type 0
 Entered c ws = (referencesOf (places c) ≡ map (λ w. w .reference) ws) × (map (byRow (c .messages)) ws ≡ ws)
 
