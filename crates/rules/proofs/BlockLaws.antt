@@ -183,7 +183,7 @@ block-back fits cs b bs rest fit h =
     (bind-in _ (head-back fits cs c (b .cat) (3 + length body) k n (body ++ rest) found u v (omega arith) fit′)
     (need-in _ _ (lt→ltb 3 (3 + length body) (omega arith))
     (rw (take-at body rest (3 + length body - 3) (sym d), drop-at body rest (3 + length body - 3) (sym d))
-    (bind-in _ (bind-in _ (later-in 3 (all-back (record-laws c) (record-starts c) (b .records) body q)) refl) (ap (λ z. ok (z, rest)) b′)))))
+    (bind-in _ (bind-in _ (later-in _ (all-back (record-laws c) (record-starts c) (b .records) body q)) refl) (ap (λ z. ok (z, rest)) b′)))))
 
 three-parts : {bs : List ℕ} (a b c rest : List ℕ) → bs ≡ a ++ (b ++ (c ++ rest)) → bs ≡ a ++ (b ++ c) ++ rest
 three-parts a b c rest p = rw (append-assoc a (b ++ c) rest, append-assoc b c rest) p
@@ -213,7 +213,7 @@ block-forth fits fits-le cs b bs rest ob e =
     let ld : length (drop (n - 3) (x .1)) ≡ length (x .1) - (n - 3) = length-drop (n - 3) (x .1) in
     let n-is : 3 + length body ≡ n = omega arith in
     let wa : writeAll (writeRecord (x .0 .category)) rs ≡ ok body =
-    all-forth (record-laws (x .0 .category)) (record-starts (x .0 .category)) body rs (octets-take (n - 3) (x .1) (h .octets)) (later-inv 3 _ z) in
+    all-forth (record-laws (x .0 .category)) (record-starts (x .0 .category)) body rs (octets-take (n - 3) (x .1) (h .octets)) (later-inv _ _ z) in
     let lr : 0 < length rs = some-all (writeRecord (x .0 .category)) rs body wa (omega arith) in
     subst (λ v. Came fits cs (v .0) bs (v .1)) (ok-inj e₃)
     (subst (λ v. Came fits cs (record { cat = x .0 .category .cat; records = v .0 }) bs (v .1)) (ok-inj q₁)

@@ -138,8 +138,8 @@ map-start : (c : Category) (r : Numbered) (i : ℕ) → length (places c) ≤ 35
     → getD (mapOf c r .starts) i 0 ≡ startOf (getD (laidItems c (r .start) (r .value)) i none)
 unfolding mapOf
 map-start c r i few =
-    over-zeros (map startOf (laidItems c (r .start) (r .value))) 35 i
-    (omega (arith, laid-length (places c) (concat (r .value)) (r .start + length (r .value)), length-map (laidItems c (r .start) (r .value)) startOf))
+    let l : length (laidItems c (r .start) (r .value)) ≤ length (places c) = laid-length (places c) (concat (r .value)) _ in
+    over-zeros (map startOf (laidItems c (r .start) (r .value))) 35 i (omega (arith, length-map (laidItems c (r .start) (r .value)) startOf))
     ∙ List·getD-map startOf (laidItems c (r .start) (r .value)) i none
 
 -- an item alone is read as its fields

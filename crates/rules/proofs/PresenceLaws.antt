@@ -94,18 +94,18 @@ module _ {P : Type 0} where
         back = λ ts bs rest h.
             bind-elim _ _ h λ ns p h₁.
             need-elim _ _ _ h₁ λ u h₂.
-            step-back (chain-laws cut 6 _) _ h₂ (bind-in _ (need-in _ _ u (flags-from ps ns ts p)) refl);
+            step-back (chain-laws cut _ _) _ h₂ (bind-in _ (need-in _ _ u (flags-from ps ns ts p)) refl);
         forth = λ ts bs rest b h.
             bind-elim _ _ h λ x p h₁.
             bind-elim _ _ h₁ λ us q h₂.
             need-elim _ _ _ q λ u h₃.
-            let s : Split (writeChain (map (λ p. 1) ps)) (x .0) bs (x .1) = chain-laws cut 6 _ .forth (x .0) bs (x .1) b p in
+            let s : Split (writeChain (map (λ p. 1) ps)) (x .0) bs (x .1) = chain-laws cut _ _ .forth (x .0) bs (x .1) b p in
             subst (λ z. Split (writePresence ps) (z .0) bs (z .1)) (ok-inj h₂)
             (record { out = s .out; writes = bind-in _ (flags-to ps (x .0) us h₃) (need-in _ _ u (s .writes)); joins = s .joins });
         clean = λ ts bs h.
             bind-elim _ _ h λ ns p h₁.
             need-elim _ _ _ h₁ λ u h₂.
-            chain-laws cut 6 _ .clean ns bs h₂;
+            chain-laws cut cut _ .clean ns bs h₂;
       }
 
 -- ---- what the bits name
@@ -224,4 +224,4 @@ unfolding readPlaces readPresence
 places-starts readP cut ps a rest h =
     bind-elim _ _ h λ x p h₁.
     bind-elim _ _ p λ y q h₂.
-    chain-starts cut 6 ps (y .0) (y .1) q
+    chain-starts cut _ ps (y .0) (y .1) q

@@ -127,8 +127,20 @@ furtherNumbers =
     ∷ read 17 210 (0x00 ∷ []) (ok [])
     ∷ read 18 006 (0x00 ∷ []) (refused 11 0)
     ∷ read 18 019 (0x03 ∷ 0x01 ∷ 0x02 ∷ []) (ok (pos 1 ∷ pos 2 ∷ []))
+    -- a spare bit of each item that has some
+    ∷ read 17 070 (0x10 ∷ 0x00 ∷ []) (refused 11 0)
+    ∷ read 17 240 (0x20 ∷ []) (refused 11 0)
+    ∷ read 18 007 (0x08 ∷ []) (refused 11 0)
+    ∷ read 18 008 (0x08 ∷ []) (refused 11 0)
+    ∷ read 18 009 (0x01 ∷ 0x02 ∷ []) (refused 11 0)
+    ∷ read 18 010 (0x08 ∷ []) (refused 11 0)
+    ∷ read 18 018 (0x80 ∷ []) (refused 11 0)
+    ∷ read 18 022 (0x08 ∷ 0x00 ∷ 0x00 ∷ 0x00 ∷ []) (refused 11 0)
+    ∷ read 18 030 (0x04 ∷ 0x00 ∷ []) (refused 11 0)
+    ∷ read 18 030 (0x00 ∷ 0x04 ∷ []) (refused 11 0)
+    ∷ read 18 032 (0x10 ∷ 0x00 ∷ []) (refused 11 0)
     -- octets after the item; no such item; no such category
-    ∷ read 17 230 (0x80 ∷ 0x00 ∷ []) (refused 18 1)
+    ∷ read 17 230 (0x80 ∷ 0x00 ∷ 0x00 ∷ []) (refused 18 1)
     ∷ read 17 231 (0x80 ∷ []) (refused 21 0)
     ∷ read 61 010 (0x80 ∷ 0x00 ∷ []) (refused 21 0)
     -- written: with room, without, outside its range, too many values, too few for the layout
@@ -167,4 +179,4 @@ furtherNumbers =
 
 pub further : All furtherNumbers
 unfolding _>>=_ need_or_then_ if_then_else_ expect_or_ later octetsOf get unpack joined octets readNum writeNum writeMany readMany writeChain readChain writeParts readParts put pack packAll unpackAll readItem writeItem readFields flags number usable house numbers flagRows readPresence writePresence readRow readRows readPlaces writeRow writeRows writePlaces valueOf typeOf messageOf judge readPlace writePlace readRecord writeRecord readUpTo readAll categoryOf readHead readBody readBlock category017 category018 categories checkBlock numbered openBlock findItem layoutOf readOne typeIn partsFrom writeFields checkRecording readRecording mapOf findRecord writeOne setFlags oldBlock newRecord joinRecord addRecord leastLength
-further = (refl, (refl, (refl, (refl, (refl, (refl, (refl, (refl, (refl, (refl, (refl, (refl, (refl, (refl, (refl, (refl, (refl, (refl, (refl, (refl, (refl, (refl, (refl, (refl, (refl, (refl, (refl, (refl, (refl, (refl, (refl, (refl, (refl, (refl, (refl, (refl, (refl, (refl, (refl, (refl, (refl, (refl, (refl, (refl, (refl, (refl, (refl, (refl, (refl, (refl, (refl, (refl, (refl, (refl, (refl, (refl, (refl, (refl, (refl, (refl, (refl, (refl, (refl, (refl, (refl, (refl, (refl, (refl, (refl, (refl, (refl, (refl, tt))))))))))))))))))))))))))))))))))))))))))))))))))))))))))))))))))))))))
+further = (refl, (refl, (refl, (refl, (refl, (refl, (refl, (refl, (refl, (refl, (refl, (refl, (refl, (refl, (refl, (refl, (refl, (refl, (refl, (refl, (refl, (refl, (refl, (refl, (refl, (refl, (refl, (refl, (refl, (refl, (refl, (refl, (refl, (refl, (refl, (refl, (refl, (refl, (refl, (refl, (refl, (refl, (refl, (refl, (refl, (refl, (refl, (refl, (refl, (refl, (refl, (refl, (refl, (refl, (refl, (refl, (refl, (refl, (refl, (refl, (refl, (refl, (refl, (refl, (refl, (refl, (refl, (refl, (refl, (refl, (refl, (refl, (refl, (refl, (refl, (refl, (refl, (refl, (refl, (refl, (refl, (refl, (refl, tt)))))))))))))))))))))))))))))))))))))))))))))))))))))))))))))))))))))))))))))))))))
