@@ -159,31 +159,65 @@ head-back fits cs c k n u v rest found p q l f =
 
 -- ---- the laws
 
-block-back : (fits : ℕ → ℕ → Bool) (cs : List Category) (b : Block) (bs rest : List ℕ) → T (fits (length bs) (length (bs ++ rest)))
-    → writeBlock cs b ≡ ok bs → readBlock fits cs (bs ++ rest) ≡ ok (b, rest)
-unfolding writeBlock readBlock readBody
-block-back fits cs b bs rest fit h =
+-- what a block was written from
+pub record BlockParts (cs : List Category) (b : Block) (bs : List ℕ) : Type 0 where
+  pub category : Category
+  pub is-category : categoryOf (b .cat) cs ≡ some category
+  pub body : List ℕ
+  pub writes : writeAll (writeRecord category) (b .records) ≡ ok body
+  pub some-records : 0 < length (b .records)
+  pub number : List ℕ
+  pub number-is : writeNum 1 (b .cat) ≡ ok number
+  pub len : List ℕ
+  pub len-is : writeNum 2 (3 + length body) ≡ ok len
+  pub joins : number ++ (len ++ body) ≡ bs
+
+pub block-parts : (cs : List Category) (b : Block) (bs : List ℕ) → writeBlock cs b ≡ ok bs → BlockParts cs b bs
+unfolding writeBlock
+block-parts cs b bs h =
     bind-elim _ _ h λ c p h₁.
     bind-elim _ _ h₁ λ body q h₂.
     need-elim _ _ _ h₂ λ t h₃.
     bind-elim _ _ h₃ λ k u h₄.
     bind-elim _ _ h₄ λ n v h₅.
     expect-elim _ _ p λ found.
-    let e : k ++ (n ++ body) ≡ bs = ok-inj h₅ in
-    let a : bs ++ rest ≡ k ++ (n ++ (body ++ rest)) = rw (← e, append-assoc k (n ++ body) rest, append-assoc n body rest) refl in
-    let lk : length k ≡ 1 = num-length 1 _ k u in
-    let ln : length n ≡ 2 = num-length 2 _ n v in
-    let lb : 0 < length body = all-some (record-laws c) (record-starts c) (b .records) body q (ltb→lt _ _ t) in
-    let ls : length bs ≡ 3 + length body = rw (← e) (simp length-append (omega arith)) in
-    let fit′ : T (fits (3 + length body) (length (k ++ (n ++ (body ++ rest))))) = rw (← ls, ← a) fit in
-    let d : 3 + length body - 3 ≡ length body = omega arith in
-    let same : b .cat ≡ c .cat = category-cat (b .cat) cs c found in
-    let b′ : _≡_ {A = Block} (record { cat = c .cat; records = b .records }) b = rw (← same) refl in
-    rw a
-    (bind-in _ (head-back fits cs c (b .cat) (3 + length body) k n (body ++ rest) found u v (omega arith) fit′)
-    (need-in _ _ (lt→ltb 3 (3 + length body) (omega arith))
-    (rw (take-at body rest (3 + length body - 3) (sym d), drop-at body rest (3 + length body - 3) (sym d))
-    (bind-in _ (bind-in _ (later-in _ (all-back (record-laws c) (record-starts c) (b .records) body q)) refl) (ap (λ z. ok (z, rest)) b′)))))
+    record {
+      category = c;
+      is-category = found;
+      body = body;
+      writes = q;
+      some-records = ltb→lt _ _ t;
+      number = k;
+      number-is = u;
+      len = n;
+      len-is = v;
+      joins = ok-inj h₅;
+    }
+
+block-back : (fits : ℕ → ℕ → Bool) (cs : List Category) (b : Block) (bs rest : List ℕ) → T (fits (length bs) (length (bs ++ rest)))
+    → writeBlock cs b ≡ ok bs → readBlock fits cs (bs ++ rest) ≡ ok (b, rest)
+unfolding readBlock readBody
+block-back fits cs b bs rest fit h = from (block-parts cs b bs h)
+  where
+    from : BlockParts cs b bs → readBlock fits cs (bs ++ rest) ≡ ok (b, rest)
+    from w =
+        let body : List ℕ = w .body in
+        let c : Category = w .category in
+        let a : bs ++ rest ≡ w .number ++ (w .len ++ (body ++ rest)) =
+        rw (← w .joins, append-assoc (w .number) (w .len ++ body) rest, append-assoc (w .len) body rest) refl in
+        let lk : length (w .number) ≡ 1 = num-length 1 _ (w .number) (w .number-is) in
+        let ln : length (w .len) ≡ 2 = num-length 2 _ (w .len) (w .len-is) in
+        let lb : 0 < length body = all-some (record-laws c) (record-starts c) (b .records) body (w .writes) (w .some-records) in
+        let ls : length bs ≡ 3 + length body = rw (← w .joins) (simp length-append (omega arith)) in
+        let fit′ : T (fits (3 + length body) (length (w .number ++ (w .len ++ (body ++ rest))))) = rw (← ls, ← a) fit in
+        let d : 3 + length body - 3 ≡ length body = omega arith in
+        let same : b .cat ≡ c .cat = category-cat (b .cat) cs c (w .is-category) in
+        let b′ : _≡_ {A = Block} (record { cat = c .cat; records = b .records }) b = rw (← same) refl in
+        rw a
+        (bind-in _ (head-back fits cs c (b .cat) (3 + length body) (w .number) (w .len) (body ++ rest) (w .is-category) (w .number-is) (w .len-is) (omega arith) fit′)
+        (need-in _ _ (lt→ltb 3 (3 + length body) (omega arith))
+        (rw (take-at body rest (3 + length body - 3) (sym d), drop-at body rest (3 + length body - 3) (sym d))
+        (bind-in _ (bind-in _ (later-in _ (all-back (record-laws c) (record-starts c) (b .records) body (w .writes))) refl) (ap (λ z. ok (z, rest)) b′)))))
 
 three-parts : {bs : List ℕ} (a b c rest : List ℕ) → bs ≡ a ++ (b ++ (c ++ rest)) → bs ≡ a ++ (b ++ c) ++ rest
 three-parts a b c rest p = rw (append-assoc a (b ++ c) rest, append-assoc b c rest) p
@@ -229,16 +263,12 @@ block-forth fits fits-le cs b bs rest ob e =
     }))
 
 block-clean : (cs : List Category) (b : Block) (bs : List ℕ) → writeBlock cs b ≡ ok bs → Octets bs
-unfolding writeBlock
 block-clean cs b bs h =
-    bind-elim _ _ h λ c p h₁.
-    bind-elim _ _ h₁ λ body q h₂.
-    need-elim _ _ _ h₂ λ t h₃.
-    bind-elim _ _ h₃ λ k u h₄.
-    bind-elim _ _ h₄ λ n v h₅.
-    rw (← ok-inj h₅)
-    (octets-append k (n ++ body) (num-laws 1 1 .clean _ k u)
-    (octets-append n body (num-laws 1 2 .clean _ n v) (all-clean (record-laws c) (record-starts c) (b .records) body q)))
+    let w : BlockParts cs b bs = block-parts cs b bs h in
+    subst Octets (w .joins)
+    (octets-append (w .number) (w .len ++ w .body) (num-laws 1 1 .clean _ (w .number) (w .number-is))
+    (octets-append (w .len) (w .body) (num-laws 1 2 .clean _ (w .len) (w .len-is))
+    (all-clean (record-laws (w .category)) (record-starts (w .category)) (b .records) (w .body) (w .writes))))
 
 pub block-laws : (cs : List Category) → Laws (readBlock leb cs) (writeBlock cs)
 block-laws cs =

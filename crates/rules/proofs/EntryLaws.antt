@@ -1,6 +1,7 @@
 -- What finding reports of a block that the writing rules made: each record and each item where they put it.
 --
--- In order: a part that lies in octets; the octets of items; an item found, or absent; a record found, or not there; the record map. Assumes nothing.
+-- In order: a part that lies in octets; the octets of items; an item found, or absent; a record found, or not there; the record map; a lent
+-- output. Assumes nothing.
 use Prim.Native.Nat.{ℕ, zero, suc, _+_, _-_, _*_, _≤_, _<_}
 use mathlib.Core.Path.{_≡_, refl, sym, ap, ap₂, _∙_, subst}
 use mathlib.Core.Logic.{⊎-elim}
@@ -21,6 +22,7 @@ use Rattle.rules.specs.Entry.{isItem, layoutAs, Laid, laid, laidAs, Numb
 use Rattle.rules.proofs.AnswerLaws.{refused-ok, ok-inj, bind-in, bind-elim, need-elim, expect-elim, if-inv, if-true, if-false, some-inj, none-some, both-left, both-right, octetsOf-ok}
 use Rattle.rules.proofs.LayoutLaws.{num-length}
 use Rattle.rules.proofs.RecordLaws.{judge-same}
+use Rattle.rules.proofs.BlockLaws.{BlockParts, block-parts}
 use Rattle.rules.proofs.Tables.{distinct}
 
 -- ---- a part that lies in octets, from a place on
@@ -307,26 +309,20 @@ pub record BodyFound (cs : List Category) (b : Block) (bs : List ℕ) : Type 0 w
   pub lies : Lies bs 3 body
 
 pub body-found : (cs : List Category) (b : Block) (bs : List ℕ) → writeBlock cs b ≡ ok bs → BodyFound cs b bs
-unfolding writeBlock
 body-found cs b bs h =
-    bind-elim _ _ h λ c p h₁.
-    bind-elim _ _ h₁ λ body q h₂.
-    need-elim _ _ _ h₂ λ t h₃.
-    bind-elim _ _ h₃ λ k u h₄.
-    bind-elim _ _ h₄ λ n v h₅.
-    expect-elim _ _ p λ found.
-    let lk : length k ≡ 1 = num-length 1 _ k u in
-    let ln : length n ≡ 2 = num-length 2 _ n v in
+    let w : BlockParts cs b bs = block-parts cs b bs h in
+    let lk : length (w .number) ≡ 1 = num-length 1 _ (w .number) (w .number-is) in
+    let ln : length (w .len) ≡ 2 = num-length 2 _ (w .len) (w .len-is) in
     record {
-      category = c;
-      is-category = found;
-      body = body;
-      writes = q;
+      category = w .category;
+      is-category = w .is-category;
+      body = w .body;
+      writes = w .writes;
       lies = record {
-        before = k ++ n;
+        before = w .number ++ w .len;
         after = [];
-        joins = sym (ok-inj h₅) ∙ sym (append-assoc k n body) ∙ ap (λ z. (k ++ n) ++ z) (sym (append-nil body));
-        starts = length-append k n ∙ omega arith;
+        joins = sym (w .joins) ∙ sym (append-assoc (w .number) (w .len) (w .body)) ∙ ap (λ z. (w .number ++ w .len) ++ z) (sym (append-nil (w .body)));
+        starts = length-append (w .number) (w .len) ∙ omega arith;
       };
     }
 
@@ -421,7 +417,8 @@ laid-length (none ∷ ps) (some v ∷ vs) k = omega (arith, laid-length ps vs k)
 laid-length (some p ∷ ps) (none ∷ vs) k = omega (arith, laid-length ps vs k)
 laid-length (some p ∷ ps) (some v ∷ vs) k = omega (arith, laid-length ps vs (k + length (octetsOf (writePlace p v))))
 
--- what an output holds once so much of it is overwritten
+-- ---- a lent output, once so much of it is overwritten
+
 pub over-is : {A : Type 0} (vs old : List A) → length vs ≤ length old → over vs old ≡ vs ++ drop (length vs) old
 over-is [] old l = refl
 over-is (v ∷ vs) [] l = absurd (omega arith)
