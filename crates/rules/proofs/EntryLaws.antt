@@ -2,24 +2,24 @@
 --
 -- In order: a part that lies in octets; the octets of items; an item found, or absent; a record found, or not there; the record map; a lent
 -- output. Assumes nothing.
-use Prim.Native.Nat.{ℕ, zero, suc, _+_, _-_, _*_, _≤_, _<_}
+use Prim.Native.Nat.{ℕ, zero, suc, _+_, _*_, _≤_}
 use mathlib.Core.Path.{_≡_, refl, sym, ap, ap₂, _∙_, subst}
 use mathlib.Core.Logic.{⊎-elim}
-use mathlib.Core.Bool.{Bool, true, false, _&&_, not, true≢false, false≢true}
+use mathlib.Core.Bool.{Bool, true, false, not, false≢true}
 use mathlib.Core.Option.{Option, none, some}
 use mathlib.Core.List.{List, [], _∷_, _++_, map, append-assoc, append-nil}
 use native.Mathlib.Omega.{arith}
-use lib.Dec.{eqb, ltb}
-use borrow.Author.Tests.{eqb-true, eqb-false}
+use lib.Dec.{eqb}
+use borrow.Author.Tests.{eqb-true}
 use lib.ListN.{length, take, drop, getD, getElem?, replicate, length-append, length-map}
 use lib.Seq.{take-at, drop-at}
-use Rattle.rules.specs.Answer.{Answer, ok, refused, _>>=_, need_or_then_, if_then_else_, expect_or_, later, octetsOf}
-use Rattle.rules.specs.Layout.{Layout, Values, concat, writeItem, writeNum, writeChain}
+use Rattle.rules.specs.Answer.{ok, refused, _>>=_, if_then_else_, octetsOf}
+use Rattle.rules.specs.Layout.{Layout, Values, concat, writeItem, writeChain}
 use Rattle.rules.specs.Presence.{present, numbers, writePresence, writeRow, writeRows, writePlaces}
-use Rattle.rules.specs.Record.{Place, Category, Record, places, named, valueOf, judge, writePlace, writeRecord}
+use Rattle.rules.specs.Record.{Place, Category, Record, places, named, valueOf, writePlace, writeRecord}
 use Rattle.rules.specs.Block.{Block, categoryOf, writeAll, writeBlock}
-use Rattle.rules.specs.Entry.{isItem, layoutAs, Laid, laid, laidAs, Numbered, numbered, startOf, over}
-use Rattle.rules.proofs.AnswerLaws.{refused-ok, ok-inj, bind-in, bind-elim, need-elim, expect-elim, if-inv, if-true, if-false, some-inj, none-some, both-left, both-right, octetsOf-ok}
+use Rattle.rules.specs.Entry.{isItem, layoutAs, Laid, laid, laidAs, numbered, startOf, over}
+use Rattle.rules.proofs.AnswerLaws.{refused-ok, ok-inj, bind-elim, need-elim, if-inv, if-true, if-false, some-inj, none-some, both-left, both-right, octetsOf-ok}
 use Rattle.rules.proofs.LayoutLaws.{num-length}
 use Rattle.rules.proofs.RecordLaws.{judge-same}
 use Rattle.rules.proofs.BlockLaws.{BlockParts, block-parts}
