@@ -1,0 +1,2 @@
+// One item of categories 017 and 018: its layout by table.
+mod tables;
