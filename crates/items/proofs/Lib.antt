@@ -1,0 +1,4 @@
+pub mod WriteRefusals
+pub mod WriteSound
+pub mod WriteFields
+pub mod WriteLaid
