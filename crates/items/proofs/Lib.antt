@@ -2,3 +2,6 @@ pub mod WriteRefusals
 pub mod WriteSound
 pub mod WriteFields
 pub mod WriteLaid
+pub mod WriteTables
+pub mod WriteSigns
+pub mod WriteParts

@@ -63,7 +63,7 @@ fit-length (g ∷ gs) (n ∷ ns) h = omega (arith, fit-length gs ns (h .1))
 
 -- ---- one number
 
-pow-256 : (k : ℕ) → 256 ^ k ≡ 2 ^ (8 * k)
+pub pow-256 : (k : ℕ) → 256 ^ k ≡ 2 ^ (8 * k)
 pow-256 zero = refl
 pow-256 (suc k) =
     let e : 8 * suc k ≡ 8 * k + 8 = omega arith in
@@ -121,7 +121,7 @@ chain-laid (g ∷ gs) (n ∷ (m ∷ ns)) s h k =
 
 -- ---- the item
 
-parts-laid : (l : Layout) (ns : List ℕ) → Sound l → Fit (partsOf l) ns → least l ≤ length ns
+parts-laid : (l : Layout) (ns : List ℕ) → Sound (chained l) (partsOf l) → Fit (partsOf l) ns → least l ≤ length ns
     → writeParts l ns ≡ ok (headOf l (length ns) ++ laidParts (chained l) (partsOf l) ns)
 unfolding writeParts
 parts-laid (fixed g) ns s h k =
@@ -135,7 +135,7 @@ parts-laid (led lo) ns s h k =
     need-in _ _ (le→leb _ _ k) (bind-in _ (octet-laid (suc (length ns)) (omega arith)) (bind-in _ (many-laid 254 (group 1 (any 8 ∷ [])) ns (s .each) h) refl))
 parts-laid (extended gs) ns s h k = chain-laid gs ns (s .each) h k
 
-item-laid : (l : Layout) → Sound l → (m : Answer (List ℕ)) → ((ns : List ℕ) → m ≡ ok ns → Fit (partsOf l) ns)
+item-laid : (l : Layout) → Sound (chained l) (partsOf l) → (m : Answer (List ℕ)) → ((ns : List ℕ) → m ≡ ok ns → Fit (partsOf l) ns)
     → (m >>= (λ ns. need leb (least l) (length ns) or 11 then writeParts l ns)) ≡ (m >>= (λ ns. need leb (least l) (length ns) or 11 then ok (headOf l (length ns) ++ laidParts (chained l) (partsOf l) ns)))
 unfolding _>>=_ need_or_then_
 item-laid l s (ok ns) f = go (leb (least l) (length ns)) refl
@@ -145,6 +145,6 @@ item-laid l s (ok ns) f = go (leb (least l) (length ns)) refl
     go false e = refl
 item-laid l s (refused n p) f = refl
 
-pub fields-laid : (l : Layout) (fs : List ℤ) → Sound l
+pub fields-laid : (l : Layout) (fs : List ℤ) → Sound (chained l) (partsOf l)
     → writeFields l fs ≡ (numbersOf (partsOf l) fs >>= (λ ns. need leb (least l) (length ns) or 11 then ok (headOf l (length ns) ++ laidParts (chained l) (partsOf l) ns)))
 fields-laid l fs s = fields-numbers l fs ∙ item-laid l s (numbersOf (partsOf l) fs) (numbers-fit (partsOf l) fs)

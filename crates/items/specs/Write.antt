@@ -1,14 +1,23 @@
 -- The writing rule of an item as the code follows it: the values are cut into parts and packed one part after another, and the parts are laid
 -- one after another behind the octet that counts them. `proofs/WriteFields` has that these are the rules' `writeFields`. Assumes nothing.
-use Prim.Native.Nat.{ℕ, suc, _+_, _*_}
-use mathlib.Core.Bool.{Bool, true, false}
+use Prim.Native.Nat.{ℕ, suc, _+_, _*_, _^_}
+use mathlib.Core.Bool.{Bool, true, false, cond}
 use mathlib.Core.List.{List, [], _∷_, _++_, map}
-use lib.Dec.{ltb}
-use lib.ListN.{length, take, replicate}
+use lib.Dec.{ltb, eqb}
+use lib.ListN.{length, getD, take, drop, replicate}
+use lib.Seq.{slice}
 use lib.IntN.{ℤ}
-use Rattle.rules.specs.Answer.{Answer, ok, refused, _>>=_}
-use Rattle.rules.specs.Field.{Field, any, arity, pack}
+use Rattle.rules.specs.Answer.{Answer, ok, refused, _>>=_, need_or_then_}
+use Rattle.rules.specs.Field.{Field, Kind, spare, value, unsigned, signed, any, arity, put, pack}
 use Rattle.rules.specs.Layout.{Group, Layout, fixed, repeated, led, extended, group, octets, packAll, partsFrom}
+use Rattle.items.specs.Tables.{fields, groups, groupRows, groupAt, layoutAt}
+use Rattle.items.specs.declared.tables.GroupRow.{GroupRow}
+use Rattle.items.specs.declared.write.Coded.{Coded}
+use Rattle.items.specs.declared.write.Coded.the-variants as coded
+use Rattle.items.specs.declared.write.Packed.{Packed}
+use Rattle.items.specs.declared.write.Packed.the-variants as packed
+use Rattle.items.specs.declared.write.Counted.{Counted}
+use Rattle.items.specs.declared.write.Counted.the-variants as counted
 
 -- the group of each part that an item may have, first part first
 abbrev pub partsOf : Layout → List Group
@@ -55,3 +64,89 @@ headOf (fixed g) k = []
 headOf (repeated lo hi g) k = k ∷ []
 headOf (led lo) k = suc k ∷ []
 headOf (extended gs) k = []
+
+-- ---- what stands at a place of the tables
+
+unfoldable pub fieldIn : ℕ → Field
+fieldIn i = getD fields i (value 0 (unsigned 0 0))
+
+abbrev pub noGroup : Group
+noGroup = group 0 []
+
+abbrev pub groupBy : GroupRow → Group
+groupBy r = group (r .0) (slice (r .1) (r .2) fields)
+
+unfoldable pub groupIn : ℕ → Group
+groupIn j = groupBy (groupAt j)
+
+-- the parts of the layout at a place
+unfoldable pub partsAt : ℕ → List Group
+partsAt i =
+    cond (eqb (layoutAt i .0) 4)
+    (slice (layoutAt i .3) (layoutAt i .4) (map groupBy (groupRows 0 groups)))
+    (replicate (layoutAt i .2) (groupIn (layoutAt i .3)))
+
+unfoldable pub chainedAt : ℕ → Bool
+chainedAt i = eqb (layoutAt i .0) 4
+
+unfoldable pub headAt : ℕ → ℕ → List ℕ
+headAt i k = cond (eqb (layoutAt i .0) 2) (k ∷ []) (cond (eqb (layoutAt i .0) 3) (suc k ∷ []) [])
+
+-- ---- what the functions answer
+
+abbrev pub widthOf : Field → ℕ
+widthOf (spare w) = w
+widthOf (value w k) = w
+
+-- a spare field's bits hold 0
+abbrev pub kindOf : Field → Kind
+kindOf (spare w) = unsigned 0 0
+kindOf (value w k) = k
+
+-- the bits that stand for the first value of a list
+unfoldable pub codeFor : Field → List ℤ → Answer ℕ
+codeFor f [] = refused 11 0
+codeFor f (v ∷ vs) = do
+  c ← put (widthOf f) (kindOf f) v
+  need ltb c (2 ^ widthOf f) or 11 then ok c
+
+abbrev pub codedAs : Coded → Answer ℕ
+codedAs (coded.Bits c) = ok c
+codedAs coded.Outside = refused 11 0
+
+pub record Part : Type 0 where
+  pub number : ℕ
+  pub next : ℕ
+
+abbrev pub part : ℕ → ℕ → Part
+part n k = record { number = n; next = k }
+
+unfoldable pub packFrom : List Field → List ℤ → ℕ → Answer Part
+packFrom fs vs at = do
+  n ← packFirst fs (drop at vs)
+  ok (part n (at + arity fs))
+
+abbrev pub packedAs : Packed → Answer Part
+packedAs (packed.Number n k) = ok (part n k)
+packedAs packed.Outside = refused 11 0
+
+pub record Parts : Type 0 where
+  pub count : ℕ
+  pub size : ℕ
+
+abbrev pub parts : ℕ → ℕ → Parts
+parts k n = record { count = k; size = n }
+
+unfoldable pub countParts : Bool → List Group → List ℤ → Answer Parts
+countParts fx gs vs = do
+  ns ← numbersOf gs vs
+  ok (parts (length ns) (length (laidParts fx gs ns)))
+
+abbrev pub countedAs : Counted → Answer Parts
+countedAs (counted.Parts k n) = ok (parts k n)
+countedAs counted.Outside = refused 11 0
+
+unfoldable pub layParts : Bool → List Group → List ℤ → Answer (List ℕ)
+layParts fx gs vs = do
+  ns ← numbersOf gs vs
+  ok (laidParts fx gs ns)

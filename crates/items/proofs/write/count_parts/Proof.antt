@@ -1,0 +1,91 @@
+use Rattle.items.proofs.write.count_parts.Statement.{statement}
+use Rattle.items.proofs.write.count_parts.Tie as tie
+use Rattle.items.proofs.write.count_parts.Reads as reads
+use Rattle.items.proofs.write.count_parts.Lts as lts
+use Rattle.items.proofs.tables.group_at.Reads as group-at-reads
+use Rattle.items.proofs.tables.layout_at.Reads as layout-at-reads
+use Rattle.items.proofs.write.pack_part.Reads as pack-part-reads
+use Rattle.items.proofs.write.part_group.Reads as part-group-reads
+
+abbrev Inv-loop : tie.InvT-loop
+Inv-loop layout values most count₀ size₀ at₀ count size at = ?
+
+abbrev μ-loop : tie.MeasureT-loop
+μ-loop layout values most count₀ size₀ at₀ count size at = ?
+
+-- src/write.rt:160:9
+layout-at-requires : tie.Need-layout-at-requires Inv-loop μ-loop
+layout-at-requires c κs = ?
+
+-- src/write.rt:165:5
+loop-holds : tie.Need-loop-holds Inv-loop μ-loop
+loop-holds c = ?
+
+-- src/write.rt:167:13
+returns : tie.Need-returns Inv-loop μ-loop
+returns c = ?
+
+-- src/write.rt:169:13
+part-group-requires : tie.Need-part-group-requires Inv-loop μ-loop
+part-group-requires c κs = ?
+
+-- src/write.rt:170:50
+pack-part-requires : tie.Need-pack-part-requires Inv-loop μ-loop
+pack-part-requires c κs = ?
+
+-- src/write.rt:170:41
+enum-known-next : tie.Need-enum-known-next Inv-loop μ-loop
+enum-known-next c = ?
+
+-- src/write.rt:171:13
+enum-told : tie.Need-enum-told Inv-loop μ-loop
+enum-told c = ?
+
+-- src/write.rt:171:13
+returns-2 : tie.Need-returns-2 Inv-loop μ-loop
+returns-2 c = ?
+
+-- src/write.rt:173:13
+group-at-requires : tie.Need-group-at-requires Inv-loop μ-loop
+group-at-requires c κs = ?
+
+-- src/write.rt:174:16
+add-size : tie.Need-add-size Inv-loop μ-loop
+add-size c = ?
+
+-- src/write.rt:176:17
+add-count : tie.Need-add-count Inv-loop μ-loop
+add-count c = ?
+
+-- src/write.rt:165:5
+loop-less : tie.Need-loop-less Inv-loop μ-loop
+loop-less c = ?
+
+-- src/write.rt:165:5
+loop-again : tie.Need-loop-again Inv-loop μ-loop
+loop-again c = ?
+
+-- src/write.rt:156:1
+returns-3 : tie.Need-returns-3 Inv-loop μ-loop
+returns-3 c = ?
+
+pub count-parts-spec : {M : Type 1} → statement M
+count-parts-spec =
+    tie.close
+    (tie.spec
+    Inv-loop
+    μ-loop
+    layout-at-requires
+    loop-holds
+    returns
+    part-group-requires
+    pack-part-requires
+    enum-known-next
+    enum-told
+    returns-2
+    group-at-requires
+    add-size
+    add-count
+    loop-less
+    loop-again
+    returns-3)
