@@ -5,3 +5,4 @@ pub mod WriteLaid
 pub mod WriteTables
 pub mod WriteSigns
 pub mod WriteParts
+pub mod WriteCode

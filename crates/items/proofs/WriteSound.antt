@@ -6,6 +6,7 @@ use Prim.Native.Nat.{ℕ, zero, suc, _+_, _-_, _*_, _^_, _<_, _≤_}
 use mathlib.Core.Path.{_≡_, refl, sym, ap, _∙_, subst}
 use mathlib.Core.Bool.{Bool, true, false, _&&_}
 use mathlib.Core.List.{List, [], _∷_, _++_, map}
+use native.Mathlib.Nat.{not-suc-le-zero, le-of-suc-le-suc}
 use lib.Dec.{T, leb, ltb, eqb, leb→le, ltb→lt}
 use lib.ListN.{length, drop, getD}
 use Rattle.rules.specs.Field.{Kind, unsigned, signed, Field, spare, value, bits, half}
@@ -63,7 +64,7 @@ abbrev kindTest : ℕ → Kind → Bool
 kindTest w (unsigned lo hi) = ltb hi (2 ^ w)
 kindTest w (signed lo hi) = leb lo (half w) && ltb hi (half w)
 
-abbrev fieldTest : Field → Bool
+abbrev pub fieldTest : Field → Bool
 fieldTest (spare w) = ltb w 64
 fieldTest (value w k) = (leb 1 w && ltb w 64) && kindTest w k
 
@@ -77,7 +78,7 @@ kind-sound : (w : ℕ) (k : Kind) → T (kindTest w k) → SoundKind w k
 kind-sound w (unsigned lo hi) h = ltb→lt _ _ h
 kind-sound w (signed lo hi) h = let (p, q) = both (leb lo (half w)) (ltb hi (half w)) h in (leb→le _ _ p, ltb→lt _ _ q)
 
-field-sound : (f : Field) → T (fieldTest f) → SoundField f
+pub field-sound : (f : Field) → T (fieldTest f) → SoundField f
 field-sound (spare w) h = ltb→lt _ _ h
 field-sound (value w k) h =
     let (a, b) = both (leb 1 w && ltb w 64) (kindTest w k) h in
@@ -100,3 +101,8 @@ pub every-at : {A : Type 0} (t : A → Bool) (l : List A) (d : A) → T (every t
 every-at t [] d h k i = k
 every-at t (a ∷ l) d h k zero = both (t a) (every t l) h .0
 every-at t (a ∷ l) d h k (suc i) = every-at t l d (both (t a) (every t l) h .1) k i
+
+pub every-in : {A : Type 0} (t : A → Bool) (l : List A) (d : A) → T (every t l) → (i : ℕ) → i < length l → T (t (getD l i d))
+every-in t [] d h i k = absurd (not-suc-le-zero k)
+every-in t (a ∷ l) d h zero k = both (t a) (every t l) h .0
+every-in t (a ∷ l) d h (suc i) k = every-in t l d (both (t a) (every t l) h .1) i (le-of-suc-le-suc k)

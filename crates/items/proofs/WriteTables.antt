@@ -22,7 +22,7 @@ use Rattle.items.specs.Write.{fieldIn, noGroup, groupBy, groupIn, partsO
 use Rattle.items.specs.declared.tables.FieldRow.{FieldRow}
 use Rattle.items.specs.declared.tables.GroupRow.{GroupRow}
 use Rattle.items.specs.declared.tables.LayoutRow.{LayoutRow}
-use Rattle.items.proofs.WriteSound.{SoundGroup, Sound, every, every-at, both, groupTest, group-sound, partsTest, parts-sound}
+use Rattle.items.proofs.WriteSound.{SoundField, SoundGroup, Sound, every, every-at, every-in, both, fieldTest, field-sound, groupTest, group-sound, partsTest, parts-sound}
 
 -- ---- fields
 
@@ -33,6 +33,14 @@ field-row i = List·getD-map fieldRow fields i (value 0 (unsigned 0 0))
 pub fields-length : length fields ≡ 113
 unfolding fields groups layouts categories category017 category018
 fields-length = refl
+
+fields-sound : T (every fieldTest fields)
+unfolding fields groups layouts categories category017 category018
+fields-sound = tt
+
+pub field-in-sound : (i : ℕ) → i < 113 → SoundField (fieldIn i)
+unfolding fieldIn
+field-in-sound i h = field-sound (fieldIn i) (every-in fieldTest fields (value 0 (unsigned 0 0)) fields-sound i (rw fields-length h))
 
 -- ---- groups
 

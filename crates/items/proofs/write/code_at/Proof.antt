@@ -1,3 +1,5 @@
+use denote.Ref.{now}
+use Rattle.items.proofs.WriteCode.{code-none, code-low, code-high, bits-few, shift-some, code-neg, code-pos}
 use borrow.Author.Needs.{needs}
 use Rattle.items.proofs.write.code_at.Statement.{statement}
 use Rattle.items.proofs.write.code_at.Tie as tie
@@ -10,53 +12,60 @@ use Rattle.items.proofs.write.magnitude.Reads as magnitude-reads
 field-at-requires : tie.Need-field-at-requires
 field-at-requires c κs = search needs
 
--- src/write.rt:51:9
+-- no value
 returns : tie.Need-returns
-returns c = ?
+returns c = code-none (c .before .before .args .field) (now (c .before .before .args .values)) (c .before .before .args .at) (c .if1 .taken)
 
--- src/write.rt:53:13
 mul-v : tie.Need-mul-v
 mul-v c = search needs
 
--- src/write.rt:53:13
 shared-slice-copy-out-v : tie.Need-shared-slice-copy-out-v
 shared-slice-copy-out-v c = search needs
 
--- src/write.rt:55:9
+-- below the least
 returns-2 : tie.Need-returns-2
-returns-2 c = ?
+returns-2 c =
+    code-low (c .before .before .before .before .before .before .args .field) (now (c .before .before .before .before .before .before .args .values)) (c .before .before .before .before .before .before .args .at) (c .before .before .before .before .before .field-at .result) (c .before .before .before .before .before .field-at .ensures) (c .before .before .before .before .if1 .left) (record { sfits = c .before .before .before .v .given })
+    (search needs) (c .if2 .taken)
 
--- src/write.rt:58:9
+-- above the greatest
 returns-3 : tie.Need-returns-3
-returns-3 c = ?
+returns-3 c =
+    code-high (c .before .before .before .before .before .before .before .before .before .args .field) (now (c .before .before .before .before .before .before .before .before .before .args .values)) (c .before .before .before .before .before .before .before .before .before .args .at) (c .before .before .before .before .before .before .before .before .field-at .result) (c .before .before .before .before .before .before .before .before .field-at .ensures) (c .before .before .before .before .before .before .before .if1 .left) (record { sfits = c .before .before .before .before .before .before .v .given })
+    (search needs) (c .if3 .taken)
 
--- src/write.rt:62:29
 shl-t11 : tie.Need-shl-t11
-shl-t11 c = ?
+shl-t11 c =
+    bits-few (c .before .before .before .before .before .before .before .before .before .before .args .field) (now (c .before .before .before .before .before .before .before .before .before .before .args .values)) (c .before .before .before .before .before .before .before .before .before .before .args .at) (c .before .before .before .before .before .before .before .before .before .field-at .result) (c .before .before .before .before .before .before .before .before .before .field-at .ensures) (c .before .before .before .before .before .before .before .before .if1 .left) (record { sfits = c .before .before .before .before .before .before .before .v .given })
+    (c .before .before .before .before .before .before .before .before .before .before .pre) (search needs) (c .before .before .before .before .if2 .left)
 
--- src/write.rt:62:28
 sub-t12 : tie.Need-sub-t12
-sub-t12 c = ?
+sub-t12 c =
+    shift-some (c .before .before .before .before .before .before .before .before .before .before .args .field) (now (c .before .before .before .before .before .before .before .before .before .before .args .values)) (c .before .before .before .before .before .before .before .before .before .before .args .at) (c .before .before .before .before .before .before .before .before .before .field-at .result) (c .before .before .before .before .before .before .before .before .before .field-at .ensures) (c .before .before .before .before .before .before .before .before .if1 .left) (record { sfits = c .before .before .before .before .before .before .before .v .given })
+    (c .before .before .before .before .before .before .before .before .before .before .pre) (search needs) (c .before .before .before .before .if2 .left)
 
--- src/write.rt:62:49
 magnitude-requires : tie.Need-magnitude-requires
 magnitude-requires c κs = search needs
 
--- src/write.rt:62:28
 sub-t14 : tie.Need-sub-t14
-sub-t14 c = ?
+sub-t14 c =
+    code-neg (c .before .before .before .before .before .before .before .before .before .before .before .args .field) (now (c .before .before .before .before .before .before .before .before .before .before .before .args .values)) (c .before .before .before .before .before .before .before .before .before .before .before .args .at) (c .before .before .before .before .before .before .before .before .before .before .field-at .result) (c .before .before .before .before .before .before .before .before .before .before .field-at .ensures) (c .before .before .before .before .before .before .before .before .before .if1 .left) (record { sfits = c .before .before .before .before .before .before .before .before .v .given })
+    (c .before .before .before .before .before .before .before .before .before .before .before .pre) (search needs) (c .before .before .before .before .before .if2 .left) (c .before .if4 .taken) (c .magnitude .ensures) .0
 
--- src/write.rt:62:9
+-- negative
 returns-4 : tie.Need-returns-4
-returns-4 c = ?
+returns-4 c =
+    code-neg (c .before .before .before .before .before .before .before .before .before .before .before .args .field) (now (c .before .before .before .before .before .before .before .before .before .before .before .args .values)) (c .before .before .before .before .before .before .before .before .before .before .before .args .at) (c .before .before .before .before .before .before .before .before .before .before .field-at .result) (c .before .before .before .before .before .before .before .before .before .before .field-at .ensures) (c .before .before .before .before .before .before .before .before .before .if1 .left) (record { sfits = c .before .before .before .before .before .before .before .before .v .given })
+    (c .before .before .before .before .before .before .before .before .before .before .before .pre) (search needs) (c .before .before .before .before .before .if2 .left) (c .before .if4 .taken) (c .magnitude .ensures) .1
 
--- src/write.rt:64:17
 magnitude-requires-2 : tie.Need-magnitude-requires-2
 magnitude-requires-2 c κs = search needs
 
--- src/write.rt:45:1
+-- not negative
 returns-5 : tie.Need-returns-5
-returns-5 c = ?
+returns-5 c =
+    code-pos (c .before .before .before .before .before .before .before .before .before .before .before .args .field) (now (c .before .before .before .before .before .before .before .before .before .before .before .args .values)) (c .before .before .before .before .before .before .before .before .before .before .before .args .at) (c .before .before .before .before .before .before .before .before .before .before .field-at .result) (c .before .before .before .before .before .before .before .before .before .before .field-at .ensures) (c .before .before .before .before .before .before .before .before .before .if1 .left) (record { sfits = c .before .before .before .before .before .before .before .before .v .given })
+    (c .before .before .before .before .before .before .before .before .before .before .before .pre) (search needs) (c .before .before .before .before .before .if2 .left) (search needs) (c .before .before .if3 .left) (c .before .if4 .left) (c .magnitude2 .ensures)
 
 pub code-at-spec : {M : Type 1} → statement M
 code-at-spec =
