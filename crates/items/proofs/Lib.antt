@@ -6,3 +6,4 @@ pub mod WriteTables
 pub mod WriteSigns
 pub mod WriteParts
 pub mod WriteCode
+pub mod WriteTurns

@@ -79,7 +79,7 @@ marked-lt true false w n h = rw (pow-add 2 w 1) (omega arith)
 marked-lt true true w n h = rw (pow-add 2 w 1) (omega arith)
 
 -- a part's number, with the bit that says whether another follows
-part-lt : (fx more : Bool) (g : Group) (n : ℕ) → SoundGroup fx g → n < 2 ^ bits (g .fields) → marked fx more n < 2 ^ (8 * g .size)
+pub part-lt : (fx more : Bool) (g : Group) (n : ℕ) → SoundGroup fx g → n < 2 ^ bits (g .fields) → marked fx more n < 2 ^ (8 * g .size)
 part-lt fx more g n s h = lt-of-lt-of-le (marked-lt fx more (bits (g .fields)) n h) (pow-mono (s .fits))
 
 part-laid : (fx more : Bool) (g : Group) (n : ℕ) → SoundGroup fx g → n < 2 ^ bits (g .fields)
@@ -104,7 +104,7 @@ many-laid (suc hi) g (n ∷ ns) s h =
 
 -- ---- parts chained by FX bits
 
-laid-none : (fx : Bool) (gs : List Group) → laidParts fx gs [] ≡ []
+pub laid-none : (fx : Bool) (gs : List Group) → laidParts fx gs [] ≡ []
 unfolding laidParts
 laid-none fx [] = refl
 laid-none fx (g ∷ gs) = refl
