@@ -127,8 +127,7 @@ code-minus w (signed (suc lo) hi) (negsuc n) s l z =
     let e = two-halves w (s .0) in
     let p : n < half w = omega (arith, s .1 .0) in
     let d : half w + half w - suc n ≡ 2 ^ w - 1 - n = omega arith in
-    let c : 2 ^ w - 1 - n < 2 ^ w = omega arith in
-    (
+    let c : 2 ^ w - 1 - n < 2 ^ w = omega arith in (
       omega arith,
       both-yes (ok (half w + half w - suc n)) (λ c. need ltb c (2 ^ w) or 11 then ok c) (lt-ltb n (half w) p) (lt-ltb n (suc lo) (omega arith))
           ∙ ap (λ x. need ltb x (2 ^ w) or 11 then ok x) d

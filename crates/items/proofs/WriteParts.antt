@@ -237,8 +237,7 @@ module _ (fs : List Field) (vs : List ℤ) (at e i n k : ℕ) (p : Packing fs vs
       let w = fieldRow (fieldIn i) .0 in
       let v = value-is (fieldIn i) y in
       let ec′ : codeFor (value w (kindOf (fieldIn i))) (drop k vs) ≡ ok c = ap (λ f. codeFor f (drop k vs)) (sym v) ∙ ec in
-      let (some, l) = code-fits (value w (kindOf (fieldIn i))) (drop k vs) ec′ in
-      (
+      let (some, l) = code-fits (value w (kindOf (fieldIn i))) (drop k vs) ec′ in (
         omega (arith, length-drop k vs),
         added (value w (kindOf (fieldIn i))) c 1 (k + 1) v refl (omega arith) refl l
             (join-cons n w (kindOf (fieldIn i)) (slice (i + 1) e fields) (drop k vs) ec′ ∙ ap (joinPack (n * 2 ^ w + c) (slice (i + 1) e fields)) (drop-drop 1 k vs)),
@@ -252,7 +251,7 @@ module _ (fs : List Field) (vs : List ℤ) (at e i n k : ℕ) (p : Packing fs vs
       let v = value-is (fieldIn i) y in
       let rest = slice (i + 1) e fields in
       let q : packFirst fs (drop at vs) ≡ refused 11 0 =
-          sym (p .same) ∙ ap (λ x. joinPack n x (drop k vs)) (cons ∙ ap (λ x. x ∷ rest) v) ∙ join-no n w (kindOf (fieldIn i)) rest (drop k vs) (ap (λ f. codeFor f (drop k vs)) (sym v) ∙ ec) in
+      sym (p .same) ∙ ap (λ x. joinPack n x (drop k vs)) (cons ∙ ap (λ x. x ∷ rest) v) ∙ join-no n w (kindOf (fieldIn i)) rest (drop k vs) (ap (λ f. codeFor f (drop k vs)) (sym v) ∙ ec) in
       ap (λ m. m >>= (λ n. ok (part n (at + arity fs)))) q
 
   -- the same by the row

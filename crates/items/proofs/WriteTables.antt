@@ -122,8 +122,7 @@ own i k e h =
     let p : partsAt i ≡ slice a t gs = ap (λ b. cond b (slice a t gs) (replicate (layoutAt i .2) (groupIn a))) (eq-eqb (layoutAt i .0) 4 e) in
     let m : length (slice a t gs) ≡ t - a = length-slice a t gs n in
     let k′ : k < length (slice a t gs) = subst (λ l. k < length l) p h in
-    let s : a + k < t = omega arith in
-    (
+    let s : a + k < t = omega arith in (
       omega (arith, layout-row-is i .last),
       sym (ap (λ l. getD l k noGroup) p ∙ getD-drop a (take t gs) k noGroup ∙ getD-take t gs (a + k) noGroup s ∙ List·getD-map groupBy (groupRows 0 groups) (a + k) (0, 0, 0, 0, false)),
     )

@@ -1,7 +1,12 @@
 // Writing one item: its fields, a list of whole numbers, to octets. All fields are checked before any octet is laid, so that a refusal changes
 // nothing. The parts of an item are packed one after another, by the groups of its layout; no item has code of its own.
-use super::tables::{EXTENDED, FIXED, LED, SPARE, field_at, group_at, layout_at};
-
+use super::tables::EXTENDED;
+use super::tables::FIXED;
+use super::tables::LED;
+use super::tables::SPARE;
+use super::tables::field_at;
+use super::tables::group_at;
+use super::tables::layout_at;
 ghost use mathlib.Core.Path.{_≡_};
 ghost use mathlib.Core.List.{List, []};
 ghost use mathlib.Core.Bool.{Bool, true, false};
@@ -175,7 +180,10 @@ fn count_parts(layout: usize, values: &[i64]) -> Counted
         at = next;
         count = count + 1;
     }
-    Counted::Parts { count: count, size: size }
+    Counted::Parts {
+        count: count,
+        size: size,
+    }
 }
 
 // The octets of the parts, at a place of the output.
