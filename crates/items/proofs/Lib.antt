@@ -1,1 +1,5 @@
 pub mod TableLaws
+pub mod FieldCodes
+pub mod Turns
+pub mod OctetLaws
+pub mod PartLaws

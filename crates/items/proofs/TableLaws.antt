@@ -11,6 +11,7 @@ use mathlib.Core.List.{List, [], _∷_, _++_, map}
 use native.Mathlib.Omega.{arith}
 use native.Mathlib.Nat.{le-of-suc-le-suc, not-suc-le-zero, le-trans}
 use lib.Dec.{leb, ltb, eqb, lit≤}
+use lib.IntN.{pos}
 use lib.ListN.{length, getD, drop, replicate, drop-of-length-le, List·getD-map, List·getD-append, List·getD-eq-default, getD-replicate}
 use lib.Seq.{slice, getD-append-add}
 use borrow.Author.Tests.{ltb-true, leb-true, eqb-true, ne-eqb}
@@ -26,7 +27,7 @@ use Rattle.rules.specs.Entry.{categories, profileAt, over, layoutAs, isItem}
 use Rattle.items.specs.declared.tables.GroupRow.{GroupRow}
 use Rattle.items.specs.declared.tables.LayoutRow.{LayoutRow}
 use Rattle.items.specs.declared.tables.PlaceRow.{PlaceRow}
-use Rattle.items.specs.Tables.{fields, groups, layouts, groupIs, groupRows, groupAt, layoutRows, layoutBy, layoutIs, layoutAt, nowhere, profileRows, placeRowAt, with, placeIs}
+use Rattle.items.specs.Tables.{fields, fieldRow, fieldAt, groups, layouts, groupIs, groupRows, groupAt, layoutRows, layoutBy, layoutIs, layoutAt, nowhere, profileRows, placeRowAt, with, placeIs}
 use Rattle.items.specs.Answers.{isNamed, frnAs}
 use Rattle.items.specs.Read.{rows, isSpare, span, holds, partsSound, stepOf}
 
@@ -136,6 +137,20 @@ each : {A : Type 0} (t : A → Bool) (l : List A) (d : A) → every t l ≡ true
 each t [] d h i k = absurd (not-suc-le-zero k)
 each t (a ∷ l) d h zero k = both-left (t a) (every t l) h
 each t (a ∷ l) d h (suc i) k = each t l d (both-right (t a) (every t l) h) i (le-of-suc-le-suc k)
+
+-- ---- fields
+
+pub fields-long : length (map fieldRow fields) ≡ 113
+unfolding fields groups layouts categories category017 category018
+fields-long = refl
+
+pub field-wide : (i : ℕ) → i < 113 → 1 ≤ fieldAt i .0
+unfolding fieldAt fields groups layouts categories category017 category018
+field-wide i h = leb-true 1 (fieldAt i .0) (each (λ f. leb 1 (f .0)) (map fieldRow fields) (0, 0, pos 0, pos 0) refl i h)
+
+pub field-few : (i : ℕ) → i < 113 → fieldAt i .0 ≤ 62
+unfolding fieldAt fields groups layouts categories category017 category018
+field-few i h = leb-true (fieldAt i .0) 62 (each (λ f. leb (f .0) 62) (map fieldRow fields) (0, 0, pos 0, pos 0) refl i h)
 
 -- ---- layouts
 

@@ -1,4 +1,6 @@
 // One item of categories 017 and 018: its layout by table.
+mod fields;
+mod parts;
 mod tables;
 
 use tables::FRNS;
