@@ -3,3 +3,4 @@ pub mod FieldCodes
 pub mod Turns
 pub mod OctetLaws
 pub mod PartLaws
+pub mod ShapeLaws

@@ -13,10 +13,9 @@ use native.Mathlib.Nat.{le-of-suc-le-suc, not-suc-le-zero, le-trans}
 use lib.Dec.{leb, ltb, eqb, lit≤}
 use lib.IntN.{pos}
 use lib.ListN.{length, getD, drop, replicate, drop-of-length-le, List·getD-map, List·getD-append, List·getD-eq-default, getD-replicate}
-use lib.Seq.{slice, getD-append-add}
+use lib.Seq.{getD-append-add}
 use borrow.Author.Tests.{ltb-true, leb-true, eqb-true, ne-eqb}
 use Rattle.rules.specs.Answer.{if_then_else_}
-use Rattle.rules.specs.Field.{Field, spare, value, unsigned, signed}
 use Rattle.rules.specs.Layout.{Group, Layout, concat}
 use Rattle.rules.proofs.AnswerLaws.{both-left, both-right, if-inv, if-true, if-false, some-inj, none-some}
 use Rattle.rules.specs.Presence.{present, placeAt}
@@ -29,7 +28,7 @@ use Rattle.items.specs.declared.tables.LayoutRow.{LayoutRow}
 use Rattle.items.specs.declared.tables.PlaceRow.{PlaceRow}
 use Rattle.items.specs.Tables.{fields, fieldRow, fieldAt, groups, layouts, groupIs, groupRows, groupAt, layoutRows, layoutBy, layoutIs, layoutAt, nowhere, profileRows, placeRowAt, with, placeIs}
 use Rattle.items.specs.Answers.{isNamed, frnAs}
-use Rattle.items.specs.Read.{rows, isSpare, span, holds, partsSound, stepOf}
+use Rattle.items.specs.Read.{rows, isSpare, holds, partsSound, rowSound}
 
 -- ---- places
 
@@ -166,27 +165,14 @@ pub layout-some : (j : ℕ) → j < 50 → present (layoutIs (layoutAt (suc j)))
 unfolding layoutIs layoutBy layoutAt groupAt fields groups layouts categories category017 category018 no-layout
 layout-some j h = each (λ l. present (layoutIs l)) (layoutRows 0 layouts) no-layout refl j h
 
-octet : List Field → Bool
-octet [] = false
-octet (spare w ∷ fs) = false
-octet (value w (unsigned lo hi) ∷ []) = eqb w 8 && eqb lo 0 && eqb hi 255
-octet (value w (unsigned lo hi) ∷ (f ∷ fs)) = false
-octet (value w (signed lo hi) ∷ fs) = false
+layout-sound-suc : (j : ℕ) → j < 50 → rowSound (layoutAt (suc j)) ≡ true
+unfolding partsSound holds rows rowSound isSpare layoutAt groupAt fields groups layouts categories category017 category018 no-layout
+layout-sound-suc j h = each rowSound (layoutRows 0 layouts) no-layout refl j h
 
-rowSoundBy : ℕ → ℕ → ℕ → ℕ → Bool
-rowSoundBy zero hi a e = true
-rowSoundBy (suc zero) hi a e = eqb hi 1
-rowSoundBy (suc (suc zero)) hi a e = true
-rowSoundBy (suc (suc (suc zero))) hi a e = eqb hi 254 && eqb (groupAt a .0) 1 && octet (slice (groupAt a .1) (groupAt a .2) fields)
-rowSoundBy (suc (suc (suc (suc k)))) hi a e = eqb k 0 && eqb hi (e - a) && leb e 52
-
-rowSound : LayoutRow → Bool
-rowSound l =
-    partsSound (stepOf (l .0)) (l .3) (l .2) && leb (holds (stepOf (l .0)) (l .3) (l .2)) 8_192 && rowSoundBy (l .0) (l .2) (l .3) (l .4)
-
-layout-sound : (j : ℕ) → j < 50 → rowSound (layoutAt (suc j)) ≡ true
-unfolding partsSound holds span rows octet rowSoundBy rowSound isSpare layoutAt groupAt fields groups layouts categories category017 category018 no-layout
-layout-sound j h = each rowSound (layoutRows 0 layouts) no-layout refl j h
+pub layout-sound : (j : ℕ) → j < 51 → rowSound (layoutAt j) ≡ true
+unfolding partsSound holds rowSound layoutAt
+layout-sound zero h = refl
+layout-sound (suc j) h = layout-sound-suc j (le-of-suc-le-suc h)
 
 -- ---- the item of a place's row
 

@@ -10,10 +10,11 @@ use super::tables::REPEATED;
 use super::tables::group_at;
 ghost use mathlib.Core.Path.{_≡_};
 ghost use mathlib.Core.Bool.{true};
-ghost use Prim.Native.Nat.{_+_, _-_, _*_, _≤_, _<_, _^_};
+ghost use Prim.Native.Nat.{_+_, _-_, _*_, _%_, _≤_, _<_, _^_};
 ghost use lib.ListN.{length, take, drop};
 ghost use Rattle.rules.specs.Layout.{joined};
-ghost use Rattle.items.specs.Read.{rowsAt, partAt, legal, span, partSound, partsSound, partsLegal};
+ghost use Rattle.items.specs.Read.{rowsAt, partAt, legal, span, partSound, partsSound, partsLegal, shapeIs, chain, listShape, shapeOf, rowSound};
+ghost use lib.Dec.{eqb};
 ghost use Rattle.items.specs.Tables.{groupAt};
 
 fn wide(x: u8) -> u64
@@ -67,4 +68,111 @@ pub fn parts_legal(s: &[u8], at: usize, count: usize, group: usize, step: usize)
         k = k - 1;
     }
     true
+}
+
+// ---- shapes
+
+// How many parts an item has, and how many octets it takes.
+pub enum Shape {
+    Parts { count: usize, long: usize },
+    // The number of the refusal, which is at the item's start.
+    Refused { number: u8 },
+}
+
+fn octet(x: u8) -> usize
+    ensures { λ r. ⌜ (r ≡ x) × (r ≤ 255) ⌝ }
+{
+    x as usize
+}
+
+// Whether the FX bit of a part's last octet says that no other part follows.
+fn is_last(x: u8) -> bool
+    ensures { λ r. ⌜ r ≡ eqb (x % 2) 0 ⌝ }
+{
+    x % 2 == 0
+}
+
+// The shape of an item whose parts follow each other as far as the FX bits say, at most those of the groups from first to before last.
+fn chain_of(s: &[u8], first: usize, last: usize) -> Shape
+    requires { ⌜ (last ≤ 52) × (partsSound 1 first (last - first) ≡ true) ⌝ }
+    ensures { λ r. ⌜ shapeIs r ≡ chain first (last - first) (now (s .entry)) ⌝ }
+{
+    let mut g = first;
+    let mut at: usize = 0;
+    let mut count: usize = 0;
+    while g < last {
+        let r = group_at(g);
+        let size = r.0;
+        if s.len() - at < size {
+            return Shape::Refused { number: 9 };
+        }
+        at = at + size;
+        count = count + 1;
+        if is_last(s[at - 1]) {
+            return Shape::Parts { count, long: at };
+        }
+        g = g + 1;
+    }
+    Shape::Refused { number: 11 }
+}
+
+// The shape of a list of n parts, of which an item may have so many, in as many octets as there are.
+fn list_of(l: LayoutRow, n: usize, have: usize) -> Shape
+    requires { ⌜ (rowSound l ≡ true) × (l .0 ≡ 2) × (n ≤ 255) ⌝ }
+    ensures { λ r. ⌜ shapeIs r ≡ listShape (l .1) (l .2) (groupAt (l .3) .0) n have ⌝ }
+{
+    let g = group_at(l.3);
+    let long = 1 + n * g.0;
+    if have < long {
+        return Shape::Refused { number: 9 };
+    }
+    if n < l.1 {
+        return Shape::Refused { number: 11 };
+    }
+    if l.2 < n {
+        return Shape::Refused { number: 11 };
+    }
+    Shape::Parts { count: n, long }
+}
+
+// The shape of an item that starts a part of a block, by its layout: 21 where there is no item; 9 where its count or length octet is cut, 10
+// where its length is under the least, 9 where it is cut, 11 where its count is barred or FX asks for more than is printed.
+pub fn shape_of(l: LayoutRow, s: &[u8]) -> Shape
+    requires { ⌜ rowSound l ≡ true ⌝ }
+    ensures { λ r. ⌜ shapeIs r ≡ shapeOf l (now (s .entry)) ⌝ }
+{
+    let kind = l.0;
+    if kind == NONE {
+        return Shape::Refused { number: 21 };
+    }
+    if kind == FIXED {
+        let g = group_at(l.3);
+        if s.len() < g.0 {
+            return Shape::Refused { number: 9 };
+        }
+        return Shape::Parts {
+            count: 1,
+            long: g.0,
+        };
+    }
+    if kind == EXTENDED {
+        return chain_of(s, l.3, l.4);
+    }
+    if s.len() < 1 {
+        return Shape::Refused { number: 9 };
+    }
+    let n = octet(s[0]);
+    if kind == LED {
+        if n <= l.1 {
+            return Shape::Refused { number: 10 };
+        }
+        if s.len() < n {
+            return Shape::Refused { number: 9 };
+        }
+        return Shape::Parts {
+            count: n - 1,
+            long: n,
+        };
+    }
+    list_of(l, n, s.len())
 }
