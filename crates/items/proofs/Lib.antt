@@ -7,3 +7,9 @@ pub mod WriteSigns
 pub mod WriteParts
 pub mod WriteCode
 pub mod WriteTurns
+pub mod TableLaws
+pub mod FieldCodes
+pub mod Turns
+pub mod OctetLaws
+pub mod PartLaws
+pub mod ShapeLaws

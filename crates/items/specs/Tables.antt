@@ -7,9 +7,10 @@ use mathlib.Core.List.{List, [], _∷_, _++_, map}
 use lib.Dec.{eqb}
 use lib.IntN.{ℤ, pos, negsuc}
 use lib.ListN.{length, getD, replicate}
+use lib.Seq.{slice}
 use Rattle.rules.specs.Field.{Field, Kind, spare, value, unsigned, signed, any, half, arity}
 use Rattle.rules.specs.Layout.{Group, Layout, fixed, repeated, led, extended, group, concat}
-use Rattle.rules.specs.Record.{Place, Category, places}
+use Rattle.rules.specs.Record.{Place, Category, places, at}
 use Rattle.rules.specs.Entry.{categories, over}
 use Rattle.items.specs.declared.tables.FieldRow.{FieldRow}
 use Rattle.items.specs.declared.tables.GroupRow.{GroupRow}
@@ -102,3 +103,25 @@ layoutAt i = getD {A = LayoutRow} ((0, 0, 0, 0, 0) ∷ layoutRows 0 layouts) i (
 
 unfoldable pub placeRowAt : ℕ → PlaceRow
 placeRowAt i = getD (profileRows 1 categories) i nowhere
+
+-- ---- what the rows stand for
+
+abbrev pub groupIs : GroupRow → Group
+groupIs r = group (r .0) (slice (r .1) (r .2) fields)
+
+unfoldable pub layoutBy : ℕ → ℕ → ℕ → Group → List Group → Option Layout
+layoutBy zero lo hi g gs = none
+layoutBy (suc zero) lo hi g gs = some (fixed g)
+layoutBy (suc (suc zero)) lo hi g gs = some (repeated lo hi g)
+layoutBy (suc (suc (suc zero))) lo hi g gs = some (led lo)
+layoutBy (suc (suc (suc (suc k)))) lo hi g gs = some (extended gs)
+
+unfoldable pub layoutIs : LayoutRow → Option Layout
+layoutIs r = layoutBy (r .0) (r .1) (r .2) (groupIs (groupAt (r .3))) (slice (r .3) (r .4) (map groupIs (groupRows 0 groups)))
+
+abbrev pub with : ℕ → Option Layout → Option Place
+with r none = none
+with r (some l) = at r l
+
+unfoldable pub placeIs : PlaceRow → Option Place
+placeIs r = with (r .1) (layoutIs (layoutAt (r .0)))
