@@ -13,3 +13,5 @@ pub mod Turns
 pub mod OctetLaws
 pub mod PartLaws
 pub mod ShapeLaws
+pub mod LayoutPlaces
+pub mod WriteItem

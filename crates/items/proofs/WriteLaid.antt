@@ -56,7 +56,7 @@ pub numbers-fit : (gs : List Group) (vs : List ℤ) (ns : List ℕ) → numbersO
 unfolding numbersOf
 numbers-fit gs vs ns h = bind-elim _ _ h λ ps p h₁. packAll-fit gs ps ns h₁
 
-fit-length : (gs : List Group) (ns : List ℕ) → Fit gs ns → length ns ≤ length gs
+pub fit-length : (gs : List Group) (ns : List ℕ) → Fit gs ns → length ns ≤ length gs
 fit-length gs [] h = omega arith
 fit-length [] (n ∷ ns) h = absurd h
 fit-length (g ∷ gs) (n ∷ ns) h = omega (arith, fit-length gs ns (h .1))

@@ -17,8 +17,8 @@ use Rattle.rules.specs.Layout.{Group, group, Layout, concat}
 use Rattle.rules.specs.Category017.{category017}
 use Rattle.rules.specs.Category018.{category018}
 use Rattle.rules.specs.Entry.{categories}
-use Rattle.items.specs.Tables.{fields, groups, layouts, fieldRow, fieldAt, groupRows, groupAt, layoutRows, layoutAt}
-use Rattle.items.specs.Write.{fieldIn, noGroup, groupBy, groupIn, partsOf, chained, partsAt, chainedAt}
+use Rattle.items.specs.Tables.{fields, groups, layouts, fieldRow, fieldAt, groupRows, groupAt, layoutRows, layoutAt, groupIs}
+use Rattle.items.specs.Write.{fieldIn, noGroup, groupIn, partsOf, chained, partsAt, chainedAt}
 use Rattle.items.specs.declared.tables.FieldRow.{FieldRow}
 use Rattle.items.specs.declared.tables.GroupRow.{GroupRow}
 use Rattle.items.specs.declared.tables.LayoutRow.{LayoutRow}
@@ -45,7 +45,7 @@ field-in-sound i h = field-sound (fieldIn i) (every-in fieldTest fields (value 0
 -- ---- groups
 
 abbrev groupRowTest : GroupRow → Bool
-groupRowTest r = leb (r .2) 113 && groupTest false (groupBy r)
+groupRowTest r = leb (r .2) 113 && groupTest false (groupIs r)
 
 group-rows : T (every groupRowTest (groupRows 0 groups))
 unfolding fields groups layouts categories category017 category018
@@ -56,16 +56,16 @@ unfolding groupAt
 group-row j = every-at groupRowTest (groupRows 0 groups) (0, 0, 0, 0, false) group-rows tt j
 
 pub group-end : (j : ℕ) → groupAt j .2 ≤ 113
-group-end j = leb→le _ _ (both (leb (groupAt j .2) 113) (groupTest false (groupBy (groupAt j))) (group-row j) .0)
+group-end j = leb→le _ _ (both (leb (groupAt j .2) 113) (groupTest false (groupIs (groupAt j))) (group-row j) .0)
 
 pub group-in-sound : (j : ℕ) → SoundGroup false (groupIn j)
 unfolding groupIn
-group-in-sound j = group-sound false (groupIn j) (both (leb (groupAt j .2) 113) (groupTest false (groupBy (groupAt j))) (group-row j) .1)
+group-in-sound j = group-sound false (groupIn j) (both (leb (groupAt j .2) 113) (groupTest false (groupIs (groupAt j))) (group-row j) .1)
 
 -- ---- layouts
 
 abbrev rowParts : LayoutRow → List Group
-rowParts r = cond (eqb (r .0) 4) (slice (r .3) (r .4) (map groupBy (groupRows 0 groups))) (replicate (r .2) (groupBy (groupAt (r .3))))
+rowParts r = cond (eqb (r .0) 4) (slice (r .3) (r .4) (map groupIs (groupRows 0 groups))) (replicate (r .2) (groupIs (groupAt (r .3))))
 
 -- so many parts, and one fewer after a length octet; its groups are in the table
 abbrev layoutRowTest : LayoutRow → Bool
@@ -117,14 +117,14 @@ unfolding partsAt groupIn groupAt
 own i k e h =
     let a = layoutAt i .3 in
     let t = layoutAt i .4 in
-    let gs : List Group = map groupBy (groupRows 0 groups) in
-    let n : t ≤ length gs = subst (λ x. t ≤ x) (sym (length-map (groupRows 0 groups) groupBy ∙ groups-length)) (layout-row-is i .last) in
+    let gs : List Group = map groupIs (groupRows 0 groups) in
+    let n : t ≤ length gs = subst (λ x. t ≤ x) (sym (length-map (groupRows 0 groups) groupIs ∙ groups-length)) (layout-row-is i .last) in
     let p : partsAt i ≡ slice a t gs = ap (λ b. cond b (slice a t gs) (replicate (layoutAt i .2) (groupIn a))) (eq-eqb (layoutAt i .0) 4 e) in
     let m : length (slice a t gs) ≡ t - a = length-slice a t gs n in
     let k′ : k < length (slice a t gs) = subst (λ l. k < length l) p h in
     let s : a + k < t = omega arith in (
       omega (arith, layout-row-is i .last),
-      sym (ap (λ l. getD l k noGroup) p ∙ getD-drop a (take t gs) k noGroup ∙ getD-take t gs (a + k) noGroup s ∙ List·getD-map groupBy (groupRows 0 groups) (a + k) (0, 0, 0, 0, false)),
+      sym (ap (λ l. getD l k noGroup) p ∙ getD-drop a (take t gs) k noGroup ∙ getD-take t gs (a + k) noGroup s ∙ List·getD-map groupIs (groupRows 0 groups) (a + k) (0, 0, 0, 0, false)),
     )
 
 shared : (i k : ℕ) → (layoutAt i .0 ≡ 4 → ⊥) → k < length (partsAt i) → (layoutAt i .3 < 52) × (groupIn (layoutAt i .3) ≡ getD (partsAt i) k noGroup)
@@ -132,7 +132,7 @@ unfolding partsAt
 shared i k e h =
     let a = layoutAt i .3 in
     let g = groupIn a in
-    let p : partsAt i ≡ replicate (layoutAt i .2) g = ap (λ b. cond b (slice a (layoutAt i .4) (map groupBy (groupRows 0 groups))) (replicate (layoutAt i .2) g)) (ne-eqb (layoutAt i .0) 4 e) in
+    let p : partsAt i ≡ replicate (layoutAt i .2) g = ap (λ b. cond b (slice a (layoutAt i .4) (map groupIs (groupRows 0 groups))) (replicate (layoutAt i .2) g)) (ne-eqb (layoutAt i .0) 4 e) in
     let k′ : k < layoutAt i .2 = subst (λ n. k < n) (layout-row-is i .most) h in
     (layout-row-is i .first, sym (ap (λ l. getD l k noGroup) p ∙ getD-replicate (layoutAt i .2) k g noGroup k′))
 

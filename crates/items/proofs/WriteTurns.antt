@@ -30,7 +30,7 @@ use Rattle.items.proofs.WriteLaid.{Fit, numbers-fit, part-lt, laid-none
 
 -- ---- a part and those after it
 
-length-octets : (k n : ℕ) → length (octets k n) ≡ k
+pub length-octets : (k n : ℕ) → length (octets k n) ≡ k
 unfolding octets
 length-octets zero n = refl
 length-octets (suc k) n = ap suc (length-octets k _)

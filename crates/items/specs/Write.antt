@@ -10,8 +10,9 @@ use lib.IntN.{ℤ}
 use Rattle.rules.specs.Answer.{Answer, ok, refused, _>>=_, need_or_then_}
 use Rattle.rules.specs.Field.{Field, Kind, spare, value, unsigned, signed, any, arity, put, pack}
 use Rattle.rules.specs.Layout.{Group, Layout, fixed, repeated, led, extended, group, octets, packAll, partsFrom}
-use Rattle.items.specs.Tables.{fields, groups, groupRows, groupAt, layoutAt}
-use Rattle.items.specs.declared.tables.GroupRow.{GroupRow}
+use Rattle.items.specs.Tables.{fields, groups, groupRows, groupAt, layoutAt, groupIs}
+use Rattle.items.specs.declared.write.ItemWritten.{ItemWritten}
+use Rattle.items.specs.declared.write.ItemWritten.the-variants as written
 use Rattle.items.specs.declared.write.Coded.{Coded}
 use Rattle.items.specs.declared.write.Coded.the-variants as coded
 use Rattle.items.specs.declared.write.Packed.{Packed}
@@ -73,17 +74,14 @@ fieldIn i = getD fields i (value 0 (unsigned 0 0))
 abbrev pub noGroup : Group
 noGroup = group 0 []
 
-abbrev pub groupBy : GroupRow → Group
-groupBy r = group (r .0) (slice (r .1) (r .2) fields)
-
 unfoldable pub groupIn : ℕ → Group
-groupIn j = groupBy (groupAt j)
+groupIn j = groupIs (groupAt j)
 
 -- the parts of the layout at a place
 unfoldable pub partsAt : ℕ → List Group
 partsAt i =
     cond (eqb (layoutAt i .0) 4)
-    (slice (layoutAt i .3) (layoutAt i .4) (map groupBy (groupRows 0 groups)))
+    (slice (layoutAt i .3) (layoutAt i .4) (map groupIs (groupRows 0 groups)))
     (replicate (layoutAt i .2) (groupIn (layoutAt i .3)))
 
 unfoldable pub chainedAt : ℕ → Bool
@@ -150,3 +148,14 @@ unfoldable pub layParts : Bool → List Group → List ℤ → Answer (List ℕ)
 layParts fx gs vs = do
   ns ← numbersOf gs vs
   ok (laidParts fx gs ns)
+
+-- the answer of the entry point
+abbrev pub writtenAs : ItemWritten → Answer ℕ
+writtenAs (written.Length n) = ok n
+writtenAs (written.Refused n p) = refused n p
+
+-- how many octets there are
+unfoldable pub lengthOf : Answer (List ℕ) → Answer ℕ
+lengthOf m = do
+  bs ← m
+  ok (length bs)

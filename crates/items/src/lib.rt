@@ -1,5 +1,6 @@
 // One item of categories 017 and 018: its layout by table.
 mod fields;
+mod layouts;
 mod parts;
 mod tables;
 mod write;
@@ -8,6 +9,8 @@ use tables::FRNS;
 use tables::PROFILES;
 use tables::PlaceRow;
 use tables::place_at;
+pub use write::ItemWritten;
+pub use write::write_item;
 ghost use mathlib.Core.Path.{_≡_};
 ghost use mathlib.Core.List.{List};
 ghost use Prim.Native.Nat.{_<_, _≤_, _+_};

@@ -1,8 +1,9 @@
 // Writing one item: its fields, a list of whole numbers, to octets. All fields are checked before any octet is laid, so that a refusal changes
 // nothing. The parts of an item are packed one after another, by the groups of its layout; no item has code of its own.
+use super::layouts::layout_of;
 use super::tables::EXTENDED;
-use super::tables::FIXED;
 use super::tables::LED;
+use super::tables::REPEATED;
 use super::tables::SPARE;
 use super::tables::field_at;
 use super::tables::group_at;
@@ -16,7 +17,8 @@ ghost use lib.Signed.{mag};
 ghost use lib.Seq.{sets};
 ghost use Rattle.rules.specs.Answer.{Answer, ok, octetsOf};
 ghost use Rattle.rules.specs.Layout.{octets};
-ghost use Rattle.items.specs.Write.{fieldIn, groupIn, noGroup, partsAt, chainedAt, codeFor, packFrom, countParts, parts, layParts, headAt, marked, codedAs, packedAs, countedAs};
+ghost use Rattle.rules.specs.Entry.{writeOne, leaves};
+ghost use Rattle.items.specs.Write.{fieldIn, groupIn, noGroup, partsAt, chainedAt, codeFor, packFrom, countParts, parts, layParts, headAt, marked, codedAs, packedAs, countedAs, writtenAs, lengthOf};
 
 // ---- one value
 
@@ -209,4 +211,90 @@ fn lay_parts(layout: usize, values: &[i64], count: usize, out: &mut [u8], start:
         at = at + g.0;
         from = next;
     }
+}
+
+// ---- the item
+
+// How many octets stand before the parts.
+fn head_size(layout: usize) -> usize
+    requires { ⌜ layout < 51 ⌝ }
+    ensures { λ r. ⌜ (r ≤ 1) × ((k : ℕ) → length (headAt layout k) ≡ r) ⌝ }
+{
+    let l = layout_at(layout);
+    if l.0 == REPEATED {
+        return 1;
+    }
+    if l.0 == LED {
+        return 1;
+    }
+    0
+}
+
+fn narrow(n: usize) -> u8
+    requires { ⌜ n ≤ 255 ⌝ }
+    ensures { λ r. ⌜ r ≡ n ⌝ }
+{
+    n as u8
+}
+
+// The count or length octet before so many parts, at the start of the output.
+fn lay_head(layout: usize, count: usize, out: &mut [u8])
+    requires { ⌜ (layout < 51) × (count ≤ length (partsAt layout)) ⌝ }
+    requires { ⌜ length (headAt layout count) ≤ length (now out) ⌝ }
+    ensures { λ _. ⌜ now (out .exit) ≡ sets (now (out .entry)) 0 (headAt layout count) ⌝ }
+{
+    let l = layout_at(layout);
+    if l.0 == REPEATED {
+        out[0] = narrow(count);
+        return;
+    }
+    if l.0 == LED {
+        out[0] = narrow(count + 1);
+    }
+}
+
+// The answer of `write_item`.
+pub enum ItemWritten {
+    // How many octets the item has; it stands at the start of the output.
+    Length(usize),
+    // The number of the refusal, and its place.
+    Refused { number: u8, place: usize },
+}
+
+// An item from its fields: 21 where the category has no such item, 11 where they are not the fields of one, 16 where the output has no room.
+pub fn write_item(category: u8, reference: u16, fields: &[i64], out: &mut [u8]) -> ItemWritten
+    ensures { λ r. ⌜ writtenAs r ≡ lengthOf (writeOne category reference (now (fields .entry)) (length (now (out .entry)))) ⌝ }
+    ensures { λ _. ⌜ now (out .exit) ≡ leaves (writeOne category reference (now (fields .entry)) (length (now (out .entry)))) (now (out .entry)) ⌝ }
+{
+    let layout = layout_of(category, reference);
+    if layout == 0 {
+        return ItemWritten::Refused {
+            number: 21,
+            place: 0,
+        };
+    }
+    let Counted::Parts { count, size } = count_parts(layout, fields) else {
+        return ItemWritten::Refused {
+            number: 11,
+            place: 0,
+        };
+    };
+    let l = layout_at(layout);
+    if count < l.1 {
+        return ItemWritten::Refused {
+            number: 11,
+            place: 0,
+        };
+    }
+    let head = head_size(layout);
+    let length = head + size;
+    if out.len() < length {
+        return ItemWritten::Refused {
+            number: 16,
+            place: 0,
+        };
+    }
+    lay_head(layout, count, out);
+    lay_parts(layout, fields, count, out, head);
+    ItemWritten::Length(length)
 }
