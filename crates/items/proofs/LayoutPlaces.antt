@@ -1,14 +1,14 @@
 -- The layout of an item by its category and reference: what is found in the tables is what the rules have.
 --
 -- In order: the index of a category; an item that is not there; an item that is. Assumes nothing.
-use Prim.Native.Nat.{ℕ, zero, suc, _<_}
+use Prim.Native.Nat.{ℕ, suc, _<_}
 use mathlib.Core.Path.{_≡_, refl, sym, ap, _∙_}
 use mathlib.Core.Bool.{Bool, true, false}
 use mathlib.Core.Option.{Option, none, some}
 use mathlib.Core.List.{List, [], _∷_}
 use native.Mathlib.Omega.{arith}
 use lib.Dec.{eqb, lit<}
-use Rattle.rules.specs.Answer.{Answer, ok, refused, _>>=_, if_then_else_, expect_or_}
+use Rattle.rules.specs.Answer.{_>>=_, if_then_else_, expect_or_}
 use Rattle.rules.specs.Layout.{Layout, concat}
 use Rattle.rules.specs.Presence.{placeAt}
 use Rattle.rules.specs.Record.{Place, Category, places}
@@ -18,7 +18,7 @@ use Rattle.items.specs.declared.tables.PlaceRow.{PlaceRow}
 use Rattle.items.specs.Tables.{layoutAt, layoutIs, with, placeIs}
 use Rattle.items.specs.Answers.{frnAs}
 use Rattle.items.specs.Layouts.{indexOf}
-use Rattle.items.proofs.TableLaws.{layout-none, Found, found, Missed, missed, found-place}
+use Rattle.items.proofs.TableLaws.{layout-none, found, missed, found-place}
 
 -- ---- the index of a category
 

@@ -2,13 +2,13 @@
 --
 -- In order: a kind's least and greatest value; a value below, above, and within them; the same by the row. Assumes nothing.
 use Prim.Native.Nat.{ℕ, zero, suc, _+_, _-_, _*_, _%_, _^_, _<_, _≤_}
-use mathlib.Core.Path.{_≡_, refl, sym, ap, _∙_, subst}
+use mathlib.Core.Path.{_≡_, refl, sym, ap, _∙_}
 use mathlib.Core.Bool.{Bool, true, false, true≢false, false≢true}
-use mathlib.Core.List.{List, [], _∷_}
+use mathlib.Core.List.{List}
 use native.Mathlib.Nat.{pow-suc, not-suc-le-zero, one-mul, mod-eq-of-lt}
 use native.Mathlib.Omega.{arith}
 use borrow.Author.Tests.{lt-ltb, le-ltb, le-leb, lt-leb, ltb-true, ltb-false}
-use lib.Dec.{leb, ltb}
+use lib.Dec.{ltb}
 use lib.IntN.{ℤ, pos, negsuc}
 use lib.ListN.{length, getD, drop, drop-of-length-le}
 use lib.Pow.{pow-pos, pow-lt}
@@ -22,7 +22,7 @@ use Rattle.rules.specs.Field.{Kind, unsigned, signed, Field, spare, value, half
 use Rattle.items.specs.Tables.{fieldRow, fieldAt, minus}
 use Rattle.items.specs.Write.{fieldIn, widthOf, kindOf, codeFor}
 use Rattle.items.specs.declared.tables.FieldRow.{FieldRow}
-use Rattle.items.proofs.WriteSound.{SoundKind, SoundField}
+use Rattle.items.proofs.WriteSound.{SoundField}
 use Rattle.items.proofs.WriteTables.{field-row, field-in-sound}
 
 -- ---- a kind's least and greatest value

@@ -2,21 +2,21 @@
 --
 -- In order: refusals ahead of a refusal; a part's number; the parts' numbers, one after another; the octets of a layout's parts; the item.
 -- Assumes nothing.
-use Prim.Native.Nat.{ℕ, zero, suc, _+_, _-_, _*_, _^_, _<_, _≤_}
-use mathlib.Core.Path.{_≡_, refl, sym, ap, ap₂, _∙_, subst}
+use Prim.Native.Nat.{ℕ, zero, suc, _+_, _*_, _^_, _<_}
+use mathlib.Core.Path.{_≡_, refl, sym, ap, _∙_}
 use mathlib.Core.Bool.{Bool, true, false}
-use mathlib.Core.List.{List, [], _∷_, _++_, map}
+use mathlib.Core.List.{List, [], _∷_}
 use native.Mathlib.Omega.{arith}
-use borrow.Author.Tests.{leb-true, leb-false, le-leb, lt-leb, ne-eqb, eq-eqb}
-use lib.Dec.{leb, ltb, eqb}
-use lib.ListN.{length, take, drop, replicate}
-use lib.Seq.{length-take-le, take-all}
-use lib.IntN.{ℤ, pos, negsuc}
+use borrow.Author.Tests.{leb-false, ne-eqb}
+use lib.Dec.{leb}
+use lib.ListN.{length, drop, replicate}
+use lib.Seq.{take-all}
+use lib.IntN.{ℤ}
 use Rattle.rules.specs.Answer.{Answer, ok, refused, _>>=_, need_or_then_, if_then_else_}
-use Rattle.rules.specs.Field.{Kind, unsigned, signed, Field, any, spare, value, bits, arity, half, put, pack}
-use Rattle.rules.specs.Layout.{Group, group, Layout, fixed, repeated, led, extended, Values, groups, least, writeNum, writeMany, writeChain, writeParts, packAll, partsFrom, writeItem, writeFields}
+use Rattle.rules.specs.Field.{Field, any, spare, value, bits, arity, pack}
+use Rattle.rules.specs.Layout.{Group, group, Layout, fixed, repeated, led, extended, Values, groups, least, writeParts, packAll, partsFrom, writeItem, writeFields}
 use Rattle.rules.proofs.AnswerLaws.{refused-ok, ok-inj, bind-elim, need-bind}
-use Rattle.items.specs.Write.{partsOf, fieldsOf, packFirst, numbersOf, chained, marked, laidParts, headOf}
+use Rattle.items.specs.Write.{partsOf, fieldsOf, packFirst, numbersOf}
 use Rattle.items.proofs.WriteRefusals.{Eleven, done, not-done, put-eleven, pack-eleven, packAll-eleven, partsFrom-eleven}
 
 -- ---- refusals ahead of a refusal

@@ -1,9 +1,9 @@
 -- The answers of `write_item`, by what was tested on the way, and what the output then holds.
 --
 -- In order: the head; the layout at a place; a refusal; the tests; the item laid. Assumes nothing.
-use Prim.Native.Nat.{ℕ, zero, suc, _+_, _-_, _*_, _<_, _≤_}
+use Prim.Native.Nat.{ℕ, zero, suc, _+_, _*_, _<_, _≤_}
 use mathlib.Core.Path.{_≡_, refl, sym, ap, ap₂, _∙_, subst}
-use mathlib.Core.Bool.{Bool, true, false, cond, false≢true}
+use mathlib.Core.Bool.{Bool, true, cond, false≢true}
 use mathlib.Core.Option.{Option, none, some}
 use mathlib.Core.List.{List, [], _∷_, _++_, map}
 use native.Mathlib.Omega.{arith}
@@ -15,13 +15,12 @@ use lib.IntN.{ℤ}
 use lib.ListN.{length, getD, set, replicate, length-append, List·getD-map}
 use lib.Seq.{sets, slice, length-sets}
 use Rattle.rules.specs.Answer.{Answer, ok, refused, _>>=_, need_or_then_, expect_or_, octetsOf}
-use Rattle.rules.specs.Field.{any}
-use Rattle.rules.specs.Layout.{octets, Group, group, Layout, fixed, repeated, led, extended, least, writeFields}
+use Rattle.rules.specs.Layout.{octets, Group, Layout, fixed, repeated, led, extended, least, writeFields}
 use Rattle.rules.specs.Presence.{present}
 use Rattle.rules.specs.Category017.{category017}
 use Rattle.rules.specs.Category018.{category018}
 use Rattle.rules.specs.Entry.{categories, layoutOf, writeOne, over, leaves}
-use Rattle.rules.proofs.AnswerLaws.{refused-ok, ok-inj, bind-elim, bind-in, bind-cong, need-in, octetsOf-ok}
+use Rattle.rules.proofs.AnswerLaws.{refused-ok, ok-inj, bind-elim, bind-in, bind-cong, octetsOf-ok}
 use Rattle.items.specs.declared.tables.LayoutRow.{LayoutRow}
 use Rattle.items.specs.Tables.{fields, groups, layouts, groupRows, groupAt, groupIs, layoutRows, layoutAt, layoutBy, layoutIs}
 use Rattle.items.specs.Write.{partsOf, chained, headOf, partsAt, chainedAt, headAt, groupIn, numbersOf, marked, laidParts, parts, countParts, layParts, lengthOf}

@@ -2,21 +2,21 @@
 -- one after another.
 --
 -- In order: numbers that fit; one number; parts of one size; parts chained by FX bits; the item; its length. Assumes nothing.
-use Prim.Native.Nat.{ℕ, zero, suc, _+_, _-_, _*_, _/_, _^_, _<_, _≤_}
-use mathlib.Core.Path.{_≡_, refl, sym, ap, ap₂, _∙_, subst}
+use Prim.Native.Nat.{ℕ, zero, suc, _+_, _*_, _^_, _<_, _≤_}
+use mathlib.Core.Path.{_≡_, refl, sym, ap, _∙_, subst}
 use mathlib.Core.Bool.{Bool, true, false}
 use mathlib.Core.List.{List, [], _∷_, _++_, map, append-nil}
 use native.Mathlib.Omega.{arith}
 use native.Mathlib.Nat.{lt-of-lt-of-le, mul-le-mul-right, pow-suc, div-one, add-zero}
-use borrow.Author.Tests.{leb-true, le-leb, lt-ltb, eq-eqb}
+use borrow.Author.Tests.{leb-true, lt-ltb}
 use lib.Arith.{digits-lt}
 use lib.Dec.{T, leb, ltb, eqb, ltb→lt, le→leb}
-use lib.ListN.{length, take, drop, replicate, length-append, length-replicate}
+use lib.ListN.{length, replicate, length-replicate}
 use lib.Pow.{pow-pos, pow-add, pow-mono}
 use lib.IntN.{ℤ}
 use Rattle.rules.specs.Answer.{Answer, ok, refused, _>>=_, need_or_then_}
-use Rattle.rules.specs.Field.{Field, any, spare, value, bits, put, pack}
-use Rattle.rules.specs.Layout.{Group, group, Layout, fixed, repeated, led, extended, Values, least, octets, writeNum, writeMany, writeChain, writeParts, packAll, partsFrom, writeFields}
+use Rattle.rules.specs.Field.{Field, any, spare, value, bits, pack}
+use Rattle.rules.specs.Layout.{Group, group, Layout, fixed, repeated, led, extended, Values, least, octets, writeNum, writeMany, writeChain, writeParts, packAll, writeFields}
 use Rattle.rules.proofs.AnswerLaws.{refused-ok, ok-inj, bind-in, bind-elim, need-elim, need-in}
 use Rattle.items.specs.Write.{partsOf, fieldsOf, numbersOf, chained, marked, laidParts, headOf}
 use Rattle.items.proofs.WriteSound.{All, SoundGroup, Sound, markBits}

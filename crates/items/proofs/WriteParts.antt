@@ -4,7 +4,7 @@
 use Prim.Native.Nat.{ℕ, zero, suc, _+_, _-_, _*_, _/_, _%_, _^_, _<_, _≤_}
 use mathlib.Core.Path.{_≡_, refl, sym, ap, _∙_, subst}
 use mathlib.Core.Bool.{Bool, true, false, not}
-use mathlib.Core.List.{List, [], _∷_, _++_}
+use mathlib.Core.List.{List, [], _∷_}
 use native.Mathlib.Omega.{arith}
 use native.Mathlib.Nat.{not-suc-le-zero, mod-eq-of-lt, add-mul, mul-assoc, lt-of-lt-of-le}
 use native.Mathlib.Numerals.{add-one}
@@ -15,7 +15,7 @@ use lib.Pow.{pow-pos, pow-mono, pow-add, field, mod-mod-pow}
 use lib.Seq.{sets, slice, slice-cons, drop-drop, length-take-le}
 use lib.Dec.{ltb→lt}
 use lib.IntN.{ℤ}
-use Rattle.rules.specs.Answer.{Answer, ok, refused, _>>=_, need_or_then_}
+use Rattle.rules.specs.Answer.{Answer, ok, refused, _>>=_}
 use Rattle.rules.specs.Field.{Kind, unsigned, signed, Field, spare, value, bits, arity, put, pack}
 use Rattle.rules.specs.Layout.{octets}
 use Rattle.rules.proofs.AnswerLaws.{refused-ok, ok-inj, bind-elim, need-elim, bind-cong, bind-assoc, need-bind}

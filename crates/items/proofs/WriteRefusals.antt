@@ -1,16 +1,14 @@
 -- Whatever the layout and the values, writing an item refuses with 11 at 0: so a writer only decides between yes and no.
 --
 -- In order: answers; fields; octets; parts; items. Assumes nothing.
-use Prim.Native.Nat.{ℕ, zero, suc, _+_, _-_, _*_, _^_}
-use mathlib.Core.Path.{_≡_, refl, sym, ap, ap₂, _∙_, subst}
+use Prim.Native.Nat.{ℕ, suc, _+_, _*_}
 use mathlib.Core.Bool.{Bool, true, false}
-use mathlib.Core.List.{List, [], _∷_, _++_, map}
-use lib.Dec.{leb, ltb, eqb}
-use lib.ListN.{length, take, drop}
+use mathlib.Core.List.{List, [], _∷_}
+use lib.ListN.{length, drop}
 use lib.IntN.{ℤ, pos, negsuc}
 use Rattle.rules.specs.Answer.{Answer, ok, refused, _>>=_, need_or_then_, if_then_else_}
-use Rattle.rules.specs.Field.{Kind, unsigned, signed, Field, spare, value, bits, arity, half, put, pack}
-use Rattle.rules.specs.Layout.{Layout, fixed, repeated, led, extended, Values, groups, least, writeNum, writeMany, writeChain, writeParts, packAll, partsFrom, writeItem, writeFields}
+use Rattle.rules.specs.Field.{Kind, unsigned, signed, Field, spare, value, arity, put, pack}
+use Rattle.rules.specs.Layout.{Layout, fixed, repeated, led, extended, Values, groups, writeNum, writeMany, writeChain, writeParts, packAll, partsFrom, writeItem, writeFields}
 
 -- ---- answers
 

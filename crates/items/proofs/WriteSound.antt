@@ -2,12 +2,11 @@
 -- a 64-bit number, and the number of parts fits an octet.
 --
 -- In order: fields, groups, parts; the test. Not here: that every layout of the tables passes it (`WriteTables`). Assumes nothing.
-use Prim.Native.Nat.{ℕ, zero, suc, _+_, _-_, _*_, _^_, _<_, _≤_}
-use mathlib.Core.Path.{_≡_, refl, sym, ap, _∙_, subst}
+use Prim.Native.Nat.{ℕ, zero, suc, _+_, _*_, _^_, _<_, _≤_}
 use mathlib.Core.Bool.{Bool, true, false, _&&_}
-use mathlib.Core.List.{List, [], _∷_, _++_, map}
+use mathlib.Core.List.{List, [], _∷_}
 use native.Mathlib.Nat.{not-suc-le-zero, le-of-suc-le-suc}
-use lib.Dec.{T, leb, ltb, eqb, leb→le, ltb→lt}
+use lib.Dec.{T, leb, ltb, leb→le, ltb→lt}
 use lib.ListN.{length, drop, getD}
 use Rattle.rules.specs.Field.{Kind, unsigned, signed, Field, spare, value, bits, half}
 use Rattle.rules.specs.Layout.{Group}

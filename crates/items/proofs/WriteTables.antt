@@ -2,24 +2,22 @@
 -- each is sound.
 --
 -- In order: fields; groups; layouts. Assumes nothing.
-use Prim.Native.Nat.{ℕ, zero, suc, _+_, _-_, _*_, _^_, _<_, _≤_}
+use Prim.Native.Nat.{ℕ, suc, _+_, _-_, _<_, _≤_}
 use mathlib.Core.Path.{_≡_, refl, sym, ap, _∙_, subst}
 use mathlib.Core.Bool.{Bool, true, false, cond, _&&_, false≢true}
-use mathlib.Core.List.{List, [], _∷_, _++_, map}
+use mathlib.Core.List.{List, _∷_, map}
 use native.Mathlib.Omega.{arith}
-use lib.Dec.{T, leb, ltb, eqb, leb→le, eqb→eq}
-use lib.IntN.{ℤ, pos, negsuc}
+use lib.Dec.{T, leb, eqb, leb→le, eqb→eq}
 use borrow.Author.Tests.{eq-eqb, ne-eqb}
-use lib.ListN.{length, length-map, take, drop, getD, replicate, List·getD-map, getD-replicate}
+use lib.ListN.{length, length-map, take, getD, replicate, List·getD-map, getD-replicate}
 use lib.Seq.{slice, length-slice, getD-drop, getD-take}
-use Rattle.rules.specs.Field.{Kind, unsigned, signed, Field, spare, value, bits, half}
-use Rattle.rules.specs.Layout.{Group, group, Layout, concat}
+use Rattle.rules.specs.Field.{unsigned, value}
+use Rattle.rules.specs.Layout.{Group}
 use Rattle.rules.specs.Category017.{category017}
 use Rattle.rules.specs.Category018.{category018}
 use Rattle.rules.specs.Entry.{categories}
 use Rattle.items.specs.Tables.{fields, groups, layouts, fieldRow, fieldAt, groupRows, groupAt, layoutRows, layoutAt, groupIs}
-use Rattle.items.specs.Write.{fieldIn, noGroup, groupIn, partsOf, chained, partsAt, chainedAt}
-use Rattle.items.specs.declared.tables.FieldRow.{FieldRow}
+use Rattle.items.specs.Write.{fieldIn, noGroup, groupIn, partsAt, chainedAt}
 use Rattle.items.specs.declared.tables.GroupRow.{GroupRow}
 use Rattle.items.specs.declared.tables.LayoutRow.{LayoutRow}
 use Rattle.items.proofs.WriteSound.{SoundField, SoundGroup, Sound, every, every-at, every-in, both, fieldTest, field-sound, groupTest, group-sound, partsTest, parts-sound}

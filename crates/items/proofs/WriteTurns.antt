@@ -1,7 +1,7 @@
 -- What the two passes over the parts of an item do, turn by turn: the first packs each part and counts, the second packs it again and lays it.
 --
 -- In order: a part and those after it; the first pass; the second pass. Assumes nothing.
-use Prim.Native.Nat.{ℕ, zero, suc, _+_, _-_, _*_, _^_, _<_, _≤_}
+use Prim.Native.Nat.{ℕ, zero, suc, _+_, _*_, _^_, _<_, _≤_}
 use mathlib.Core.Path.{_≡_, refl, sym, ap, ap₂, _∙_, subst}
 use mathlib.Core.Bool.{Bool, true, false}
 use mathlib.Core.List.{List, [], _∷_, _++_}
@@ -11,7 +11,7 @@ use native.Mathlib.Numerals.{add-one}
 use borrow.Author.Tests.{ltb-true, ltb-false, lt-ltb, le-ltb}
 use lib.Dec.{ltb, eqb}
 use lib.IntN.{ℤ}
-use lib.ListN.{length, getD, take, drop, set, length-append, length-drop, drop-of-length-le}
+use lib.ListN.{length, getD, drop, set, length-append, length-drop, drop-of-length-le}
 use lib.Pow.{pow-mono}
 use lib.Seq.{sets, drop-cons, drop-drop, length-sets}
 use Rattle.rules.specs.Answer.{Answer, ok, refused, _>>=_, octetsOf}
@@ -21,9 +21,9 @@ use Rattle.rules.proofs.AnswerLaws.{refused-ok, ok-inj, bind-elim, bind-in, bin
 use Rattle.items.specs.Tables.{groupAt, layoutAt}
 use Rattle.items.specs.declared.tables.GroupRow.{GroupRow}
 use Rattle.items.specs.declared.tables.LayoutRow.{LayoutRow}
-use Rattle.items.specs.Write.{noGroup, groupIn, packFirst, numbersOf, marked, laidParts, partsAt, chainedAt, Part, part, packFrom, Parts, parts, countParts, layParts}
+use Rattle.items.specs.Write.{noGroup, groupIn, packFirst, numbersOf, marked, laidParts, partsAt, chainedAt, part, packFrom, Parts, parts, countParts, layParts}
 use Rattle.items.proofs.WriteSound.{All, SoundGroup, all-drop}
-use Rattle.items.proofs.WriteTables.{LayoutRowIs, layout-row-is, group-in-sound}
+use Rattle.items.proofs.WriteTables.{layout-row-is, group-in-sound}
 use Rattle.items.proofs.WriteRefusals.{Eleven, done, not-done}
 use Rattle.items.proofs.WriteFields.{packFirst-eleven, numbers-none, numbers-over, numbers-cons}
 use Rattle.items.proofs.WriteLaid.{Fit, numbers-fit, part-lt, laid-none}

@@ -8,7 +8,7 @@ use lib.ListN.{length, getD, take, drop, replicate}
 use lib.Seq.{slice}
 use lib.IntN.{ℤ}
 use Rattle.rules.specs.Answer.{Answer, ok, refused, _>>=_, need_or_then_}
-use Rattle.rules.specs.Field.{Field, Kind, spare, value, unsigned, signed, any, arity, put, pack}
+use Rattle.rules.specs.Field.{Field, Kind, spare, value, unsigned, any, arity, put, pack}
 use Rattle.rules.specs.Layout.{Group, Layout, fixed, repeated, led, extended, group, octets, packAll, partsFrom}
 use Rattle.items.specs.Tables.{fields, groups, groupRows, groupAt, layoutAt, groupIs}
 use Rattle.items.specs.declared.write.ItemWritten.{ItemWritten}

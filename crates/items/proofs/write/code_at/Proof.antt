@@ -1,14 +1,10 @@
+-- `items::write::code_at` meets its contract: the tests of the field's row are those of the rules' `put` (`WriteCode`). Assumes nothing.
+use borrow.Author.Needs.{needs}
 use denote.Ref.{now}
 use Rattle.items.proofs.WriteCode.{code-none, code-low, code-high, bits-few, shift-some, code-neg, code-pos}
-use borrow.Author.Needs.{needs}
 use Rattle.items.proofs.write.code_at.Statement.{statement}
 use Rattle.items.proofs.write.code_at.Tie as tie
-use Rattle.items.proofs.write.code_at.Reads as reads
-use Rattle.items.proofs.write.code_at.Lts as lts
-use Rattle.items.proofs.tables.field_at.Reads as field-at-reads
-use Rattle.items.proofs.write.magnitude.Reads as magnitude-reads
 
--- src/write.rt:49:9
 field-at-requires : tie.Need-field-at-requires
 field-at-requires c κs = search needs
 

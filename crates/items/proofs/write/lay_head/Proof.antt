@@ -1,63 +1,52 @@
+-- `items::write::lay_head` meets its contract: a list's octet counts its parts, a led item's its own octet too. Assumes nothing.
 use native.Mathlib.Omega.{arith}
+use borrow.Author.Needs.{needs}
 use denote.Ref.{now}
 use Rattle.items.proofs.WriteTables.{layout-row-is}
 use Rattle.items.proofs.WriteItem.{list-room, list-laid, head-led, led-room, led-laid, none-laid}
-use borrow.Author.Needs.{needs}
 use Rattle.items.proofs.write.lay_head.Statement.{statement}
 use Rattle.items.proofs.write.lay_head.Tie as tie
-use Rattle.items.proofs.write.lay_head.Reads as reads
-use Rattle.items.proofs.write.lay_head.Lts as lts
-use Rattle.items.proofs.tables.layout_at.Reads as layout-at-reads
-use Rattle.items.proofs.write.narrow.Reads as narrow-reads
 
--- src/write.rt:246:9
 layout-at-requires : tie.Need-layout-at-requires
 layout-at-requires c κs = search needs
 
--- src/write.rt:248:18
 narrow-requires : tie.Need-narrow-requires
 narrow-requires c κs =
     omega (arith, c .before .before .before .before .pre .0 .1, layout-row-is (c .before .before .before .before .args .layout) .sound .few)
 
--- src/write.rt:248:9
 slice-write-out : tie.Need-slice-write-out
 slice-write-out c =
     list-room (c .before .before .before .before .before .args .layout) (c .before .before .before .before .before .args .count) (c .before .before .before .layout-at .ensures) (now (c .before .before .before .before .before .args .out)) (c .before .if1 .taken) (c .before .before .before .before .before .pre .1)
 
--- src/write.rt:249:9
 same-length : tie.Need-same-length
 same-length c = search needs
 
--- src/write.rt:249:9
+-- a list
 returns : tie.Need-returns
 returns c =
     list-laid (c .before .before .before .before .before .args .layout) (c .before .before .before .before .before .args .count) (c .before .before .before .layout-at .ensures) (now (c .before .before .before .before .before .args .out)) (c .before .if1 .taken) (c .narrow .ensures)
 
--- src/write.rt:252:25
 add-narrow : tie.Need-add-narrow
 add-narrow c =
     omega (arith, c .before .before .before .before .before .before .pre .0 .1, head-led (c .before .before .before .before .before .before .args .layout) (c .before .before .before .before .before .before .args .count) (c .before .before .before .before .layout-at .ensures) (c .before .before .if1 .left) (c .if2 .taken) .1)
 
--- src/write.rt:252:18
 narrow-requires-2 : tie.Need-narrow-requires-2
 narrow-requires-2 c κs =
     omega (arith, c .before .before .before .before .before .before .pre .0 .1, head-led (c .before .before .before .before .before .before .args .layout) (c .before .before .before .before .before .before .args .count) (c .before .before .before .before .layout-at .ensures) (c .before .before .if1 .left) (c .if2 .taken) .1)
 
--- src/write.rt:252:9
 slice-write-out-2 : tie.Need-slice-write-out-2
 slice-write-out-2 c =
     led-room (c .before .before .before .before .before .before .before .args .layout) (c .before .before .before .before .before .before .before .args .count) (c .before .before .before .before .before .layout-at .ensures) (now (c .before .before .before .before .before .before .before .args .out)) (c .before .before .before .if1 .left) (c .before .if2 .taken) (c .before .before .before .before .before .before .before .pre .1)
 
--- src/write.rt:241:1
 same-length-2 : tie.Need-same-length-2
 same-length-2 c = search needs
 
--- src/write.rt:241:1
+-- a led item
 returns-2 : tie.Need-returns-2
 returns-2 c =
     led-laid (c .before .before .before .before .before .before .before .args .layout) (c .before .before .before .before .before .before .before .args .count) (c .before .before .before .before .before .layout-at .ensures) (now (c .before .before .before .before .before .before .before .args .out)) (c .before .before .before .if1 .left) (c .before .if2 .taken) (c .narrow2 .ensures)
 
--- src/write.rt:241:1
+-- neither
 returns-3 : tie.Need-returns-3
 returns-3 c =
     none-laid (c .before .before .before .before .before .before .args .layout) (c .before .before .before .before .before .before .args .count) (c .before .before .before .before .layout-at .ensures) (now (c .before .before .before .before .before .before .args .out)) (c .before .before .if1 .left) (c .if2 .left)

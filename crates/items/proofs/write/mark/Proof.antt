@@ -1,36 +1,32 @@
+-- `items::write::mark` meets its contract: the FX bit is the lowest, and set where another part follows. Assumes nothing.
 use native.Mathlib.Omega.{arith}
 use Rattle.items.proofs.WriteParts.{marked-plain, marked-more, marked-last}
 use Rattle.items.proofs.write.mark.Statement.{statement}
 use Rattle.items.proofs.write.mark.Tie as tie
-use Rattle.items.proofs.write.mark.Reads as reads
-use Rattle.items.proofs.write.mark.Lts as lts
 
--- src/write.rt:110:9
+-- no FX bit
 returns : tie.Need-returns
 returns c =
     marked-plain (c .before .args .chained) (c .before .args .more) (c .before .args .n) (c .if1 .taken)
 
--- src/write.rt:113:16
 mul-result : tie.Need-mul-result
 mul-result c =
     omega (arith, c .before .before .pre, marked-more (c .before .before .args .chained) (c .before .before .args .more) (c .before .before .args .n) (c .before .if1 .left) (c .if2 .taken))
 
--- src/write.rt:113:16
 add-result : tie.Need-add-result
 add-result c =
     omega (arith, c .before .before .pre, marked-more (c .before .before .args .chained) (c .before .before .args .more) (c .before .before .args .n) (c .before .if1 .left) (c .if2 .taken))
 
--- src/write.rt:113:9
+-- another part follows
 returns-2 : tie.Need-returns-2
 returns-2 c =
     marked-more (c .before .before .args .chained) (c .before .before .args .more) (c .before .before .args .n) (c .before .if1 .left) (c .if2 .taken)
 
--- src/write.rt:115:5
 mul-result-2 : tie.Need-mul-result-2
 mul-result-2 c =
     omega (arith, c .before .before .pre, marked-last (c .before .before .args .chained) (c .before .before .args .more) (c .before .before .args .n) (c .before .if1 .left) (c .if2 .left))
 
--- src/write.rt:105:1
+-- the last part
 returns-3 : tie.Need-returns-3
 returns-3 c =
     marked-last (c .before .before .args .chained) (c .before .before .args .more) (c .before .before .args .n) (c .before .if1 .left) (c .if2 .left)
