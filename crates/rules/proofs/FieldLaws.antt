@@ -1,20 +1,19 @@
 -- `unpack` and `pack` are inverse, for every row of fields. In order: one field; a row; how many values a row has. Assumes nothing.
-use Prim.Native.Nat.{ℕ, zero, suc, _+_, _-_, _*_, _/_, _%_, _^_, _≤_, _<_}
-use mathlib.Core.Path.{_≡_, refl, sym, ap, ap₂, _∙_, subst}
+use Prim.Native.Nat.{ℕ, suc, _+_, _-_, _*_, _/_, _%_, _^_, _≤_, _<_}
+use mathlib.Core.Path.{_≡_, refl, sym, ap, _∙_, subst}
 use mathlib.Core.Logic.{⊎-elim}
-use mathlib.Core.Bool.{Bool, true, false}
 use mathlib.Core.List.{List, [], _∷_}
 use native.Mathlib.Omega.{arith}
-use native.Mathlib.Nat.{div-add-mod', mod-lt, lt-of-lt-of-le, mul-le-mul-right, div-eq-of-lt, mod-eq-of-lt}
+use native.Mathlib.Nat.{div-add-mod', lt-of-lt-of-le, mul-le-mul-right, div-eq-of-lt, mod-eq-of-lt}
 use lib.Arith.{digits-lt, digits-div, digits-mod}
 use lib.Pow.{pow-pos, pow-add}
-use lib.Dec.{T, leb, ltb, eqb, leb→le, le→leb, ltb→lt, lt→ltb, eqb→eq, eqb-refl}
-use borrow.Author.Tests.{lt-ltb, le-ltb, le-leb, ltb-true, ltb-false, eq-eqb}
+use lib.Dec.{T, eqb, leb→le, ltb→lt, lt→ltb, eqb→eq}
+use borrow.Author.Tests.{lt-ltb, le-ltb, ltb-false}
 use lib.ListN.{length}
 use lib.IntN.{ℤ, pos, negsuc}
-use Rattle.rules.specs.Answer.{Answer, ok, refused, _>>=_, need_or_then_}
+use Rattle.rules.specs.Answer.{ok, _>>=_}
 use Rattle.rules.specs.Field.{Kind, unsigned, signed, Field, spare, value, bits, arity, half, put, get, pack, unpack}
-use Rattle.rules.proofs.AnswerLaws.{refused-ok, ok-inj, bind-inv, bind-in, bind-elim, need-elim, need-inv, need-in, if-inv, if-true, if-false, Inverse}
+use Rattle.rules.proofs.AnswerLaws.{refused-ok, ok-inj, bind-in, bind-elim, need-elim, need-in, if-inv, if-true, if-false, Inverse}
 
 ruleset tests = (arith, ltb→lt, leb→le)
 

@@ -4,20 +4,20 @@
 use Prim.Native.Nat.{ℕ, zero, suc, _+_, _-_, _*_, _/_, _%_, _^_, _≤_, _<_, suc-le-suc}
 use mathlib.Core.Path.{_≡_, refl, sym, ap, ap₂, _∙_, subst}
 use mathlib.Core.Logic.{⊎-elim}
-use mathlib.Core.Bool.{Bool, true, false, _&&_}
-use mathlib.Core.List.{List, [], _∷_, _++_, map, append-assoc}
+use mathlib.Core.Bool.{Bool, true, _&&_}
+use mathlib.Core.List.{List, [], _∷_, _++_, append-assoc}
 use native.Mathlib.Omega.{arith}
 use native.Mathlib.Nat.{div-add-mod', mod-lt, pow-suc, mul-comm, one-le-pow, zero-lt-suc, div-lt-iff-lt-mul}
 use lib.Arith.{digits-lt, digits-div, digits-mod}
-use lib.Dec.{T, leb, ltb, eqb, leb→le, le→leb, ltb→lt, lt→ltb, eqb→eq, eqb-refl}
+use lib.Dec.{T, leb, ltb, eqb, leb→le, le→leb, ltb→lt, lt→ltb, eqb→eq}
 use borrow.Author.Tests.{eqb-true, eqb-false, ltb-true, ne-eqb}
-use lib.ListN.{length, take, drop, replicate, take-append-drop, length-append}
+use lib.ListN.{length, take, drop, take-append-drop, length-append}
 use lib.Seq.{take-at, drop-at, length-take-le}
-use lib.IntN.{ℤ, pos, negsuc}
-use Rattle.rules.specs.Answer.{Answer, ok, refused, _>>=_, need_or_then_, if_then_else_, Read, Write}
-use Rattle.rules.specs.Field.{Field, bits, arity, pack, unpack}
-use Rattle.rules.specs.Layout.{octets, joined, writeNum, readNum, writeMany, readMany, writeChain, readChain, Group, Layout, fixed, repeated, led, extended, writeParts, readParts, groups, least, packAll, unpackAll, Values, writeItem, readItem, partsFrom, concat, writeFields, readFields}
-use Rattle.rules.proofs.AnswerLaws.{refused-ok, ok-inj, bind-inv, bind-in, bind-elim, need-elim, need-inv, need-in, Inverse, Octets, octets-right, octets-append, nil-of-length, both-left, both-right, Split, Laws, step-back, after, both, via-laws, need-inverse, if-inv, if-true, if-false}
+use lib.IntN.{ℤ}
+use Rattle.rules.specs.Answer.{ok, _>>=_}
+use Rattle.rules.specs.Field.{Field, arity}
+use Rattle.rules.specs.Layout.{octets, joined, writeNum, readNum, writeMany, readMany, writeChain, readChain, Layout, fixed, repeated, led, extended, writeParts, readParts, groups, least, packAll, unpackAll, Values, writeItem, readItem, partsFrom, concat, writeFields, readFields}
+use Rattle.rules.proofs.AnswerLaws.{refused-ok, ok-inj, bind-in, bind-elim, need-elim, need-in, Octets, octets-append, nil-of-length, both-left, both-right, Split, Laws, step-back, after, both, via-laws, need-inverse, if-inv, if-true, if-false}
 use Rattle.rules.proofs.FieldLaws.{fields-inverse, unpack-arity, AllInside, pack-inside}
 
 -- ---- a number of k octets

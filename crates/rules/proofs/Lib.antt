@@ -5,3 +5,7 @@ pub mod PresenceLaws
 pub mod RecordLaws
 pub mod BlockLaws
 pub mod RecordingLaws
+pub mod Tables
+pub mod EntryLaws
+pub mod Starred
+pub mod Demands

@@ -1,22 +1,21 @@
 -- The three laws of presence octets and what they name, from the laws at each place.
 --
 -- In order: flags; presence octets; what they name; that they take an octet at least. Assumes nothing.
-use Prim.Native.Nat.{ℕ, zero, suc, _+_, _-_, _*_, _/_, _%_, _^_, _≤_, _<_, suc-le-suc}
+use Prim.Native.Nat.{ℕ, zero, suc, _-_, _%_, _^_, _≤_, _<_}
 use mathlib.Core.Path.{_≡_, refl, sym, ap, ap₂, _∙_, subst}
-use mathlib.Core.Logic.{⊎-elim}
 use mathlib.Core.Bool.{Bool, true, false}
 use mathlib.Core.Option.{Option, none, some}
 use mathlib.Core.List.{List, [], _∷_, _++_, map, append-assoc}
 use native.Mathlib.Omega.{arith}
 use native.Mathlib.Nat.{mod-lt, mod-eq-of-lt, pow-suc, le-add-right, add-mod-left, mod-eq-sub-mod}
 use lib.Pow.{pow-pos}
-use lib.Dec.{T, leb, ltb, eqb, leb→le, le→leb, ltb→lt, lt→ltb, eqb→eq, eqb-refl}
+use lib.Dec.{T, leb, ltb→lt, lt→ltb}
 use borrow.Author.Tests.{le-leb, lt-leb, leb-true, leb-false}
 use lib.ListN.{length}
-use Rattle.rules.specs.Answer.{Answer, ok, refused, _>>=_, need_or_then_, later, Read, Write}
+use Rattle.rules.specs.Answer.{ok, _>>=_, Read, Write}
 use Rattle.rules.specs.Layout.{writeChain, readChain, readNum}
-use Rattle.rules.specs.Presence.{flags, number, present, usable, house, numbers, flagRows, writePresence, readPresence, writeRow, writeRows, writePlaces, readRow, readRows, readPlaces}
-use Rattle.rules.proofs.AnswerLaws.{refused-ok, ok-inj, bind-inv, bind-in, bind-elim, need-elim, need-inv, need-in, later-inv, later-in, Inverse, Octets, octets-right, octets-append, Split, Laws, Starts, step-back, after, both, via-laws, need-inverse}
+use Rattle.rules.specs.Presence.{flags, number, present, usable, numbers, flagRows, writePresence, readPresence, writeRow, writeRows, writePlaces, readRow, readRows, readPlaces}
+use Rattle.rules.proofs.AnswerLaws.{refused-ok, ok-inj, bind-in, bind-elim, need-elim, need-inv, need-in, later-inv, later-in, Octets, octets-append, Split, Laws, Starts, step-back, after, both}
 use Rattle.rules.proofs.LayoutLaws.{chain-laws}
 
 -- ---- flags
@@ -94,18 +93,18 @@ module _ {P : Type 0} where
         back = λ ts bs rest h.
             bind-elim _ _ h λ ns p h₁.
             need-elim _ _ _ h₁ λ u h₂.
-            step-back (chain-laws cut 6 _) _ h₂ (bind-in _ (need-in _ _ u (flags-from ps ns ts p)) refl);
+            step-back (chain-laws cut _ _) _ h₂ (bind-in _ (need-in _ _ u (flags-from ps ns ts p)) refl);
         forth = λ ts bs rest b h.
             bind-elim _ _ h λ x p h₁.
             bind-elim _ _ h₁ λ us q h₂.
             need-elim _ _ _ q λ u h₃.
-            let s : Split (writeChain (map (λ p. 1) ps)) (x .0) bs (x .1) = chain-laws cut 6 _ .forth (x .0) bs (x .1) b p in
+            let s : Split (writeChain (map (λ p. 1) ps)) (x .0) bs (x .1) = chain-laws cut _ _ .forth (x .0) bs (x .1) b p in
             subst (λ z. Split (writePresence ps) (z .0) bs (z .1)) (ok-inj h₂)
             (record { out = s .out; writes = bind-in _ (flags-to ps (x .0) us h₃) (need-in _ _ u (s .writes)); joins = s .joins });
         clean = λ ts bs h.
             bind-elim _ _ h λ ns p h₁.
             need-elim _ _ _ h₁ λ u h₂.
-            chain-laws cut 6 _ .clean ns bs h₂;
+            chain-laws cut cut _ .clean ns bs h₂;
       }
 
 -- ---- what the bits name
@@ -224,4 +223,4 @@ unfolding readPlaces readPresence
 places-starts readP cut ps a rest h =
     bind-elim _ _ h λ x p h₁.
     bind-elim _ _ p λ y q h₂.
-    chain-starts cut 6 ps (y .0) (y .1) q
+    chain-starts cut _ ps (y .0) (y .1) q

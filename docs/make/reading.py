@@ -1,0 +1,334 @@
+"""The reading and writing rules of document 01, over tables.py, in the plainest way there is.
+
+Answers the questions of tests/vectors (README.md there has their form). It serves to make those
+vectors and to try the tables; it shares nothing with the crates but the documents. Bytes only, no
+speed: every answer starts again from the block's first octet.
+"""
+
+import sys
+
+import tables
+from tables import FX, SIGNED, SPARE
+
+
+class Refused(Exception):
+    """A refusal: its number, its place, and for an addition where the place lies."""
+
+    def __init__(self, number, place, where=""):
+        super().__init__(number, place, where)
+        self.number, self.place, self.where = number, place, where
+
+    def line(self):
+        return ("refused %d at %d %s" % (self.number, self.place, self.where)).rstrip()
+
+
+# ---- fields and items
+
+def read_part(part, octets, at):
+    """The fields of one part that lies whole in octets; 11 at the item's start."""
+    bits, left, values = int.from_bytes(octets, "big"), 8 * len(octets), []
+    for field in part:
+        left -= field.width
+        value = bits >> left & 2 ** field.width - 1
+        if field.kind == SIGNED and value >= 2 ** (field.width - 1):
+            value -= 2 ** field.width
+        if field.kind == FX:
+            continue
+        if not field.least <= value <= field.greatest:
+            raise Refused(11, at)
+        if field.kind != SPARE:
+            values.append(value)
+    return values
+
+
+def read_item(item, octets, at):
+    """The fields of the item that starts at a place, and where it ends: 9, 10, 9, 11."""
+    def need(end):
+        if end > len(octets):
+            raise Refused(9, at)
+        return end
+
+    if item.form == "fixed":
+        end = need(at + item.octets)
+        return read_part(item.parts[0], octets[at:end], at), end
+    start = need(at + 1)
+    if item.form == "list":
+        count = octets[at]
+        end = need(start + count * item.octets)
+        if not item.least <= count <= item.greatest:
+            raise Refused(11, at)
+        values = []
+        for n in range(start, end, item.octets):
+            values += read_part(item.parts[0], octets[n:n + item.octets], at)
+        return values, end
+    if item.form == "led":
+        if octets[at] < 1 + item.least:
+            raise Refused(10, at)
+        end = need(at + octets[at])
+        return list(octets[start:end]), end
+    end = start
+    while octets[end - 1] & 1 and end - at < item.greatest:
+        end = need(end + 1)
+    if octets[end - 1] & 1:
+        raise Refused(11, at)
+    values = []
+    for part, n in zip(item.parts, range(at, end)):
+        values += read_part(part, octets[n:n + 1], at)
+    return values, end
+
+
+def write_part(part, values):
+    """The octets of one part; the values are taken from the front of the list."""
+    bits = 0
+    for field in part:
+        value = 0
+        if field.kind not in (SPARE, FX):
+            value = values.pop(0)
+            if not field.least <= value <= field.greatest:
+                raise Refused(11, 0)
+        bits = bits << field.width | value % 2 ** field.width
+    return bits.to_bytes(sum(field.width for field in part) // 8, "big")
+
+
+def told(part):
+    """How many values a part has."""
+    return sum(field.kind not in (SPARE, FX) for field in part)
+
+
+def write_item(item, values):
+    """The octets of an item with those fields; 11 where no legal item has them."""
+    values = list(values)
+    if item.form == "extended":
+        sizes = [sum(told(part) for part in item.parts[:n + 1]) for n in range(len(item.parts))]
+        if len(values) not in sizes:
+            raise Refused(11, 0)
+        octets = b"".join(write_part(part, values) for part in item.parts[:sizes.index(len(values)) + 1])
+        return bytes(octet | (n + 1 < len(octets)) for n, octet in enumerate(octets))
+    count, rest = divmod(len(values), told(item.parts[0]))
+    if rest or not item.least <= count <= item.greatest:
+        raise Refused(11, 0)
+    body = b"".join(write_part(item.parts[0], values) for _ in range(count))
+    if item.form == "list":
+        return bytes([count]) + body
+    return bytes([1 + count]) + body if item.form == "led" else body
+
+
+# ---- records
+
+def fspec(frns):
+    """The FSPEC of a set of FRNs: no octet after the one that names the last."""
+    octets = bytearray((max(frns) + 6) // 7)
+    for frn in frns:
+        octets[(frn - 1) // 7] |= 128 >> (frn - 1) % 7
+    return bytes(octet | (n + 1 < len(octets)) for n, octet in enumerate(octets))
+
+
+def read_fspec(category, octets, at):
+    """The FRNs that an FSPEC names, rising, and where it ends: 5, 6, 7, 8."""
+    frns, end = [], at
+    while True:
+        if end == len(octets):
+            raise Refused(5, at)
+        octet, base = octets[end], 7 * (end - at)
+        frns += [base + n + 1 for n in range(7) if octet & 128 >> n]
+        end += 1
+        if not octet & 1:
+            break
+        if end - at == category.octets:
+            raise Refused(6, at)
+    if octets[end - 1] & 254 == 0:
+        raise Refused(7, at)
+    if not set(frns) <= set(tables.usable(category)):
+        raise Refused(8, at)
+    return frns, end
+
+
+def read_items(category, frns, octets, at):
+    """(FRN, reference, start, fields) for each item, and where the last one ends."""
+    found = []
+    for frn in frns:
+        reference = tables.usable(category)[frn]
+        values, end = read_item(tables.items(category)[reference], octets, at)
+        found.append((frn, reference, at, values))
+        at = end
+    return found, at
+
+
+def judge(category, found, at):
+    """The message type's rules on a record's items: 12, 13, 14, 15."""
+    present = {reference: values for _, reference, _, values in found}
+    if "000" not in present:
+        raise Refused(12, at)
+    row = tables.message(category, present["000"][0])
+    if row is None:
+        raise Refused(13, at)
+    compulsory, optional = set(row.compulsory.split()), set(row.optional.split())
+    if not compulsory <= set(present):
+        raise Refused(14, at)
+    if not set(present) <= compulsory | optional:
+        raise Refused(15, at)
+
+
+def read_record(category, octets, at):
+    """(start, end, items) of the record that starts at a place."""
+    frns, body = read_fspec(category, octets, at)
+    found, end = read_items(category, frns, octets, body)
+    judge(category, found, at)
+    return at, end, found
+
+
+# ---- blocks and recordings
+
+def read_head(octets, at, single, least):
+    """Category and end of the block that starts at a place: 1, 2, 3, 4."""
+    if len(octets) - at < 3:
+        raise Refused(1, at)
+    category, length = tables.CATEGORIES.get(octets[at]), octets[at + 1] << 8 | octets[at + 2]
+    if category is None:
+        raise Refused(2, at)
+    left = len(octets) - at
+    if length < 3 or (length != left if single else length > left):
+        raise Refused(3, at)
+    if length < least:
+        raise Refused(4, at)
+    return category, at + length
+
+
+def read_block(octets, at=0, single=True, least=4):
+    """Category, records and end of the block that starts at a place."""
+    category, end = read_head(octets, at, single, least)
+    records, at = [], at + 3
+    while at < end:
+        records.append(read_record(category, octets[:end], at))
+        at = records[-1][1]
+    return category, records, end
+
+
+def read_recording(octets):
+    """How many blocks and records."""
+    at = blocks = records = 0
+    while at < len(octets):
+        _, found, at = read_block(octets, at, single=False)
+        blocks, records = blocks + 1, records + len(found)
+    return blocks, records
+
+
+# ---- questions
+
+def known(category, reference):
+    """The item that a caller names: 21."""
+    row = tables.CATEGORIES.get(category)
+    item = row and tables.items(row).get("%03d" % reference)
+    if not item:
+        raise Refused(21, 0)
+    return item
+
+
+def commas(values):
+    return ",".join(str(value) for value in values) or "-"
+
+
+def answer_block(octets):
+    _, records, _ = read_block(octets)
+    return "ok %d" % len(records) + "".join(
+        " | %d %d" % (start, end) + "".join(" %s=%s" % (item[1], commas(item[3])) for item in found)
+        for start, end, found in records)
+
+
+def answer_read(category, reference, octets):
+    item = known(category, reference)
+    values, end = read_item(item, octets, 0)
+    if end < len(octets):
+        raise Refused(18, end)
+    return "ok " + commas(values)
+
+
+def answer_write(category, reference, room, values):
+    octets = write_item(known(category, reference), values)
+    if len(octets) > room:
+        raise Refused(16, 0)
+    return "ok %d %s" % (len(octets), octets.hex().upper())
+
+
+def answer_find(octets, reference, n):
+    category, records, _ = read_block(octets)
+    known(category.number, reference)
+    if n >= len(records):
+        raise Refused(19, 0)
+    start, end, found = records[n]
+    ends = [item[2] for item in found[1:]] + [end]
+    for item, stop in zip(found, ends):
+        if item[1] == "%03d" % reference:
+            return "ok %d %d %s" % (item[2], stop - item[2], octets[item[2]:stop].hex().upper())
+    raise Refused(20, start)
+
+
+def answer_record(octets, n):
+    _, records, _ = read_block(octets)
+    if n >= len(records):
+        raise Refused(19, 0)
+    start, end, found = records[n]
+    return "ok %d %d %d" % (start, end - start, len(found)) + "".join(" %d@%d" % item[:3:2] for item in found)
+
+
+def answer_add(used, room, frns, items):
+    if len(used) > room:
+        raise Refused(16, 0, "old")
+    try:
+        category, _, _ = read_block(used, least=3)
+    except Refused as fault:
+        raise Refused(fault.number, fault.place, "old")
+    try:
+        if not frns:
+            raise Refused(7, 0)
+        if not frns <= set(tables.usable(category)):
+            raise Refused(8, 0)
+        found, end = read_items(category, sorted(frns), items, 0)
+        if end < len(items):
+            raise Refused(18, end)
+        judge(category, found, 0)
+        whole = used + fspec(frns) + items
+        if len(whole) > 65535:
+            raise Refused(17, 0)
+        if len(whole) > room:
+            raise Refused(16, 0)
+    except Refused as fault:
+        raise Refused(fault.number, fault.place, "new")
+    whole = whole[:1] + len(whole).to_bytes(2, "big") + whole[3:]
+    return "ok %d %s" % (len(whole), whole.hex().upper())
+
+
+def octets_of(word):
+    return b"" if word == "-" else bytes.fromhex(word)
+
+
+def numbers_of(word):
+    return [] if word == "-" else [int(number) for number in word.split(",")]
+
+
+def answer(line):
+    """The answer to one line."""
+    kind, *words = line.split(" ")
+    try:
+        if kind == "block":
+            return answer_block(octets_of(*words))
+        if kind == "recording":
+            return "ok %d %d" % read_recording(octets_of(*words))
+        if kind == "read":
+            return answer_read(int(words[0]), int(words[1]), octets_of(words[2]))
+        if kind == "write":
+            return answer_write(int(words[0]), int(words[1]), int(words[2]), numbers_of(words[3]))
+        if kind == "add":
+            return answer_add(octets_of(words[0]), int(words[1]), set(numbers_of(words[2])), octets_of(words[3]))
+        if kind == "find":
+            return answer_find(octets_of(words[0]), int(words[1]), int(words[2]))
+        if kind == "record":
+            return answer_record(octets_of(words[0]), int(words[1]))
+    except Refused as fault:
+        return fault.line()
+    return "bad line"
+
+
+if __name__ == "__main__":
+    for question in sys.stdin:
+        print(answer(question.rstrip("\n")))

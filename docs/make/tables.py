@@ -1,0 +1,491 @@
+"""The tables of categories 017 and 018, set down a second time.
+
+Category 017 is "Mode S Surveillance Coordination Function Messages", edition 1.3 (document 000);
+category 018 is "Mode S Datalink Function Messages", edition 1.6 (document 002). Section numbers
+are those documents' own. Copied by hand from the documents, from document 01 and from
+docs/DECISIONS.md (whose rows R1 to R11 are cited here), and from nothing else: crates/rules was not
+read for it. So a slip in either transcription shows as a difference in compare.py.
+
+In order: what a row is; the items of 017 and 018 (5.2); the profiles (5.3.1); the message types
+(5.2.1 and 5.3.2); the cells that depend on more than the message type; what must hold of it all.
+
+Field bits are numbered as the documents do, the highest first: "48/25" is bits 48 down to 25. A
+list's bits are those of one part, an extended item's those of one octet.
+"""
+
+from collections import namedtuple
+
+# ---- what a row is
+
+UNSIGNED, SIGNED, SPARE, FX = "unsigned", "signed", "spare", "fx"
+
+# One field: least and greatest are the values it may have, says is what they mean.
+Field = namedtuple("Field", "name bits width kind unit least greatest says")
+
+# One item. form is fixed, list, led or extended; octets is the size of one part; least and greatest
+# say how many parts there may be (fixed: one; list: what the count octet may say; led: content
+# octets; extended: octets). parts holds the fields of each part that is printed.
+Item = namedtuple("Item", "reference section title form octets least greatest parts note")
+
+# One row of a profile: no reference where the FRN is unusable.
+Place = namedtuple("Place", "frn reference says")
+
+# One message type: the items that it must send, and those that it may send, in profile order.
+Message = namedtuple("Message", "number name compulsory optional")
+
+# A cell that depends on more than the message type, as printed in the table, and the ground.
+Cell = namedtuple("Cell", "number reference printed ground")
+
+# A category: octets is the most that an FSPEC has.
+Category = namedtuple("Category", "number document edition octets items profile messages cells note")
+
+
+def unsigned(name, bits, width, unit="", says="", least=0, greatest=None):
+    top = 2 ** width - 1 if greatest is None else greatest
+    return Field(name, bits, width, UNSIGNED, unit, least, top, says)
+
+
+def signed(name, bits, width, unit, says, least, greatest):
+    return Field(name, bits, width, SIGNED, unit, least, greatest, says)
+
+
+def spare(bits, width):
+    return Field("spare", bits, width, SPARE, "", 0, 0, "zero")
+
+
+FX_BIT = Field("FX", "1", 1, FX, "", 0, 1, "1: another octet follows")
+
+
+def fixed(reference, section, title, octets, *fields, note=""):
+    return Item(reference, section, title, "fixed", octets, 1, 1, [list(fields)], note)
+
+
+def repeated(reference, section, title, octets, least, *fields, note=""):
+    return Item(reference, section, title, "list", octets, least, 255, [list(fields)], note)
+
+
+def led(reference, section, title, least, greatest, note=""):
+    content = unsigned("content", "8/1", 8, says="one octet of the packet")
+    return Item(reference, section, title, "led", 1, least, greatest, [[content]], note)
+
+
+def extended(reference, section, title, *parts, note=""):
+    return Item(reference, section, title, "extended", 1, 1, len(parts), [list(p) for p in parts], note)
+
+
+LOST = "The figure is lost; the width is that of the format line and the profile (R8)."
+DAY = 24 * 3600 * 128 - 1  # 11,059,199: the last 1/128 s of a day
+
+# ---- 5.2 of category 017
+
+ITEMS_017 = [
+    fixed("000", "5.2.1", "Message Type", 1,
+          unsigned("type", "8/1", 8, says="a decimal number; those known are in MESSAGES.md")),
+    fixed("010", "5.2.2", "Data Source Identifier", 2,
+          unsigned("SAC", "16/9", 8, says="system area code"),
+          unsigned("SIC", "8/1", 8, says="system identity code")),
+    fixed("012", "5.2.3", "Data Destination Identifier", 2,
+          unsigned("SAC", "16/9", 8, says="system area code"),
+          unsigned("SIC", "8/1", 8, says="system identity code")),
+    fixed("045", "5.2.4", "Calculated Position in WGS-84 Coordinates", 6,
+          signed("latitude", "48/25", 24, "180/2^23 degree", "−90 degrees up to, not with, 90", -4194304, 4194303),
+          signed("longitude", "24/1", 24, "180/2^23 degree", "−180 degrees up to, not with, 180", -8388608, 8388607)),
+    fixed("050", "5.2.5", "Flight Level in Binary Representation", 2,
+          unsigned("V", "16", 1, says="1: code not validated"),
+          unsigned("G", "15", 1, says="1: garbled code, or error correction applied"),
+          signed("altitude", "14/1", 14, "25 ft", "a quarter of a flight level", -8192, 8191),
+          note="The altitude is two's complement (R7)."),
+    fixed("070", "5.2.6", "Mode 3/A Code in Octal Representation", 2,
+          unsigned("V", "16", 1, says="1: code not validated"),
+          unsigned("G", "15", 1, says="1: garbled code"),
+          unsigned("L", "14", 1, says="1: smoothed, not from the last scan"),
+          spare("13", 1),
+          unsigned("code", "12/1", 12, says="four octal digits A, B, C, D, as one number (R9)")),
+    fixed("140", "5.2.7", "Time of Day", 3,
+          unsigned("time", "24/1", 24, "1/128 s", "since midnight, UTC", greatest=DAY),
+          note=LOST),
+    fixed("200", "5.2.8", "Track Velocity in Polar Co-ordinates", 4,
+          unsigned("speed", "32/17", 16, "2^-14 NM/s", "ground speed"),
+          unsigned("heading", "16/1", 16, "360/2^16 degree", "from geographical north at the aircraft"),
+          note="The figure is lost; the two units place speed above heading (R8), and no range is left to enforce (R6)."),
+    repeated("210", "5.2.9", "Mode S Address List", 3, 0,
+             unsigned("address", "24/1", 24, says="Mode S address, A23 to A0"),
+             note="The empty list is its encoding rule's own (R4). " + LOST),
+    fixed("220", "5.2.10", "Aircraft Address", 3,
+          unsigned("address", "24/1", 24, says="Mode S address, A23 to A0"),
+          note=LOST),
+    fixed("221", "5.2.11", "Duplicate Address Reference Number (DRN)", 2,
+          unsigned("DRN", "16/1", 16, says="tells apart aircraft that share an address"),
+          note=LOST),
+    fixed("230", "5.2.12", "Transponder Capability", 1,
+          unsigned("CA", "8/6", 3, says="communications capability; 1 to 3 are reserved"),
+          spare("5/1", 5),
+          note="The figure gives bit 5 to SI, the list under it makes bits 5 to 1 spare; document 01 takes the list (R10)."),
+    fixed("240", "5.2.13", "Track Status", 1,
+          unsigned("CST", "8", 1, says="1: no measured position (coasted)"),
+          unsigned("FLT", "7", 1, says="1: predicted flight level"),
+          spare("6/1", 6),
+          note="The octet 00 is legal (R5)."),
+    repeated("350", "5.2.14", "Cluster Station/Node List", 2, 1,
+             unsigned("SAC", "16/9", 8, says="system area code"),
+             unsigned("SIC", "8/1", 8, says="system identification code")),
+    fixed("360", "5.2.15", "Cluster Controller Command State", 1,
+          unsigned("state", "8/1", 8, says="number of the state to be selected")),
+]
+
+# ---- 5.2 of category 018
+
+ITEMS_018 = [
+    fixed("000", "5.2.1", "Message Type", 1,
+          unsigned("type", "8/1", 8, says="those known, in hexadecimal, are in MESSAGES.md"),
+          note=LOST),
+    fixed("001", "5.2.2", "Result", 1,
+          unsigned("CAUSE", "8/5", 4, says="0 accepted, 1 rejected, 2 cancelled, 3 finished, 4 delayed, 5 in progress, 6 invalid"),
+          unsigned("DIAG", "4/1", 4, says="what led to CAUSE; 0 is none")),
+    fixed("002", "5.2.3", "Time of Day", 3,
+          unsigned("time", "24/1", 24, "1/128 s", "since midnight, UTC", greatest=DAY),
+          note=LOST),
+    fixed("004", "5.2.4", "II Code", 1,
+          unsigned("former", "8/5", 4, says="former II code"),
+          unsigned("current", "4/1", 4, says="current II code")),
+    fixed("005", "5.2.5", "Mode S Address", 3,
+          unsigned("address", "24/1", 24, says="Mode S address, A23 to A0")),
+    repeated("006", "5.2.6", "Mode S Address List", 3, 1,
+             unsigned("address", "24/1", 24, says="Mode S address, A23 to A0")),
+    fixed("007", "5.2.7", "Aircraft Data Link Command", 1,
+          unsigned("UM", "8", 1, says="1: UC is taken into account"),
+          unsigned("DM", "7", 1, says="1: DC is taken into account"),
+          unsigned("UC", "6", 1, says="1: stop the uplink flow"),
+          unsigned("DC", "5", 1, says="1: stop the downlink flow"),
+          spare("4/1", 4)),
+    extended("008", "5.2.8", "Aircraft Data Link Status",
+             [unsigned("UDS", "8", 1, says="uplink default status, 1: disabled"),
+              unsigned("DDS", "7", 1, says="downlink default status, 1: disabled"),
+              unsigned("UCS", "6", 1, says="uplink current status, 1: disabled"),
+              unsigned("DCS", "5", 1, says="downlink current status, 1: disabled"),
+              spare("4/3", 2),
+              unsigned("EI", "2", 1, says="1: outside the data link coverage map"),
+              FX_BIT],
+             [unsigned("IC", "8", 1, says="1: UCS and DCS can't be changed by command"),
+              spare("7/2", 6),
+              FX_BIT]),
+    extended("009", "5.2.9", "Aircraft Data Link Report Request",
+             [unsigned("SR", "8", 1, says="1: I018/008 in the next report"),
+              unsigned("AR", "7", 1, says="1: I018/010 in the next report"),
+              unsigned("ER", "6", 1, says="1: I018/011 in the next report"),
+              unsigned("FR", "5", 1, says="1: I018/012 in the next report"),
+              unsigned("MR", "4", 1, says="1: I018/013 in the next report"),
+              unsigned("PR", "3", 1, says="1: I018/014 in the next report"),
+              unsigned("CR", "2", 1, says="1: I018/015 in the next report"),
+              FX_BIT],
+             [unsigned("ID", "8", 1, says="1: I018/031 in the next report"),
+              unsigned("MA", "7", 1, says="1: I018/032 in the next report"),
+              unsigned("SP", "6", 1, says="1: I018/034 in the next report"),
+              unsigned("HG", "5", 1, says="1: I018/033 in the next report"),
+              unsigned("HD", "4", 1, says="1: I018/035 in the next report"),
+              spare("3/2", 2),
+              FX_BIT]),
+    fixed("010", "5.2.10", "Transponder Communications Capability", 1,
+          spare("8/4", 5),
+          unsigned("COM", "3/1", 3, says="0 surveillance only, up to 4; 5 to 7 aren't assigned")),
+    fixed("011", "5.2.11", "Capability Report", 7,
+          unsigned("report", "56/1", 56, says="as the Mode S subnetwork SARPs have it, one number (R9)")),
+    fixed("012", "5.2.12", "Aircraft Coverage Quality Factor", 1,
+          unsigned("FS", "8", 1, says="1: on the ground"),
+          unsigned("CQF", "7/1", 7, says="1 least to 126 greatest; 0 not supported, 127 undefined")),
+    fixed("013", "5.2.13", "Aircraft CQF Calculation Method", 1,
+          unsigned("method", "8/1", 8, says="number of the method"),
+          note=LOST),
+    fixed("014", "5.2.14", "Aircraft Position in Polar Co-ordinates", 4,
+          unsigned("RHO", "32/17", 16, "1/256 NM", "range"),
+          unsigned("THETA", "16/1", 16, "360/2^16 degree", "azimuth"),
+          note="\"Max. range\" bars no number (R6)."),
+    fixed("015", "5.2.15", "Aircraft Position in Cartesian Co-ordinates", 4,
+          signed("X", "32/17", 16, "1/128 NM", "", -32768, 32767),
+          signed("Y", "16/1", 16, "1/128 NM", "", -32768, 32767),
+          note="\"Max. range\" bars no number (R6)."),
+    fixed("016", "5.2.16", "Packet Number", 4,
+          unsigned("number", "32/1", 32, says="of an uplink packet"),
+          note=LOST),
+    repeated("017", "5.2.17", "Packet Number List", 4, 1,
+             unsigned("number", "32/1", 32, says="of an uplink packet"),
+             note=LOST),
+    fixed("018", "5.2.18", "Mode S Packet Properties", 1,
+          spare("8", 1),
+          unsigned("PR", "7/3", 5, says="priority, 0 lowest"),
+          unsigned("PT", "2/1", 2, says="0 SVC, 1 MSP, 2 route")),
+    led("019", "5.2.19", "Mode S Packet", 2, 254,
+        note="Section 5.2.19 is missing; the profile prints \"3+\", so the length octet is 3 to 255 (R2)."),
+    fixed("020", "5.2.20", "Broadcast Number", 4,
+          unsigned("number", "32/1", 32, says="of an uplink broadcast"),
+          note=LOST),
+    fixed("021", "5.2.21", "Broadcast Properties", 6,
+          unsigned("priority", "48/45", 4, says="0 lowest"),
+          unsigned("power", "44/41", 4, says="0 lowest"),
+          unsigned("duration", "40/33", 8, "s"),
+          unsigned("coverage", "32/1", 32, says="bit i: send on sector i, as one number (R9)")),
+    fixed("022", "5.2.22", "Broadcast Prefix", 4,
+          spare("32/28", 5),
+          unsigned("prefix", "27/1", 27, says="what follows UF in the broadcast")),
+    fixed("023", "5.2.23", "Uplink or Downlink Broadcast", 7,
+          unsigned("broadcast", "56/1", 56, says="MA or MB field, one number (R9)")),
+    fixed("025", "5.2.24", "GICB Number", 4,
+          unsigned("number", "32/1", 32, says="of a GICB request")),
+    fixed("027", "5.2.25", "BDS Code", 1,
+          unsigned("BDS", "8/1", 8, says="register of the transponder"),
+          note=LOST),
+    fixed("028", "5.2.26", "GICB Extraction Periodicity", 2,
+          unsigned("seconds", "16/1", 16, "s", "0: the smallest there is"),
+          note=LOST),
+    fixed("029", "5.2.27", "GICB Extracted", 7,
+          unsigned("GICB", "56/1", 56, says="MB field, one number (R9)")),
+    fixed("030", "5.2.28", "GICB Properties", 2,
+          unsigned("priority", "16/12", 5, says="0 lowest"),
+          spare("11/9", 3),
+          unsigned("PC", "8", 1, says="1: keep strictly to the periodicity"),
+          unsigned("AU", "7", 1, says="1: send updates out of turn too"),
+          unsigned("NE", "6", 1, says="1: no extraction is attempted"),
+          unsigned("RD", "5/4", 2, says="reply goes to 0 data link, 1 surveillance, 2 both"),
+          spare("3/1", 3)),
+    fixed("031", "5.2.29", "Aircraft Identity", 6,
+          unsigned("identity", "48/1", 48, says="eight characters of BDS 20, one number (R9)"),
+          note=LOST),
+    fixed("032", "5.2.30", "Aircraft Mode A", 2,
+          unsigned("V", "16", 1, says="1: code not validated"),
+          unsigned("G", "15", 1, says="1: garbled code"),
+          unsigned("L", "14", 1, says="1: not from the last scan"),
+          spare("13", 1),
+          unsigned("code", "12/1", 12, says="four octal digits A, B, C, D, as one number (R9)")),
+    fixed("033", "5.2.31", "Aircraft Height", 2,
+          unsigned("V", "16", 1, says="1: code not validated"),
+          unsigned("G", "15", 1, says="1: garbled code"),
+          signed("level", "14/1", 14, "25 ft", "a quarter of a flight level", -8192, 8191),
+          note="The level is two's complement (R7)."),
+    fixed("034", "5.2.32", "Aircraft Speed", 2,
+          unsigned("speed", "16/1", 16, "2^-14 NM/s", "at most 2 NM/s (R6)", greatest=32768)),
+    fixed("035", "5.2.33", "Aircraft Heading", 2,
+          unsigned("heading", "16/1", 16, "360/2^16 degree", "clockwise from geographical north")),
+    fixed("036", "5.2.34", "Data Source Identifier", 2,
+          unsigned("SAC", "16/9", 8, says="system area code"),
+          unsigned("SIC", "8/1", 8, says="system identity code")),
+    fixed("037", "5.2.35", "Data Destination Identifier", 2,
+          unsigned("SAC", "16/9", 8, says="system area code"),
+          unsigned("SIC", "8/1", 8, says="system identity code")),
+]
+
+# ---- 5.3.1 of category 017, table 2
+
+PROFILE_017 = [
+    Place(1, "010", ""),
+    Place(2, "012", ""),
+    Place(3, "000", ""),
+    Place(4, "350", ""),
+    Place(5, "220", ""),
+    Place(6, "221", ""),
+    Place(7, "140", ""),
+    Place(8, "045", ""),
+    Place(9, "070", ""),
+    Place(10, "050", ""),
+    Place(11, "200", ""),
+    Place(12, "230", ""),
+    Place(13, "240", ""),
+    Place(14, "210", ""),
+    Place(15, "360", ""),
+    Place(16, None, "spare"),
+    Place(17, None, "spare"),
+    Place(18, None, "spare"),
+    Place(19, None, "spare"),
+    Place(20, None, "spare"),
+    Place(21, None, "reserved for special purpose"),
+]
+
+# ---- 5.3.1 of category 018, table 9
+
+PROFILE_018 = [
+    Place(1, "036", ""),
+    Place(2, "037", ""),
+    Place(3, "000", ""),
+    Place(4, "001", ""),
+    Place(5, "005", ""),
+    Place(6, "016", ""),
+    Place(7, "017", ""),
+    Place(8, "018", ""),
+    Place(9, "019", ""),
+    Place(10, "028", ""),
+    Place(11, "030", ""),
+    Place(12, "025", ""),
+    Place(13, "027", ""),
+    Place(14, "029", ""),
+    Place(15, "002", ""),
+    Place(16, "006", ""),
+    Place(17, "007", ""),
+    Place(18, "008", ""),
+    Place(19, "009", ""),
+    Place(20, "010", ""),
+    Place(21, "011", ""),
+    Place(22, "014", ""),
+    Place(23, "015", ""),
+    Place(24, "020", ""),
+    Place(25, "021", ""),
+    Place(26, "022", ""),
+    Place(27, "023", ""),
+    Place(28, "004", ""),
+    Place(29, "031", ""),
+    Place(30, "032", ""),
+    Place(31, "033", ""),
+    Place(32, "034", ""),
+    Place(33, "035", ""),
+    Place(34, "012", ""),
+    Place(35, "013", ""),
+]
+
+# ---- 5.2.1 (numbers, names) and 5.3.2, table 3 (cells), of category 017
+
+MESSAGES_017 = [
+    Message(0, "Network information", "010 012 000 350", ""),
+    Message(10, "Track data", "010 012 000 220 140 045 070 050 200 230", "221 240"),
+    Message(20, "Track data request", "010 012 000 220", ""),
+    Message(21, "Track data stop", "010 012 000 220", ""),
+    Message(22, "Cancel track data request", "010 012 000 220", "221"),
+    Message(23, "Track data stop acknowledgement", "010 012 000 220", ""),
+    Message(30, "New Node / Change-over, initial or intermediate message segment", "010 012 000 210", ""),
+    Message(31, "New Node / Change-over, final or only message segment", "010 012 000 210", ""),
+    Message(32, "New Node / Change-over, initial or intermediate message segment reply", "010 012 000 210", ""),
+    Message(33, "New Node / Change-over, final or only message segment reply", "010 012 000 210", ""),
+    Message(110, "Move node to new cluster state", "010 012 000 360", ""),
+    Message(111, "Move node to new cluster state acknowledgement", "010 012 000 360", ""),
+]
+
+# ---- 5.2.1 (numbers, names) and 5.3.2 (cells) of category 018
+
+MESSAGES_018 = [
+    Message(0x00, "Associate_req", "036 037 000", "004"),
+    Message(0x01, "Associate_resp", "036 037 000 001", "004"),
+    Message(0x02, "Release_req", "036 037 000", ""),
+    Message(0x03, "Release_resp", "036 037 000 001", ""),
+    Message(0x04, "Abort_req", "036 037 000", "001"),
+    Message(0x05, "Keep_alive", "036 037 000", ""),
+    Message(0x10, "Aircraft_report", "036 037 000 005 008", "010 011 014 015 031 032 033 034 035 012 013"),
+    Message(0x11, "Aircraft_command", "036 037 000 005 007 009", "013"),
+    Message(0x12, "II_code_change", "036 037 000 004", ""),
+    Message(0x20, "Uplink_packet", "036 037 000 005 016 018 019", ""),
+    Message(0x21, "Cancel_uplink_packet", "036 037 000 005", "016"),
+    Message(0x22, "Uplink_packet_ack", "036 037 000 001 005", "017"),
+    Message(0x23, "Downlink_packet", "036 037 000 005 019", "001"),
+    Message(0x26, "Data_XON", "036 037 000 006", ""),
+    Message(0x27, "Data_XOFF", "036 037 000 006", ""),
+    Message(0x30, "Uplink_broadcast", "036 037 000 020 022 023", "021"),
+    Message(0x31, "Cancel_uplink_broadcast", "036 037 000", "020"),
+    Message(0x32, "Uplink_broadcast_ack", "036 037 000 001", "020"),
+    Message(0x34, "Downlink_broadcast", "036 037 000 005 002 023", ""),
+    Message(0x40, "GICB_extraction", "036 037 000 005 025 027", "028 030 002"),
+    Message(0x41, "Cancel_GICB_extraction", "036 037 000 005", "025"),
+    Message(0x42, "GICB_extraction_ack", "036 037 000 001 005", "025"),
+    Message(0x43, "GICB_response", "036 037 000 001 005 025 027 002", "029"),
+]
+
+# ---- cells that depend on more than the message type (each counts as optional)
+
+CELLS_017 = [
+    Cell(10, "221", "if needed", "5.2.11: only where the sender sees two or more aircraft with one address"),
+    Cell(22, "221", "if needed", "5.2.11: only where the track data that it cancels carried a DRN"),
+    Cell(10, "240", "*", "5.2.13: not sent where CST and FLT are both zero, so the cell depends on the track (R5)"),
+]
+
+CELLS_018 = [
+    Cell(0x00, "004", "O", "5.2.4: sent by the DLF only, so it depends on the sender, though the section calls it compulsory"),
+    Cell(0x01, "004", "O", "5.2.4: sent by the DLF only, so it depends on the sender, though the section calls it compulsory"),
+    Cell(0x04, "001", "O", "5.2.2: sent where timer T3 has expired"),
+    Cell(0x10, "010", "S", "5.2.10: on an aircraft's entry, or where AR asked for it"),
+    Cell(0x10, "011", "S", "5.2.11: on an aircraft's entry, or where ER asked for it"),
+    Cell(0x10, "012", "S", "5.2.12: where FR asked for it"),
+    Cell(0x10, "013", "S", "5.2.13: where MR asked for it"),
+    Cell(0x10, "014", "S", "5.2.14: where PR asked for it"),
+    Cell(0x10, "015", "S", "5.2.15: where CR asked for it"),
+    Cell(0x10, "031", "S", "5.2.29: where the last Aircraft_command for the aircraft asked for it (ID of I018/009)"),
+    Cell(0x10, "032", "S", "5.2.30: where MA asked for it"),
+    Cell(0x10, "033", "S", "5.2.9: where HG asked for it; 5.2.31: and a code is present that can be decoded"),
+    Cell(0x10, "034", "S", "5.2.32: where SP asked for it"),
+    Cell(0x10, "035", "S", "5.2.33: where HD asked for it"),
+    Cell(0x11, "013", "O", "5.2.13: where a method is to be selected"),
+    Cell(0x21, "016", "O", "5.2.16: where one request is cancelled, and not all of the aircraft's"),
+    Cell(0x22, "017", "O", "5.2.17: not where no packet was named and none is pending"),
+    Cell(0x23, "001", "O", "5.2.2: where the LV field is invalid"),
+    Cell(0x30, "021", "O", "5.2.21: the sender's choice"),
+    Cell(0x31, "020", "O", "5.2.20: where one broadcast is cancelled, and not all"),
+    Cell(0x32, "020", "O", "5.2.20: not where there was no valid broadcast to cancel"),
+    Cell(0x40, "002", "O", "5.2.3: where the request has an end time"),
+    Cell(0x40, "028", "O", "5.2.26: not where a single extraction is wanted"),
+    Cell(0x40, "030", "O", "5.2.28: not where its default properties will do"),
+    Cell(0x41, "025", "O", "5.2.24: where one request is cancelled, and not all of the aircraft's"),
+    Cell(0x42, "025", "O", "5.2.24: not where the cancellation that is answered named no number"),
+    Cell(0x43, "029", "O", "5.2.27: not where the extraction failed"),
+]
+
+CATEGORIES = {
+    17: Category(17, "000", "1.3", 3, ITEMS_017, PROFILE_017, MESSAGES_017, CELLS_017,
+                 "Table 2 and the sentence below it give the FSPEC three octets."),
+    18: Category(18, "002", "1.6", 5, ITEMS_018, PROFILE_018, MESSAGES_018, CELLS_018,
+                 "Table 9 gives the FSPEC five octets, the sentence below it six; the table is followed (R1)."),
+}
+
+
+# ---- what must hold of it all
+
+def items(category):
+    """The items of a category by reference."""
+    return {item.reference: item for item in category.items}
+
+
+def usable(category):
+    """FRN to reference, for the FRNs that have one."""
+    return {place.frn: place.reference for place in category.profile if place.reference}
+
+
+def message(category, number):
+    """The row of a message type, or None."""
+    return next((row for row in category.messages if row.number == number), None)
+
+
+def faults():
+    """What is wrong with the tables by themselves, as a list of sentences."""
+    said = []
+    for category in CATEGORIES.values():
+        known, places = items(category), usable(category)
+        for item in category.items:
+            name = "I%03d/%s" % (category.number, item.reference)
+            for part in item.parts:
+                above = 8 * item.octets
+                for field in part:
+                    high, low = [int(n) for n in (field.bits + "/" + field.bits).split("/")[:2]]
+                    if high != above or field.width != high - low + 1:
+                        said.append("%s: %s doesn't start at bit %d or is not %d wide" % (name, field.bits, above, field.width))
+                    above = low - 1
+                    half = 2 ** (field.width - 1)
+                    span = (-half, half - 1) if field.kind == SIGNED else (0, 2 * half - 1)
+                    if not span[0] <= field.least <= field.greatest <= span[1]:
+                        said.append("%s: %s has values that its bits don't" % (name, field.name))
+                if above != 0:
+                    said.append("%s: bits %d/1 have no field" % (name, above))
+        if [place.frn for place in category.profile] != list(range(1, 7 * category.octets + 1)):
+            said.append("%d: the profile doesn't fill its FSPEC octets" % category.number)
+        if sorted(places.values()) != sorted(known):
+            said.append("%d: profile and items differ" % category.number)
+        order = [reference for _, reference in sorted(places.items())]
+        optional = set()
+        for row in category.messages:
+            both = row.compulsory.split() + row.optional.split()
+            if len(set(both)) != len(both) or not set(both) <= set(order):
+                said.append("%d: message %d names an item twice or none" % (category.number, row.number))
+            for cells in (row.compulsory.split(), row.optional.split()):
+                if cells != [reference for reference in order if reference in cells]:
+                    said.append("%d: message %d is not in profile order" % (category.number, row.number))
+            optional |= {(row.number, reference) for reference in row.optional.split()}
+        if optional != {(cell.number, cell.reference) for cell in category.cells}:
+            said.append("%d: optional items and listed cells differ" % category.number)
+    return said
+
+
+if __name__ == "__main__":
+    for sentence in faults():
+        print(sentence)
