@@ -4,3 +4,4 @@ pub mod Turns
 pub mod OctetLaws
 pub mod PartLaws
 pub mod ShapeLaws
+pub mod ReadLaws
