@@ -5,3 +5,4 @@ pub mod OctetLaws
 pub mod PartLaws
 pub mod ShapeLaws
 pub mod ReadLaws
+pub mod CheckLaws

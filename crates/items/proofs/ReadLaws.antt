@@ -38,7 +38,7 @@ use Rattle.items.proofs.ShapeLaws.{Rowed, rowed, fixed-one, led-many, l
 
 -- ---- the fields of a group
 
-abbrev fieldsAt : ℕ → List Field
+abbrev pub fieldsAt : ℕ → List Field
 fieldsAt g = slice (groupAt g .1) (groupAt g .2) fields
 
 take-map : {A B : Type 0} (f : A → B) (k : ℕ) (l : List A) → take k (map f l) ≡ map f (take k l)
@@ -51,7 +51,7 @@ drop-map f zero l = refl
 drop-map f (suc k) [] = refl
 drop-map f (suc k) (a ∷ l) = drop-map f k l
 
-rows-map : (a e : ℕ) → rows a e ≡ map fieldRow (slice a e fields)
+pub rows-map : (a e : ℕ) → rows a e ≡ map fieldRow (slice a e fields)
 unfolding rows
 rows-map a e = ap (drop a) (take-map fieldRow e fields) ∙ drop-map fieldRow a (take e fields)
 
@@ -82,11 +82,11 @@ wide-fields : Wide fields
 unfolding isWide fields t.groups t.layouts categories category017 category018
 wide-fields = is-wide fields refl
 
-wide-slice : (a e : ℕ) → Wide (slice a e fields)
+pub wide-slice : (a e : ℕ) → Wide (slice a e fields)
 wide-slice a e = wide-drop a (take e fields) (wide-take e fields wide-fields)
 
 -- a part's number fits its fields
-part-small : (step g : ℕ) (bs : List ℕ) → Octets bs → PartSound step (groupAt g) → groupAt g .0 ≤ length bs → partAt step g bs < 2 ^ bits (fieldsAt g)
+pub part-small : (step g : ℕ) (bs : List ℕ) → Octets bs → PartSound step (groupAt g) → groupAt g .0 ≤ length bs → partAt step g bs < 2 ^ bits (fieldsAt g)
 part-small step g bs o s h =
     let l : length (take (groupAt g .0) bs) ≡ groupAt g .0 = length-take-le (groupAt g .0) bs h in
     let n : joined (take (groupAt g .0) bs) < 2 ^ (8 * groupAt g .0) =
@@ -118,7 +118,7 @@ Grouping step g zero gs = Unit {0}
 Grouping step g (suc c) [] = ⊥
 Grouping step g (suc c) (fs ∷ gs) = (fs ≡ fieldsAt g) × Grouping step (g + step) c gs
 
-octets-drop : (k : ℕ) (bs : List ℕ) → Octets bs → Octets (drop k bs)
+pub octets-drop : (k : ℕ) (bs : List ℕ) → Octets bs → Octets (drop k bs)
 octets-drop zero bs h = h
 octets-drop (suc k) [] h = tt
 octets-drop (suc k) (b ∷ bs) h = octets-drop k bs (h .1)

@@ -13,7 +13,7 @@ use native.Mathlib.Nat.{le-of-suc-le-suc, not-suc-le-zero, le-trans}
 use lib.Dec.{leb, ltb, eqb, lit≤}
 use lib.IntN.{pos}
 use lib.ListN.{length, getD, drop, replicate, drop-of-length-le, List·getD-map, List·getD-append, List·getD-eq-default, getD-replicate}
-use lib.Seq.{getD-append-add}
+use lib.Seq.{slice, getD-append-add}
 use borrow.Author.Tests.{ltb-true, leb-true, eqb-true, ne-eqb}
 use Rattle.rules.specs.Answer.{if_then_else_}
 use Rattle.rules.specs.Layout.{Group, Layout, concat}
@@ -26,7 +26,7 @@ use Rattle.rules.specs.Entry.{categories, profileAt, over, layoutAs, isItem}
 use Rattle.items.specs.declared.tables.GroupRow.{GroupRow}
 use Rattle.items.specs.declared.tables.LayoutRow.{LayoutRow}
 use Rattle.items.specs.declared.tables.PlaceRow.{PlaceRow}
-use Rattle.items.specs.Tables.{fields, fieldRow, fieldAt, groups, layouts, groupIs, groupRows, groupAt, layoutRows, layoutBy, layoutIs, layoutAt, nowhere, profileRows, placeRowAt, with, placeIs}
+use Rattle.items.specs.Tables.{fields, fieldRow, fieldAt, isFree, groups, layouts, groupIs, groupRows, groupAt, layoutRows, layoutBy, layoutIs, layoutAt, nowhere, profileRows, placeRowAt, with, placeIs}
 use Rattle.items.specs.Answers.{isNamed, frnAs}
 use Rattle.items.specs.Read.{rows, isSpare, holds, partsSound, rowSound}
 
@@ -43,6 +43,11 @@ places-tied = refl
 -- what holds of a whole table holds of each row
 at-row : {A B : Type 0} (f g : A → B) (l : List A) (i : ℕ) (d : A) → f d ≡ g d → map f l ≡ map g l → f (getD l i d) ≡ g (getD l i d)
 at-row f g l i d e h = sym (List·getD-map f l i d) ∙ ap (λ m. getD m i (f d)) h ∙ ap (getD (map g l) i) e ∙ List·getD-map g l i d
+
+in-row : {A B : Type 0} (f g : A → B) (l : List A) (i : ℕ) (d : A) → i < length l → map f l ≡ map g l → f (getD l i d) ≡ g (getD l i d)
+in-row f g [] i d k h = absurd (not-suc-le-zero k)
+in-row f g (a ∷ l) zero d k h = ap (λ m. getD m 0 (f a)) h
+in-row f g (a ∷ l) (suc i) d k h = in-row f g l i d (le-of-suc-le-suc k) (ap (drop 1) h)
 
 getD-over : {A : Type 0} (xs : List A) (n f : ℕ) (d : A) → length xs ≤ n → getD (over xs (replicate n d)) f d ≡ getD xs f d
 getD-over [] n f d h = all n f
@@ -150,6 +155,14 @@ field-wide i h = leb-true 1 (fieldAt i .0) (each (λ f. leb 1 (f .0)) (map field
 pub field-few : (i : ℕ) → i < 113 → fieldAt i .0 ≤ 62
 unfolding fieldAt fields groups layouts categories category017 category018
 field-few i h = leb-true (fieldAt i .0) 62 (each (λ f. leb (f .0) 62) (map fieldRow fields) (0, 0, pos 0, pos 0) refl i h)
+
+-- ---- groups
+
+-- a row says that its group is free where it is
+pub group-free : (g : ℕ) → g < 52 → groupAt g .4 ≡ isFree (slice (groupAt g .1) (groupAt g .2) fields)
+unfolding groupAt fields groups layouts categories category017 category018
+group-free g h =
+    in-row (λ r. r .4) (λ r. isFree (slice (r .1) (r .2) fields)) (groupRows 0 groups) g (0, 0, 0, 0, false) h refl
 
 -- ---- layouts
 

@@ -143,6 +143,12 @@ shapeBy (suc (suc (suc (suc k)))) lo hi a e bs = chain a (e - a) bs
 unfoldable pub shapeOf : LayoutRow → List ℕ → Answer Shaped
 shapeOf l bs = shapeBy (l .0) (l .1) (l .2) (l .3) (l .4) bs
 
+-- the shape of an item whose fields are legal
+unfoldable pub wholeOf : LayoutRow → List ℕ → Answer Shaped
+wholeOf l bs = do
+  s ← shapeOf l bs
+  need partsLegal (stepOf (l .0)) (l .3) (s .0) (drop (headOf (l .0)) bs) or 11 then ok s
+
 -- ---- an item by its row: its shape, then its fields
 
 abbrev pub readKind : ℕ → ℕ → ℕ → ℕ → ℕ → Read Values
