@@ -15,3 +15,5 @@ pub mod PartLaws
 pub mod ShapeLaws
 pub mod LayoutPlaces
 pub mod WriteItem
+pub mod ReadLaws
+pub mod CheckLaws
