@@ -17,3 +17,4 @@ pub mod LayoutPlaces
 pub mod WriteItem
 pub mod ReadLaws
 pub mod CheckLaws
+pub mod WriteTrip
