@@ -7,7 +7,7 @@ use mathlib.Core.Bool.{Bool, true, cond, false≢true}
 use mathlib.Core.Option.{Option, none, some}
 use mathlib.Core.List.{List, [], _∷_, _++_, map}
 use native.Mathlib.Omega.{arith}
-use native.Mathlib.Nat.{zero-add}
+use native.Mathlib.Nat.{zero-add, add-zero}
 use native.Mathlib.Numerals.{add-one}
 use borrow.Author.Tests.{eq-eqb, ne-eqb, lt-leb, le-leb}
 use lib.Dec.{leb, ltb, eqb}
@@ -51,8 +51,8 @@ module _ (i k : ℕ) {r : LayoutRow} (er : r ≡ layoutAt i) where
   head-none e d = not-list e ∙ ap (λ t. cond t (suc k ∷ []) []) (ne-eqb (layoutAt i .0) 3 (λ z. d (ap (λ x. x .0) er ∙ z)))
 
   -- the octet laid: the output has room for it, and it fits
-  pub list-laid : (out : List ℕ) {b : ℕ} → r .0 ≡ 2 → b ≡ k → set out 0 b ≡ sets out 0 (headAt i k)
-  list-laid out e d = rw (d, head-list e)
+  pub list-laid : (out : List ℕ) {b : ℕ} → r .0 ≡ 2 → b ≡ k + 0 → set out 0 b ≡ sets out 0 (headAt i k)
+  list-laid out e d = rw (d, add-zero k, head-list e)
 
   pub list-room : (out : List ℕ) → r .0 ≡ 2 → length (headAt i k) ≤ length out → 0 < length out
   list-room out e h = omega (arith, ap length (head-list e))

@@ -228,11 +228,12 @@ fn head_size(layout: usize) -> usize
     0
 }
 
-fn narrow(n: usize) -> u8
-    requires { ⌜ n ≤ 255 ⌝ }
-    ensures { λ r. ⌜ r ≡ n ⌝ }
+// The octet that counts so many parts, and itself where it is its own too.
+fn count_octet(parts: usize, own: usize) -> u8
+    requires { ⌜ parts + own ≤ 255 ⌝ }
+    ensures { λ r. ⌜ r ≡ parts + own ⌝ }
 {
-    n as u8
+    (parts + own) as u8
 }
 
 // The count or length octet before so many parts, at the start of the output.
@@ -243,11 +244,11 @@ fn lay_head(layout: usize, count: usize, out: &mut [u8])
 {
     let l = layout_at(layout);
     if l.0 == REPEATED {
-        out[0] = narrow(count);
+        out[0] = count_octet(count, 0);
         return;
     }
     if l.0 == LED {
-        out[0] = narrow(count + 1);
+        out[0] = count_octet(count, 1);
     }
 }
 
@@ -261,8 +262,8 @@ pub enum ItemWritten {
 
 // An item from its fields: 21 where the category has no such item, 11 where they are not the fields of one, 16 where the output has no room.
 pub fn write_item(category: u8, reference: u16, fields: &[i64], out: &mut [u8]) -> ItemWritten
-    ensures { λ r. ⌜ writtenAs r ≡ lengthOf (writeOne category reference (now (fields .entry)) (length (now (out .entry)))) ⌝ }
-    ensures { λ _. ⌜ now (out .exit) ≡ leaves (writeOne category reference (now (fields .entry)) (length (now (out .entry)))) (now (out .entry)) ⌝ }
+    ensures exact { λ r. ⌜ writtenAs r ≡ lengthOf (writeOne category reference (now (fields .entry)) (length (now (out .entry)))) ⌝ }
+    ensures output { λ _. ⌜ now (out .exit) ≡ leaves (writeOne category reference (now (fields .entry)) (length (now (out .entry)))) (now (out .entry)) ⌝ }
 {
     let layout = layout_of(category, reference);
     if layout == 0 {

@@ -10,8 +10,8 @@ use Rattle.items.proofs.write.lay_head.Tie as tie
 layout-at-requires : tie.Need-layout-at-requires
 layout-at-requires c κs = search needs
 
-narrow-requires : tie.Need-narrow-requires
-narrow-requires c κs =
+count-octet-requires : tie.Need-count-octet-requires
+count-octet-requires c κs =
     omega (arith, c .before .before .before .before .pre .0 .1, layout-row-is (c .before .before .before .before .args .layout) .sound .few)
 
 slice-write-out : tie.Need-slice-write-out
@@ -24,14 +24,10 @@ same-length c = search needs
 -- a list
 returns : tie.Need-returns
 returns c =
-    list-laid (c .before .before .before .before .before .args .layout) (c .before .before .before .before .before .args .count) (c .before .before .before .layout-at .ensures) (now (c .before .before .before .before .before .args .out)) (c .before .if1 .taken) (c .narrow .ensures)
+    list-laid (c .before .before .before .before .before .args .layout) (c .before .before .before .before .before .args .count) (c .before .before .before .layout-at .ensures) (now (c .before .before .before .before .before .args .out)) (c .before .if1 .taken) (c .count-octet .ensures)
 
-add-narrow : tie.Need-add-narrow
-add-narrow c =
-    omega (arith, c .before .before .before .before .before .before .pre .0 .1, head-led (c .before .before .before .before .before .before .args .layout) (c .before .before .before .before .before .before .args .count) (c .before .before .before .before .layout-at .ensures) (c .before .before .if1 .left) (c .if2 .taken) .1)
-
-narrow-requires-2 : tie.Need-narrow-requires-2
-narrow-requires-2 c κs =
+count-octet-requires-2 : tie.Need-count-octet-requires-2
+count-octet-requires-2 c κs =
     omega (arith, c .before .before .before .before .before .before .pre .0 .1, head-led (c .before .before .before .before .before .before .args .layout) (c .before .before .before .before .before .before .args .count) (c .before .before .before .before .layout-at .ensures) (c .before .before .if1 .left) (c .if2 .taken) .1)
 
 slice-write-out-2 : tie.Need-slice-write-out-2
@@ -44,7 +40,7 @@ same-length-2 c = search needs
 -- a led item
 returns-2 : tie.Need-returns-2
 returns-2 c =
-    led-laid (c .before .before .before .before .before .before .before .args .layout) (c .before .before .before .before .before .before .before .args .count) (c .before .before .before .before .before .layout-at .ensures) (now (c .before .before .before .before .before .before .before .args .out)) (c .before .before .before .if1 .left) (c .before .if2 .taken) (c .narrow2 .ensures)
+    led-laid (c .before .before .before .before .before .before .before .args .layout) (c .before .before .before .before .before .before .before .args .count) (c .before .before .before .before .before .layout-at .ensures) (now (c .before .before .before .before .before .before .before .args .out)) (c .before .before .before .if1 .left) (c .before .if2 .taken) (c .count-octet2 .ensures)
 
 -- neither
 returns-3 : tie.Need-returns-3
@@ -56,12 +52,11 @@ lay-head-spec =
     tie.close
     (tie.spec
     layout-at-requires
-    narrow-requires
+    count-octet-requires
     slice-write-out
     same-length
     returns
-    add-narrow
-    narrow-requires-2
+    count-octet-requires-2
     slice-write-out-2
     same-length-2
     returns-2
