@@ -36,7 +36,7 @@ layout-at-requires c κs = search needs
 -- 11: too few parts
 returns-3 : tie.Need-returns-3
 returns-3 c =
-    too-few (c .before .before .before .before .before .before .before .before .before .before .args .category) (c .before .before .before .before .before .before .before .before .before .before .args .reference) (c .before .before .before .before .before .before .before .before .layout-of .result) (now (c .before .before .before .before .before .before .before .before .before .before .args .fields)) (now (c .before .before .before .before .before .before .before .before .before .before .args .out)) (c .before .before .before .before .before .before .before .before .layout-of .ensures) (c .before .before .before .before .before .before .before .if1 .left) _ _ (sym (ap countedAs (c .before .before .before .before .count .given .1)) ∙ c .before .before .before .before .before .before .count-parts .ensures) (c .before .before .layout-at .ensures) (omega (arith, c .if2 .taken))
+    too-few (c .before .before .before .before .before .before .before .before .before .before .args .category) (c .before .before .before .before .before .before .before .before .before .before .args .reference) (c .before .before .before .before .before .before .before .before .layout-of .result) (now (c .before .before .before .before .before .before .before .before .before .before .args .fields)) (now (c .before .before .before .before .before .before .before .before .before .before .args .out)) (c .before .before .before .before .before .before .before .before .layout-of .ensures) (c .before .before .before .before .before .before .before .if1 .left) _ _ (sym (ap countedAs (c .before .before .before .before .count .given .1)) ∙ c .before .before .before .before .before .before .count-parts .ensures) (c .before .before .layout-at .ensures) (c .if2 .taken)
 
 head-size-requires : tie.Need-head-size-requires
 head-size-requires c κs = search needs
