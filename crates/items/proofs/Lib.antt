@@ -6,3 +6,4 @@ pub mod PartLaws
 pub mod ShapeLaws
 pub mod ReadLaws
 pub mod CheckLaws
+pub mod StoreLaws
