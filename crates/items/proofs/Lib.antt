@@ -18,3 +18,4 @@ pub mod WriteItem
 pub mod ReadLaws
 pub mod CheckLaws
 pub mod WriteTrip
+pub mod StoreLaws
