@@ -1,3 +1,4 @@
+pub mod Stores
 pub mod WriteRefusals
 pub mod WriteSound
 pub mod WriteFields

@@ -25,11 +25,12 @@ use Rattle.items.specs.declared.tables.LayoutRow.{LayoutRow}
 use Rattle.items.specs.Tables.{fields, groups, layouts, groupRows, groupAt, groupIs, layoutRows, layoutAt, layoutBy, layoutIs}
 use Rattle.items.specs.Write.{partsOf, chained, headOf, partsAt, chainedAt, headAt, groupIn, numbersOf, marked, laidParts, parts, countParts, layParts, lengthOf}
 use Rattle.items.proofs.TableLaws.{layout-none, layout-some}
+use Rattle.items.proofs.Stores.{sets-append, sets-over}
 use Rattle.items.proofs.WriteSound.{All, SoundGroup, Sound}
 use Rattle.items.proofs.WriteRefusals.{Eleven, done, not-done, eleven-bind, partsFrom-eleven, packAll-eleven}
 use Rattle.items.proofs.WriteTables.{layout-row-is}
 use Rattle.items.proofs.WriteLaid.{fields-laid, fit-length, numbers-fit}
-use Rattle.items.proofs.WriteTurns.{sets-append, length-octets}
+use Rattle.items.proofs.WriteTurns.{length-octets}
 
 -- ---- the head
 
@@ -137,20 +138,6 @@ written-by i l vs t =
     (λ ns. ap₂ (λ n h. need leb n (length ns) or 11 then ok (h ++ laidParts (chainedAt i) (partsAt i) ns)) (sym (t .least-is)) (sym (t .head-is (length ns))))
 
 -- ---- a refusal, and an item
-
-sets-suc : (vs l : List ℕ) (x i : ℕ) → sets (x ∷ l) (suc i) vs ≡ x ∷ sets l i vs
-sets-suc [] l x i = refl
-sets-suc (v ∷ vs) l x i = sets-suc vs (set l i v) x (suc i)
-
-sets-nil : (vs : List ℕ) (i : ℕ) → _≡_ {A = List ℕ} (sets [] i vs) []
-sets-nil [] i = refl
-sets-nil (v ∷ vs) i = sets-nil vs (suc i)
-
--- a list stored at the start
-sets-over : (vs l : List ℕ) → sets l 0 vs ≡ over vs l
-sets-over [] l = refl
-sets-over (v ∷ vs) [] = sets-nil vs 1
-sets-over (v ∷ vs) (x ∷ l) = sets-suc vs l v 0 ∙ ap (λ r. v ∷ r) (sets-over vs l)
 
 -- what the function answers and what the output then holds
 abbrev pub Answers : Answer ℕ → List ℕ → Answer (List ℕ) → List ℕ → Type 0
