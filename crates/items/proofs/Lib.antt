@@ -7,3 +7,4 @@ pub mod ShapeLaws
 pub mod ReadLaws
 pub mod CheckLaws
 pub mod StoreLaws
+pub mod OneLaws

@@ -101,14 +101,7 @@ fn put(f: FieldRow, v: i64, out: &mut [i64; 8192], at: usize) -> usize
 }
 
 // The values of the fields of a number of w bits, from a place of the output on; the place after them.
-pub fn fields_store(
-    n: u64,
-    w: u64,
-    a: usize,
-    e: usize,
-    out: &mut [i64; 8192],
-    at: usize,
-) -> usize
+pub fn fields_store(n: u64, w: u64, a: usize, e: usize, out: &mut [i64; 8192], at: usize) -> usize
     requires { ⌜ (e ≤ 113) × (w ≡ width (rows a e)) ⌝ }
     requires { ⌜ (w ≤ 64) × (n < 2 ^ w) ⌝ }
     requires { ⌜ at + count (rows a e) ≤ 8_192 ⌝ }

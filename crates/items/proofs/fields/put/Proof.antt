@@ -9,22 +9,25 @@ use Rattle.items.proofs.fields.put.Reads as reads
 use Rattle.items.proofs.fields.put.Lts as lts
 
 returns : tie.Need-returns
-returns c = 
+returns c =
     let s = c .before .before in
     put-spare (s .args .f) (s .args .v) (now (s .args .out)) (s .args .at) (spare-yes _ (c .if1 .taken))
+
 mul-v : tie.Need-mul-v
 mul-v c = search needs
 
 element-set-from-v : tie.Need-element-set-from-v
-element-set-from-v c = 
+element-set-from-v c =
     let s = c .before .before in
     omega (arith, takes-one (s .args .f) (spare-no _ (c .if1 .left)), s .pre)
+
 add-result : tie.Need-add-result
 add-result c = search needs
 
 returns-2 : tie.Need-returns-2
-returns-2 c = 
+returns-2 c =
     let s = c .before .before in
     put-value (s .args .f) (s .args .v) (now (s .args .out)) (s .args .at) (spare-no _ (c .if1 .left)) (s .fits .v)
+
 pub put-spec : {M : Type 1} → statement M
 put-spec = tie.close (tie.spec returns mul-v element-set-from-v add-result returns-2)
