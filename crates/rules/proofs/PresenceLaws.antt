@@ -20,18 +20,18 @@ use Rattle.rules.proofs.AnswerLaws.{refused-ok, ok-inj, bind-inv, bind-
 use Rattle.rules.proofs.LayoutLaws.{chain-laws}
 
 -- ---- flags
-flags-length : (k n : ℕ) → length (flags k n) ≡ k
+pub flags-length : (k n : ℕ) → length (flags k n) ≡ k
 unfolding flags
 flags-length zero n = refl
 flags-length (suc k) n = ap suc (flags-length k (n % 2 ^ k))
 
-number-lt : (ts : List Bool) → number ts < 2 ^ length ts
+pub number-lt : (ts : List Bool) → number ts < 2 ^ length ts
 unfolding number
 number-lt [] = omega arith
 number-lt (true ∷ ts) = rw (pow-suc 2 (length ts)) (omega (arith, number-lt ts))
 number-lt (false ∷ ts) = rw (pow-suc 2 (length ts)) (omega (arith, number-lt ts))
 
-flags-number : (ts : List Bool) → flags (length ts) (number ts) ≡ ts
+pub flags-number : (ts : List Bool) → flags (length ts) (number ts) ≡ ts
 unfolding flags number
 flags-number [] = refl
 flags-number (true ∷ ts) =
@@ -40,7 +40,7 @@ flags-number (true ∷ ts) =
 flags-number (false ∷ ts) =
     ap₂ _∷_ (lt-leb _ _ (number-lt ts)) (ap (flags (length ts)) (mod-eq-of-lt (number-lt ts)) ∙ flags-number ts)
 
-number-flags : (k n : ℕ) → n < 2 ^ k → number (flags k n) ≡ n
+pub number-flags : (k n : ℕ) → n < 2 ^ k → number (flags k n) ≡ n
 unfolding flags number
 number-flags zero n h = omega arith
 number-flags (suc k) n h = go (leb (2 ^ k) n) refl (number-flags k (n % 2 ^ k) (mod-lt n (pow-pos k)))
@@ -53,7 +53,7 @@ number-flags (suc k) n h = go (leb (2 ^ k) n) refl (number-flags k (n % 2 ^ k) (
     go false e ih = ih ∙ mod-eq-of-lt (leb-false _ _ e)
 
 -- ---- presence octets
-usable-length : {P : Type 0} (p : List (Option P)) (t : List Bool) → T (usable p t) → length t ≡ length p
+pub usable-length : {P : Type 0} (p : List (Option P)) (t : List Bool) → T (usable p t) → length t ≡ length p
 unfolding usable
 usable-length [] [] h = refl
 usable-length [] (t ∷ ts) h = absurd h
@@ -157,7 +157,7 @@ module _ {P X : Type 0} {readP : P → Read X} {writeP : P → Write X} (place-l
       rw (← ok-inj h₂, append-assoc b us rest)
       (bind-in _ (row-back p r b (us ++ rest) q) (bind-in _ (later-in _ (rows-back ps rs us rest k)) refl))
 
-  rows-forth : (ps : List (List (Option P))) (ts : List (List Bool)) (rs : List (List (Option X))) (bs rest : List ℕ) → Octets bs
+  pub rows-forth : (ps : List (List (Option P))) (ts : List (List Bool)) (rs : List (List (Option X))) (bs rest : List ℕ) → Octets bs
       → readRows readP ps ts bs ≡ ok (rs, rest) → Split (writeRows writeP ps) rs bs rest × (map (map present) rs ≡ ts)
   unfolding readRows writeRows
   rows-forth ps [] rs bs rest b h =
