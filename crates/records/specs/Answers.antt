@@ -12,6 +12,10 @@ use Rattle.records.specs.Sets.{categoryAt, bitsOf}
 use Rattle.records.specs.declared.ItemSet.{ItemSet}
 use Rattle.records.specs.declared.SetRead.{SetRead}
 use Rattle.records.specs.declared.SetRead.the-variants.{Items, Refused}
+use Rattle.records.specs.declared.messages.MessageRow.{MessageRow}
+use Rattle.records.specs.declared.messages.MessageRow.the-variants.{Known, Unknown}
+use Rattle.records.specs.declared.Judgement.{Judgement}
+use Rattle.records.specs.declared.Judgement.the-variants as judgement
 
 -- ---- the FSPEC
 
@@ -25,6 +29,17 @@ unfoldable pub setAt : ℕ → List ℕ → Answer (ℕ × ℕ)
 setAt i bs = do
   (ts, rest) ← readPresence 5 (categoryAt i .profile) bs
   ok (bitsOf (concat ts), length bs - length rest)
+
+-- ---- what the message type asks for
+
+-- the sets of a message type: what it must have, and what it must or may have
+abbrev pub rowOf : MessageRow → Answer (ℕ × ℕ)
+rowOf (Known must may) = ok (must, may)
+rowOf Unknown = refused 13 0
+
+abbrev pub judgedOf : Judgement → Answer (Unit {0})
+judgedOf judgement.Right = ok tt
+judgedOf (judgement.Refused n) = refused n 0
 
 -- ---- a record
 

@@ -88,12 +88,15 @@ rowAt i t = do
   m ← messageOf t (categoryAt i .messages)
   ok (markBits i (m .compulsory), markBits i (m .compulsory ++ m .optional))
 
--- 12, 13, 14, 15
-unfoldable pub judgeSet : ℕ → ℕ → ℕ → Answer ℕ
-judgeSet i bits kind = need getD (flags 64 bits) (typeFrn i) false or 12 then do
-  (must, may) ← rowAt i kind
-  need within (flags 64 must) (flags 64 bits) or 14 then
-      need within (flags 64 bits) (flags 64 may) or 15 then ok bits
+-- 14, 15
+abbrev pub judgeRow : ℕ → ℕ × ℕ → Answer (Unit {0})
+judgeRow bits row =
+    need within (flags 64 (row .0)) (flags 64 bits) or 14 then
+    need within (flags 64 bits) (flags 64 (row .1)) or 15 then ok tt
+
+-- 12, 13, 14, 15, of a set and the first octet of the message type item
+unfoldable pub judgeSet : ℕ → ℕ → ℕ → Answer (Unit {0})
+judgeSet i bits kind = need getD (flags 64 bits) (typeFrn i) false or 12 then (rowAt i kind >>= judgeRow bits)
 
 -- ---- a record
 

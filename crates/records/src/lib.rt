@@ -1,13 +1,17 @@
 // One record of categories 017 and 018: the set of its items, the row of its message type, its items end to end and the record map (document 01,
 // "Block, record, item" and "Refusal numbers and their order"). Profile 0 is category 017, edition 1.3; profile 1 is category 018, edition 1.6.
+mod messages;
+
+use messages::MessageRow;
+use messages::row_of;
 ghost use mathlib.Core.Path.{_≡_};
 ghost use mathlib.Core.Bool.{true, false};
 ghost use Prim.Native.Nat.{_+_, _-_, _*_, _/_, _^_, _<_, _≤_, min};
 ghost use lib.ListN.{length, getD, set};
 ghost use Rattle.rules.specs.Presence.{flags};
 ghost use Rattle.records.specs.Sets.{categoryAt, within};
-ghost use Rattle.records.specs.Walk.{usableBits, ended};
-ghost use Rattle.records.specs.Answers.{setOf, setAt};
+ghost use Rattle.records.specs.Walk.{usableBits, ended, typeFrn, judgeSet};
+ghost use Rattle.records.specs.Answers.{setOf, setAt, judgedOf};
 
 // A set of FRNs: FRN f, 0 to 63, is bit 63 - f. FRN 0 is none, and no profile has one above 35.
 pub struct ItemSet {
@@ -151,4 +155,46 @@ impl ItemSet {
         }
         SetRead::Refused { number: 6 }
     }
+}
+
+// ---- what the message type asks for
+
+// The FRN of the message type item, I017/000 or I018/000.
+fn type_frn(profile: usize) -> usize
+    ensures { λ r. ⌜ r ≡ typeFrn profile ⌝ }
+{
+    match profile {
+        0 => 3,
+        1 => 3,
+        _ => 0,
+    }
+}
+
+// Whether a record has the items that its message type asks for.
+enum Judgement {
+    Right,
+    // 12, 13, 14 or 15.
+    Refused { number: u8 },
+}
+
+// By the items of a record, and the first octet of its message type item.
+fn judge(profile: usize, items: ItemSet, kind: u8) -> Judgement
+    ensures { λ r. ⌜ judgedOf r ≡ judgeSet profile (items .bits) kind ⌝ }
+{
+    if !items.has(type_frn(profile)) {
+        return Judgement::Refused { number: 12 };
+    }
+    let row = row_of(profile, kind);
+    let MessageRow::Known(must, may) = row else {
+        return Judgement::Refused { number: 13 };
+    };
+    let compulsory = ItemSet { bits: must };
+    if !compulsory.is_within(items) {
+        return Judgement::Refused { number: 14 };
+    }
+    let sent = ItemSet { bits: may };
+    if !items.is_within(sent) {
+        return Judgement::Refused { number: 15 };
+    }
+    Judgement::Right
 }
