@@ -11,11 +11,11 @@ use mathlib.Core.List.{List, [], _∷_, _++_, map}
 use native.Mathlib.Omega.{arith}
 use native.Mathlib.Nat.{le-of-suc-le-suc, not-suc-le-zero, le-trans}
 use lib.Dec.{leb, ltb, eqb, lit≤}
+use lib.IntN.{pos}
 use lib.ListN.{length, getD, drop, replicate, drop-of-length-le, List·getD-map, List·getD-append, List·getD-eq-default, getD-replicate}
 use lib.Seq.{slice, getD-append-add}
 use borrow.Author.Tests.{ltb-true, leb-true, eqb-true, ne-eqb}
 use Rattle.rules.specs.Answer.{if_then_else_}
-use Rattle.rules.specs.Field.{Field, spare, value, unsigned, signed}
 use Rattle.rules.specs.Layout.{Group, Layout, concat}
 use Rattle.rules.proofs.AnswerLaws.{both-left, both-right, if-inv, if-true, if-false, some-inj, none-some}
 use Rattle.rules.specs.Presence.{present, placeAt}
@@ -26,9 +26,9 @@ use Rattle.rules.specs.Entry.{categories, profileAt, over, layoutAs, isItem}
 use Rattle.items.specs.declared.tables.GroupRow.{GroupRow}
 use Rattle.items.specs.declared.tables.LayoutRow.{LayoutRow}
 use Rattle.items.specs.declared.tables.PlaceRow.{PlaceRow}
-use Rattle.items.specs.Tables.{fields, groups, layouts, groupIs, groupRows, groupAt, layoutRows, layoutBy, layoutIs, layoutAt, nowhere, profileRows, placeRowAt, with, placeIs}
+use Rattle.items.specs.Tables.{fields, fieldRow, fieldAt, isFree, groups, layouts, groupIs, groupRows, groupAt, layoutRows, layoutBy, layoutIs, layoutAt, nowhere, profileRows, placeRowAt, with, placeIs}
 use Rattle.items.specs.Answers.{isNamed, frnAs}
-use Rattle.items.specs.Read.{rows, isSpare, span, holds, partsSound, stepOf}
+use Rattle.items.specs.Read.{rows, isSpare, holds, partsSound, rowSound}
 
 -- ---- places
 
@@ -43,6 +43,11 @@ places-tied = refl
 -- what holds of a whole table holds of each row
 at-row : {A B : Type 0} (f g : A → B) (l : List A) (i : ℕ) (d : A) → f d ≡ g d → map f l ≡ map g l → f (getD l i d) ≡ g (getD l i d)
 at-row f g l i d e h = sym (List·getD-map f l i d) ∙ ap (λ m. getD m i (f d)) h ∙ ap (getD (map g l) i) e ∙ List·getD-map g l i d
+
+in-row : {A B : Type 0} (f g : A → B) (l : List A) (i : ℕ) (d : A) → i < length l → map f l ≡ map g l → f (getD l i d) ≡ g (getD l i d)
+in-row f g [] i d k h = absurd (not-suc-le-zero k)
+in-row f g (a ∷ l) zero d k h = ap (λ m. getD m 0 (f a)) h
+in-row f g (a ∷ l) (suc i) d k h = in-row f g l i d (le-of-suc-le-suc k) (ap (drop 1) h)
 
 getD-over : {A : Type 0} (xs : List A) (n f : ℕ) (d : A) → length xs ≤ n → getD (over xs (replicate n d)) f d ≡ getD xs f d
 getD-over [] n f d h = all n f
@@ -137,6 +142,28 @@ each t [] d h i k = absurd (not-suc-le-zero k)
 each t (a ∷ l) d h zero k = both-left (t a) (every t l) h
 each t (a ∷ l) d h (suc i) k = each t l d (both-right (t a) (every t l) h) i (le-of-suc-le-suc k)
 
+-- ---- fields
+
+pub fields-long : length (map fieldRow fields) ≡ 113
+unfolding fields groups layouts categories category017 category018
+fields-long = refl
+
+pub field-wide : (i : ℕ) → i < 113 → 1 ≤ fieldAt i .0
+unfolding fieldAt fields groups layouts categories category017 category018
+field-wide i h = leb-true 1 (fieldAt i .0) (each (λ f. leb 1 (f .0)) (map fieldRow fields) (0, 0, pos 0, pos 0) refl i h)
+
+pub field-few : (i : ℕ) → i < 113 → fieldAt i .0 ≤ 62
+unfolding fieldAt fields groups layouts categories category017 category018
+field-few i h = leb-true (fieldAt i .0) 62 (each (λ f. leb (f .0) 62) (map fieldRow fields) (0, 0, pos 0, pos 0) refl i h)
+
+-- ---- groups
+
+-- a row says that its group is free where it is
+pub group-free : (g : ℕ) → g < 52 → groupAt g .4 ≡ isFree (slice (groupAt g .1) (groupAt g .2) fields)
+unfolding groupAt fields groups layouts categories category017 category018
+group-free g h =
+    in-row (λ r. r .4) (λ r. isFree (slice (r .1) (r .2) fields)) (groupRows 0 groups) g (0, 0, 0, 0, false) h refl
+
 -- ---- layouts
 
 no-layout : LayoutRow
@@ -151,27 +178,14 @@ pub layout-some : (j : ℕ) → j < 50 → present (layoutIs (layoutAt (suc j)))
 unfolding layoutIs layoutBy layoutAt groupAt fields groups layouts categories category017 category018 no-layout
 layout-some j h = each (λ l. present (layoutIs l)) (layoutRows 0 layouts) no-layout refl j h
 
-octet : List Field → Bool
-octet [] = false
-octet (spare w ∷ fs) = false
-octet (value w (unsigned lo hi) ∷ []) = eqb w 8 && eqb lo 0 && eqb hi 255
-octet (value w (unsigned lo hi) ∷ (f ∷ fs)) = false
-octet (value w (signed lo hi) ∷ fs) = false
+layout-sound-suc : (j : ℕ) → j < 50 → rowSound (layoutAt (suc j)) ≡ true
+unfolding partsSound holds rows rowSound isSpare layoutAt groupAt fields groups layouts categories category017 category018 no-layout
+layout-sound-suc j h = each rowSound (layoutRows 0 layouts) no-layout refl j h
 
-rowSoundBy : ℕ → ℕ → ℕ → ℕ → Bool
-rowSoundBy zero hi a e = true
-rowSoundBy (suc zero) hi a e = eqb hi 1
-rowSoundBy (suc (suc zero)) hi a e = true
-rowSoundBy (suc (suc (suc zero))) hi a e = eqb hi 254 && eqb (groupAt a .0) 1 && octet (slice (groupAt a .1) (groupAt a .2) fields)
-rowSoundBy (suc (suc (suc (suc k)))) hi a e = eqb k 0 && eqb hi (e - a) && leb e 52
-
-rowSound : LayoutRow → Bool
-rowSound l =
-    partsSound (stepOf (l .0)) (l .3) (l .2) && leb (holds (stepOf (l .0)) (l .3) (l .2)) 8_192 && rowSoundBy (l .0) (l .2) (l .3) (l .4)
-
-layout-sound : (j : ℕ) → j < 50 → rowSound (layoutAt (suc j)) ≡ true
-unfolding partsSound holds span rows octet rowSoundBy rowSound isSpare layoutAt groupAt fields groups layouts categories category017 category018 no-layout
-layout-sound j h = each rowSound (layoutRows 0 layouts) no-layout refl j h
+pub layout-sound : (j : ℕ) → j < 51 → rowSound (layoutAt j) ≡ true
+unfolding partsSound holds rowSound layoutAt
+layout-sound zero h = refl
+layout-sound (suc j) h = layout-sound-suc j (le-of-suc-le-suc h)
 
 -- ---- the item of a place's row
 

@@ -8,8 +8,11 @@ use lib.IntN.{ℤ, pos, negsuc}
 use lib.Signed.{leZ}
 use lib.ListN.{length, take, drop, getD}
 use lib.Seq.{slice}
-use Rattle.rules.specs.Answer.{Answer, ok, refused, _>>=_, need_or_then_, if_then_else_}
-use Rattle.rules.specs.Layout.{joined}
+use Rattle.rules.specs.Answer.{Answer, ok, refused, _>>=_, need_or_then_, if_then_else_, Read}
+use Rattle.rules.specs.Field.{Field, spare, value, unsigned, signed}
+use Rattle.rules.specs.Layout.{Values, joined}
+use Rattle.items.specs.declared.parts.Shape.{Shape}
+use Rattle.items.specs.declared.parts.Shape.the-variants.{Parts, Refused}
 use Rattle.items.specs.declared.tables.FieldRow.{FieldRow}
 use Rattle.items.specs.declared.tables.GroupRow.{GroupRow}
 use Rattle.items.specs.declared.tables.LayoutRow.{LayoutRow}
@@ -98,6 +101,10 @@ partValues step g (suc c) bs = values (rowsAt g) (partAt step g bs) ∷ partValu
 abbrev pub Shaped : Type 0
 Shaped = ℕ × ℕ
 
+abbrev pub shapeIs : Shape → Answer Shaped
+shapeIs (Parts c n) = ok (c, n)
+shapeIs (Refused r) = refused r 0
+
 -- so many printed parts, the first by the group at a place: 9 where one is cut, 11 where FX asks for more
 unfoldable pub chain : ℕ → ℕ → List ℕ → Answer Shaped
 chain g zero bs = refused 11 0
@@ -114,15 +121,19 @@ headOf kind = cond (eqb kind 2) 1 (cond (eqb kind 3) 1 0)
 abbrev pub stepOf : ℕ → ℕ
 stepOf kind = cond (eqb kind 4) 1 0
 
+-- a list of c parts, from a least to a greatest number, in so many octets
+unfoldable pub listShape : ℕ → ℕ → ℕ → ℕ → ℕ → Answer Shaped
+listShape lo hi size c have =
+    need leb (1 + c * size) have or 9 then
+    need leb lo c or 11 then
+    need leb c hi or 11 then ok (c, 1 + c * size)
+
 -- by how the parts lie: 21 no item, 9 the count or length octet, 10 the length, 9 the body, 11 the count
 unfoldable pub shapeBy : ℕ → ℕ → ℕ → ℕ → ℕ → List ℕ → Answer Shaped
 shapeBy zero lo hi a e bs = refused 21 0
 shapeBy (suc zero) lo hi a e bs = need leb (groupAt a .0) (length bs) or 9 then ok (1, groupAt a .0)
 shapeBy (suc (suc zero)) lo hi a e bs =
-    need leb 1 (length bs) or 9 then
-    need leb (1 + getD bs 0 0 * groupAt a .0) (length bs) or 9 then
-    need leb lo (getD bs 0 0) or 11 then
-    need leb (getD bs 0 0) hi or 11 then ok (getD bs 0 0, 1 + getD bs 0 0 * groupAt a .0)
+    need leb 1 (length bs) or 9 then listShape lo hi (groupAt a .0) (getD bs 0 0) (length bs)
 shapeBy (suc (suc (suc zero))) lo hi a e bs =
     need leb 1 (length bs) or 9 then
     need ltb lo (getD bs 0 0) or 10 then
@@ -131,3 +142,41 @@ shapeBy (suc (suc (suc (suc k)))) lo hi a e bs = chain a (e - a) bs
 
 unfoldable pub shapeOf : LayoutRow → List ℕ → Answer Shaped
 shapeOf l bs = shapeBy (l .0) (l .1) (l .2) (l .3) (l .4) bs
+
+-- the shape of an item whose fields are legal
+unfoldable pub wholeOf : LayoutRow → List ℕ → Answer Shaped
+wholeOf l bs = do
+  s ← shapeOf l bs
+  need partsLegal (stepOf (l .0)) (l .3) (s .0) (drop (headOf (l .0)) bs) or 11 then ok s
+
+-- ---- an item by its row: its shape, then its fields
+
+abbrev pub readKind : ℕ → ℕ → ℕ → ℕ → ℕ → Read Values
+readKind k lo hi a e bs = do
+  (c, long) ← shapeBy k lo hi a e bs
+  need partsLegal (stepOf k) a c (drop (headOf k) bs) or 11 then ok (partValues (stepOf k) a c (drop (headOf k) bs), drop long bs)
+
+unfoldable pub readBy : LayoutRow → Read Values
+readBy l bs = readKind (l .0) (l .1) (l .2) (l .3) (l .4) bs
+
+-- ---- rows that the code can work with
+
+-- one octet of eight bits
+abbrev pub isOctet : List Field → Bool
+isOctet [] = false
+isOctet (spare w ∷ fs) = false
+isOctet (value w (unsigned lo hi) ∷ []) = eqb w 8 && eqb lo 0 && eqb hi 255
+isOctet (value w (unsigned lo hi) ∷ (f ∷ fs)) = false
+isOctet (value w (signed lo hi) ∷ fs) = false
+
+abbrev pub rowSoundBy : ℕ → ℕ → ℕ → ℕ → Bool
+rowSoundBy zero hi a e = true
+rowSoundBy (suc zero) hi a e = eqb hi 1
+rowSoundBy (suc (suc zero)) hi a e = leb 1 hi
+rowSoundBy (suc (suc (suc zero))) hi a e = eqb hi 254 && eqb (groupAt a .0) 1 && isOctet (slice (groupAt a .1) (groupAt a .2) fields)
+rowSoundBy (suc (suc (suc (suc k)))) hi a e = eqb k 0 && eqb (a + hi) e && leb e 52
+
+-- there is a sound group for each part that an item may have, and room for all their values
+unfoldable pub rowSound : LayoutRow → Bool
+rowSound l =
+    partsSound (stepOf (l .0)) (l .3) (l .2) && leb (holds (stepOf (l .0)) (l .3) (l .2)) 8_192 && rowSoundBy (l .0) (l .2) (l .3) (l .4)
