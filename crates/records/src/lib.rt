@@ -2,16 +2,20 @@
 // "Block, record, item" and "Refusal numbers and their order"). Profile 0 is category 017, edition 1.3; profile 1 is category 018, edition 1.6.
 mod messages;
 
+use items::ItemCheck;
+use items::check_item;
 use messages::MessageRow;
 use messages::row_of;
 ghost use mathlib.Core.Path.{_≡_};
 ghost use mathlib.Core.Bool.{true, false};
 ghost use Prim.Native.Nat.{_+_, _-_, _*_, _/_, _^_, _<_, _≤_, min};
 ghost use lib.ListN.{length, getD, set};
+ghost use lib.Dec.{eqb};
+ghost use Rattle.rules.specs.Answer.{if_then_else_};
 ghost use Rattle.rules.specs.Presence.{flags};
 ghost use Rattle.records.specs.Sets.{categoryAt, within};
-ghost use Rattle.records.specs.Walk.{usableBits, ended, typeFrn, judgeSet};
-ghost use Rattle.records.specs.Answers.{setOf, setAt, judgedOf};
+ghost use Rattle.records.specs.Walk.{usableBits, ended, typeFrn, judgeSet, walk, startAt};
+ghost use Rattle.records.specs.Answers.{setOf, setNumber, setAt, judgedOf, judgedNumber, itemNumber, itemPlace, endOf, cameOf, absent, checkedNumber, checkedPlace, Walked, recordAt};
 
 // A set of FRNs: FRN f, 0 to 63, is bit 63 - f. FRN 0 is none, and no profile has one above 35.
 pub struct ItemSet {
@@ -197,4 +201,202 @@ fn judge(profile: usize, items: ItemSet, kind: u8) -> Judgement
         return Judgement::Refused { number: 15 };
     }
     Judgement::Right
+}
+
+// The number of a refusal, and its place; 0 where there is none.
+fn item_number(c: ItemCheck) -> u8
+    ensures { λ r. ⌜ r ≡ itemNumber c ⌝ }
+{
+    match c {
+        ItemCheck::Whole(_) => 0,
+        ItemCheck::Refused { number, place: _ } => number,
+    }
+}
+
+fn item_place(c: ItemCheck) -> usize
+    ensures { λ r. ⌜ r ≡ itemPlace c ⌝ }
+{
+    match c {
+        ItemCheck::Whole(_) => 0,
+        ItemCheck::Refused { number: _, place } => place,
+    }
+}
+
+fn set_number(s: SetRead) -> u8
+    ensures { λ r. ⌜ r ≡ setNumber s ⌝ }
+{
+    match s {
+        SetRead::Items { set: _, octets: _ } => 0,
+        SetRead::Refused { number } => number,
+    }
+}
+
+fn judged_number(j: Judgement) -> u8
+    ensures { λ r. ⌜ r ≡ judgedNumber j ⌝ }
+{
+    match j {
+        Judgement::Right => 0,
+        Judgement::Refused { number } => number,
+    }
+}
+
+// ---- the items, and the record map
+
+// Where the item of each FRN starts, FRN 1 first, counted from the block's start, 0 where it is absent; the record's end, and how many items it has.
+pub struct RecordMap {
+    pub starts: [u16; 35],
+    pub end: usize,
+    pub count: usize,
+}
+
+impl RecordMap {
+    // Every place absent.
+    pub const ABSENT: RecordMap = RecordMap {
+        starts: [0; 35],
+        end: 0,
+        count: 0,
+    };
+}
+
+// What checking a record answers.
+pub enum RecordChecked {
+    // It is whole: where it ends.
+    Ends { end: usize },
+    // The number of the refusal and its place, counted from where the part's own place is.
+    Refused { number: u8, place: usize },
+}
+
+// The answer, and the map beside it: ABSENT on refusal.
+pub struct RecordWalked {
+    pub checked: RecordChecked,
+    pub map: RecordMap,
+}
+
+// How far a walk over items came: its answer, and beside it what a record needs.
+struct ItemsWalked {
+    checked: RecordChecked,
+    starts: [u16; 35],
+    count: usize,
+    kind: u8,
+}
+
+fn stopped(number: u8, place: usize) -> ItemsWalked
+    ensures { λ r. ⌜ r .checked ≡ RecordChecked.Refused number place ⌝ }
+{
+    ItemsWalked {
+        checked: RecordChecked::Refused { number, place },
+        starts: [0; 35],
+        count: 0,
+        kind: 0,
+    }
+}
+
+// The first octet of the message type item, once another item is read.
+fn type_octet(of: usize, frn: usize, kind: u8, item: &[u8]) -> u8
+    ensures { λ r. ⌜ r ≡ (if eqb frn of then getD (now (item .entry)) 0 0 else kind) ⌝ }
+{
+    if frn != of {
+        return kind;
+    }
+    if item.len() == 0 {
+        return 0;
+    }
+    item[0]
+}
+
+// The items of a set, one after the other: each takes the part that starts at its place and hands the remainder on.
+fn walk_items(profile: usize, set: ItemSet, part: &[u8], at: usize) -> ItemsWalked
+    requires { ⌜ set .bits < 2 ^ 63 ⌝ }
+    requires { ⌜ at + length (now part) < 2 ^ 63 ⌝ }
+    ensures { λ r. ⌜ cameOf r ≡ walk profile (flags 63 (set .bits)) 1 (now (part .entry)) (startAt at) ⌝ }
+{
+    let of = type_frn(profile);
+    let mut left = set.bits;
+    let mut bit: u64 = 0x4000_0000_0000_0000;
+    let mut frn: usize = 1;
+    let mut rest = part;
+    let mut here = at;
+    let mut count: usize = 0;
+    let mut starts = [0u16; 35];
+    let mut kind: u8 = 0;
+    while left != 0 {
+        if left < bit {
+            bit = bit / 2;
+            frn = frn + 1;
+            continue;
+        }
+        let c = check_item(profile, frn, rest);
+        let ItemCheck::Whole(n) = c else {
+            return stopped(item_number(c), here + item_place(c));
+        };
+        starts[frn - 1] = (here % 65536) as u16;
+        kind = type_octet(of, frn, kind, &rest[0..n]);
+        rest = &rest[n..];
+        here = here + n;
+        count = count + 1;
+        left = left - bit;
+        bit = bit / 2;
+        frn = frn + 1;
+    }
+    ItemsWalked {
+        checked: RecordChecked::Ends { end: here },
+        starts,
+        count,
+        kind,
+    }
+}
+
+// ---- a record
+
+fn refused(number: u8, place: usize) -> RecordWalked
+    ensures { λ r. ⌜ (r .checked ≡ RecordChecked.Refused number place) × (r .map ≡ absent) ⌝ }
+{
+    RecordWalked {
+        checked: RecordChecked::Refused { number, place },
+        map: RecordMap::ABSENT,
+    }
+}
+
+fn checked_number(c: RecordChecked) -> u8
+    ensures { λ r. ⌜ r ≡ checkedNumber c ⌝ }
+{
+    match c {
+        RecordChecked::Ends { end: _ } => 0,
+        RecordChecked::Refused { number, place: _ } => number,
+    }
+}
+
+fn checked_place(c: RecordChecked) -> usize
+    ensures { λ r. ⌜ r ≡ checkedPlace c ⌝ }
+{
+    match c {
+        RecordChecked::Ends { end: _ } => 0,
+        RecordChecked::Refused { number: _, place } => place,
+    }
+}
+
+// The record at the start of a part, which stands at a place. LEN has two octets, so every part of a block meets the bound.
+pub fn check_record(profile: usize, part: &[u8], at: usize) -> RecordWalked
+    requires { ⌜ at + length (now part) < 65536 ⌝ }
+    ensures { λ r. ⌜ Walked r (recordAt profile at (now (part .entry))) ⌝ }
+{
+    let s = ItemSet::from_octets(profile, part);
+    let SetRead::Items { set, octets } = s else {
+        return refused(set_number(s), at);
+    };
+    let w = walk_items(profile, set, &part[octets..], at + octets);
+    let c = w.checked;
+    let RecordChecked::Ends { end } = c else {
+        return refused(checked_number(c), checked_place(c));
+    };
+    let j = judge(profile, set, w.kind);
+    let Judgement::Right = j else {
+        return refused(judged_number(j), at);
+    };
+    let starts = w.starts;
+    let count = w.count;
+    RecordWalked {
+        checked: c,
+        map: RecordMap { starts, end, count },
+    }
 }
