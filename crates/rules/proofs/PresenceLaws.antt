@@ -124,7 +124,7 @@ module _ {P X : Type 0} {readP : P → Read X} {writeP : P → Write X} (place-l
       rw (← ok-inj h₂, append-assoc b us rest)
       (step-back (place-laws p) _ q (bind-in _ (later-in _ (row-back ps vs us rest r)) refl))
 
-  row-forth : (ps : List (Option P)) (ts : List Bool) (vs : List (Option X)) (bs rest : List ℕ) → Octets bs → readRow readP ps ts bs ≡ ok (vs, rest)
+  pub row-forth : (ps : List (Option P)) (ts : List Bool) (vs : List (Option X)) (bs rest : List ℕ) → Octets bs → readRow readP ps ts bs ≡ ok (vs, rest)
       → Split (writeRow writeP ps) vs bs rest × (map present vs ≡ ts)
   unfolding readRow writeRow
   row-forth [] [] vs bs rest b h =
