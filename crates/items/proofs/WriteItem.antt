@@ -55,14 +55,14 @@ module _ (i k : ℕ) {r : LayoutRow} (er : r ≡ layoutAt i) where
   pub list-laid : (out : List ℕ) {b : ℕ} → r .0 ≡ 2 → b ≡ k + 0 → set out 0 b ≡ sets out 0 (headAt i k)
   list-laid out e d = rw (d, add-zero k, head-list e)
 
-  pub list-room : (out : List ℕ) → r .0 ≡ 2 → length (headAt i k) ≤ length out → 0 < length out
-  list-room out e h = omega (arith, ap length (head-list e))
+  pub list-room : {n : ℕ} → r .0 ≡ 2 → length (headAt i k) ≤ n → 0 < n
+  list-room e h = omega (arith, ap length (head-list e))
 
   pub led-laid : (out : List ℕ) {b : ℕ} → (r .0 ≡ 2 → ⊥) → r .0 ≡ 3 → b ≡ k + 1 → set out 0 b ≡ sets out 0 (headAt i k)
   led-laid out e f d = rw (d, add-one k, head-led e f .0)
 
-  pub led-room : (out : List ℕ) → (r .0 ≡ 2 → ⊥) → r .0 ≡ 3 → length (headAt i k) ≤ length out → 0 < length out
-  led-room out e f h = omega (arith, ap length (head-led e f .0))
+  pub led-room : {n : ℕ} → (r .0 ≡ 2 → ⊥) → r .0 ≡ 3 → length (headAt i k) ≤ n → 0 < n
+  led-room e f h = omega (arith, ap length (head-led e f .0))
 
   pub none-laid : (out : List ℕ) → (r .0 ≡ 2 → ⊥) → (r .0 ≡ 3 → ⊥) → out ≡ sets out 0 (headAt i k)
   none-laid out e f = rw (head-none e f)

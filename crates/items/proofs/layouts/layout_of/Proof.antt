@@ -21,7 +21,8 @@ enum-told c = search needs
 -- no such item
 returns : tie.Need-returns
 returns c =
-    layout-missed (c .before .before .before .before .args .category) (c .before .before .before .before .args .reference) (c .before .before .before .profile-of .ensures) (sym (ap frnOf (c .enum-told .given .1)) ∙ c .before .before .frn-of .ensures)
+    layout-missed (c .before .before .before .before .args .category) (c .before .before .before .before .args .reference) (c .before .before .before .profile-of .ensures)
+    (sym (ap frnOf (c .enum-told .given .1)) ∙ c .before .before .frn-of .ensures)
 
 place-of-requires : tie.Need-place-of-requires
 place-of-requires c κs = search needs
@@ -29,7 +30,9 @@ place-of-requires c κs = search needs
 -- the item at the FRN found
 returns-2 : tie.Need-returns-2
 returns-2 c =
-    layout-found (c .before .before .before .before .before .before .args .category) (c .before .before .before .before .before .before .args .reference) _ (c .place-of .result) (c .before .before .before .before .before .profile-of .ensures) (sym (ap frnOf (c .before .before .frn .given .1)) ∙ c .before .before .before .before .frn-of .ensures) (c .place-of .ensures)
+    layout-found (c .before .before .before .before .before .before .args .category) (c .before .before .before .before .before .before .args .reference) _
+    (c .place-of .result) (c .before .before .before .before .before .profile-of .ensures)
+    (sym (ap frnOf (c .before .before .frn .given .1)) ∙ c .before .before .before .before .frn-of .ensures) (c .place-of .ensures)
 
 pub layout-of-spec : {M : Type 1} → statement M
 layout-of-spec =
