@@ -20,3 +20,4 @@ pub mod ReadLaws
 pub mod CheckLaws
 pub mod WriteTrip
 pub mod StoreLaws
+pub mod OneLaws

@@ -116,7 +116,7 @@ pub store-begun : (step group c₀ : ℕ) (s : List ℕ) (at : ℕ) (out₀ : Li
 store-begun step group c₀ s at out₀ h = record { sound = h; place = refl; room = zero-add _; same = refl }
 
 -- the first of the parts, and the others
-holds-cons : (step g k : ℕ) → 0 < k → holds step g k ≡ count (rowsAt g) + holds step (g + step) (k - 1)
+pub holds-cons : (step g k : ℕ) → 0 < k → holds step g k ≡ count (rowsAt g) + holds step (g + step) (k - 1)
 unfolding holds
 holds-cons step g zero h = absurd (not-suc-le-zero h)
 holds-cons step g (suc k) h = let e : suc k - 1 ≡ k = omega arith in rw e
@@ -176,3 +176,16 @@ unfolding partValues holds
 length-held step g zero bs = refl
 length-held step g (suc c) bs =
     rw (length-append (values (rowsAt g) (partAt step g bs)) (concat (partValues step (g + step) c (drop (groupAt g .0) bs))), length-values (rowsAt g) (partAt step g bs), length-held step (g + step) c (drop (groupAt g .0) bs))
+
+-- what storing an item asks, and gives, of the step and the head that were worked out
+module _ (st hd a c : ℕ) {step head : ℕ} (es : step ≡ st) (eh : head ≡ hd) where
+  pub store-asks : (n : ℕ) → step ≤ 1 → partsSound st a c ≡ true → hd + span st a c ≤ n → holds st a c ≤ 8_192
+      → ((step ≤ 1) × (partsSound step a c ≡ true) × (head + span step a c ≤ n)) × (holds step a c ≤ 8_192)
+  store-asks n one sound there room =
+      let e : span step a c ≡ span st a c = ap (λ x. span x a c) es in
+      ((one, ap (λ x. partsSound x a c) es ∙ sound, omega (arith, e, eh, there)), subst (λ x. holds x a c ≤ 8_192) (sym es) room)
+
+  pub store-gives : (bs : List ℕ) (old new : List ℤ) (q : ℕ) → (q ≡ holds step a c) × (new ≡ sets old 0 (concat (partValues step a c (drop head bs))))
+      → (q ≡ holds st a c) × (new ≡ sets old 0 (concat (partValues st a c (drop hd bs))))
+  store-gives bs old new q h =
+      (h .0 ∙ ap (λ x. holds x a c) es, h .1 ∙ ap (λ x. sets old 0 (concat (partValues x a c (drop head bs)))) es ∙ ap (λ x. sets old 0 (concat (partValues st a c (drop x bs)))) eh)
