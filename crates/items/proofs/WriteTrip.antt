@@ -12,7 +12,8 @@ use Rattle.rules.specs.Answer.{Answer, ok, refused, _>>=_}
 use Rattle.rules.specs.Entry.{readOne, writeOne, leaves}
 use Rattle.rules.proofs.AnswerLaws.{Octets, refused-ok, ok-inj, bind-elim, bind-in}
 use Rattle.rules.proofs.Demands.{demand-2, demand-2-output}
-use Rattle.items.specs.Write.{writtenAs, lengthOf}
+use Rattle.items.specs.Answers.{countOf}
+use Rattle.items.specs.Write.{writtenAs}
 use Rattle.items.specs.declared.write.ItemWritten.{ItemWritten}
 use Rattle.items.specs.declared.write.ItemWritten.the-variants.{Length, Refused}
 
@@ -20,7 +21,7 @@ use Rattle.items.specs.declared.write.ItemWritten.the-variants.{Length, 
 
 -- of the category, the reference, the fields and the output lent: the answer, and what the output then holds
 pub record Wrote (cat ref : ℕ) (fs : List ℤ) (out : List ℕ) (r : ItemWritten) (out′ : List ℕ) : Type 0 where
-  pub answer : writtenAs r ≡ lengthOf (writeOne cat ref fs (length out))
+  pub answer : writtenAs r ≡ countOf (writeOne cat ref fs (length out))
   pub output : out′ ≡ leaves (writeOne cat ref fs (length out)) out
 
 -- ---- no two results
@@ -45,7 +46,7 @@ pub record WroteItem (cat ref : ℕ) (fs : List ℤ) (out : List ℕ) (n : ℕ) 
   pub kept : drop n out′ ≡ drop n out
 
 pub read-write : (cat ref : ℕ) (fs : List ℤ) (out : List ℕ) (n : ℕ) (out′ : List ℕ) → Wrote cat ref fs out (Length n) out′ → WroteItem cat ref fs out n out′
-unfolding lengthOf
+unfolding countOf
 read-write cat ref fs out n out′ w =
     bind-elim _ _ (sym (w .answer)) λ bs p h.
     let e : length bs ≡ n = ok-inj h in
@@ -61,10 +62,10 @@ read-write cat ref fs out n out′ w =
 
 -- a refusal changes nothing
 pub write-refused : (cat ref : ℕ) (fs : List ℤ) (out : List ℕ) (n p : ℕ) (out′ : List ℕ) → Wrote cat ref fs out (Refused n p) out′ → out′ ≡ out
-unfolding lengthOf _>>=_
+unfolding countOf _>>=_
 write-refused cat ref fs out n p out′ w = w .output ∙ go (writeOne cat ref fs (length out)) (w .answer)
   where
-    go : (m : Answer (List ℕ)) → refused n p ≡ lengthOf m → leaves m out ≡ out
+    go : (m : Answer (List ℕ)) → refused n p ≡ countOf m → leaves m out ≡ out
     go (ok bs) e = refused-ok e
     go (refused m q) e = refl
 
@@ -72,7 +73,7 @@ write-refused cat ref fs out n p out′ w = w .output ∙ go (writeOne cat ref f
 
 pub write-read : (cat ref : ℕ) (bs : List ℕ) (fs : List ℤ) (out : List ℕ) (r : ItemWritten) (out′ : List ℕ)
     → Octets bs → readOne cat ref bs ≡ ok fs → length bs ≤ length out → Wrote cat ref fs out r out′ → (r ≡ Length (length bs)) × (out′ ≡ bs ++ drop (length bs) out)
-unfolding lengthOf
+unfolding countOf
 write-read cat ref bs fs out r out′ o h room w =
     let p : writeOne cat ref fs (length out) ≡ ok bs = demand-2 cat ref bs fs out .0 (o, h, room) in
     (written-inj r (Length (length bs)) (w .answer ∙ bind-in _ p refl), w .output ∙ demand-2-output cat ref bs fs out p)
