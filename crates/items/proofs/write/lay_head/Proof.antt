@@ -1,7 +1,6 @@
 -- `items::write::lay_head` meets its contract: a list's octet counts its parts, a led item's its own octet too. Assumes nothing.
 use native.Mathlib.Omega.{arith}
 use borrow.Author.Needs.{needs}
-use denote.Ref.{now}
 use Rattle.items.proofs.WriteTables.{layout-row-is}
 use Rattle.items.proofs.WriteItem.{list-room, list-laid, head-led, led-room, led-laid, none-laid}
 use Rattle.items.proofs.write.lay_head.Statement.{statement}
