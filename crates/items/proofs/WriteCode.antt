@@ -141,28 +141,34 @@ pub code-none : (i : ℕ) (vs : List ℤ) (at : ℕ) → length vs ≤ at → re
 unfolding codeFor
 code-none i vs at h = sym (ap (codeFor (fieldIn i)) (drop-of-length-le vs h))
 
-module _ (i : ℕ) (vs : List ℤ) (at : ℕ) (r : FieldRow) (er : r ≡ fieldAt i) (h : at < length vs) (fv : SFits w64 (getD vs at (pos 0))) where
+-- the value at a place, and the row of the field that it is for
+pub record Taken (i : ℕ) (vs : List ℤ) (at : ℕ) (r : FieldRow) : Type 0 where
+  pub row : r ≡ fieldAt i
+  pub there : at < length vs
+  pub fits : SFits w64 (getD vs at (pos 0))
+
+module _ {i : ℕ} {vs : List ℤ} {at : ℕ} {r : FieldRow} (t : Taken i vs at r) where
   code-is : codeFor (fieldIn i) (drop at vs) ≡ codeOf (widthOf (fieldIn i)) (kindOf (fieldIn i)) (getD vs at (pos 0))
   unfolding codeFor codeOf
-  code-is = ap (codeFor (fieldIn i)) (drop-cons vs at (pos 0) h)
+  code-is = ap (codeFor (fieldIn i)) (drop-cons vs at (pos 0) (t .there))
 
   width-is : r .0 ≡ widthOf (fieldIn i)
-  width-is = ap (λ x. x .0) (er ∙ field-row i) ∙ row-width (fieldIn i)
+  width-is = ap (λ x. x .0) (t .row ∙ field-row i) ∙ row-width (fieldIn i)
 
   low-is : r .2 ≡ lowOf (kindOf (fieldIn i))
-  low-is = ap (λ x. x .2) (er ∙ field-row i) ∙ row-low (fieldIn i)
+  low-is = ap (λ x. x .2) (t .row ∙ field-row i) ∙ row-low (fieldIn i)
 
   high-is : r .3 ≡ highOf (kindOf (fieldIn i))
-  high-is = ap (λ x. x .3) (er ∙ field-row i) ∙ row-high (fieldIn i)
+  high-is = ap (λ x. x .3) (t .row ∙ field-row i) ∙ row-high (fieldIn i)
 
   low-test : SFits w64 (r .2) → ltZ (getD vs at (pos 0)) (lowOf (kindOf (fieldIn i))) ≡ ltZ (again (getD vs at (pos 0))) (again (r .2))
-  low-test fl = ap (ltZ (getD vs at (pos 0))) (sym low-is) ∙ sym (lt-again (getD vs at (pos 0)) (r .2) fv fl)
+  low-test fl = ap (ltZ (getD vs at (pos 0))) (sym low-is) ∙ sym (lt-again (getD vs at (pos 0)) (r .2) (t .fits) fl)
 
   high-test : SFits w64 (r .3) → ltZ (highOf (kindOf (fieldIn i))) (getD vs at (pos 0)) ≡ ltZ (again (r .3)) (again (getD vs at (pos 0)))
-  high-test fh = ap (λ x. ltZ x (getD vs at (pos 0))) (sym high-is) ∙ sym (lt-again (r .3) (getD vs at (pos 0)) fh fv)
+  high-test fh = ap (λ x. ltZ x (getD vs at (pos 0))) (sym high-is) ∙ sym (lt-again (r .3) (getD vs at (pos 0)) fh (t .fits))
 
   zero-test : ltZ (getD vs at (pos 0)) (pos 0) ≡ ltZ (again (getD vs at (pos 0))) (pos 0)
-  zero-test = ap (λ x. ltZ x (pos 0)) (sym (toZ-ofZ w64 (getD vs at (pos 0)) fv))
+  zero-test = ap (λ x. ltZ x (pos 0)) (sym (toZ-ofZ w64 (getD vs at (pos 0)) (t .fits)))
 
   pub code-low : SFits w64 (r .2) → ltZ (again (getD vs at (pos 0))) (again (r .2)) ≡ true → refused 11 0 ≡ codeFor (fieldIn i) (drop at vs)
   code-low fl e = sym (code-is ∙ code-below _ _ _ (low-test fl ∙ e))
@@ -186,12 +192,12 @@ module _ (i : ℕ) (vs : List ℤ) (at : ℕ) (r : FieldRow) (er : r ≡ fieldAt
     code-neg {m} z em =
         let v = getD vs at (pos 0) in
         let (a, b) = code-minus (widthOf (fieldIn i)) (kindOf (fieldIn i)) v (held (fieldIn i) (field-in-sound i s)) (low-test fl ∙ l) (zero-test ∙ z) in
-        let e : m ≡ mag v = em ∙ ap mag (toZ-ofZ w64 v fv) in
+        let e : m ≡ mag v = em ∙ ap mag (toZ-ofZ w64 v (t .fits)) in
         rw (shifted, width-is, e) (omega arith, sym (code-is ∙ b))
 
     pub code-pos : {m : ℕ} → SFits w64 (r .3) → ltZ (again (r .3)) (again (getD vs at (pos 0))) ≡ false → ltZ (again (getD vs at (pos 0))) (pos 0) ≡ false → m ≡ mag (again (getD vs at (pos 0)))
         → ok m ≡ codeFor (fieldIn i) (drop at vs)
     code-pos {m} fh u z em =
         let v = getD vs at (pos 0) in
-        let e : m ≡ mag v = em ∙ ap mag (toZ-ofZ w64 v fv) in
+        let e : m ≡ mag v = em ∙ ap mag (toZ-ofZ w64 v (t .fits)) in
         rw e (sym (code-is ∙ code-plain (widthOf (fieldIn i)) (kindOf (fieldIn i)) v (held (fieldIn i) (field-in-sound i s)) (low-test fl ∙ l) (high-test fh ∙ u) (zero-test ∙ z)))
