@@ -21,6 +21,7 @@ use Rattle.rules.specs.Category017.{category017}
 use Rattle.rules.specs.Category018.{category018}
 use Rattle.rules.specs.Entry.{categories, layoutOf, writeOne, over, leaves}
 use Rattle.rules.proofs.AnswerLaws.{refused-ok, ok-inj, bind-elim, bind-in, bind-cong, octetsOf-ok}
+use Rattle.rules.proofs.LayoutLaws.{octets-length}
 use Rattle.items.specs.declared.tables.LayoutRow.{LayoutRow}
 use Rattle.items.specs.Tables.{fields, groups, layouts, groupRows, groupAt, groupIs, layoutRows, layoutAt, layoutBy, layoutIs}
 use Rattle.items.specs.Answers.{countOf}
@@ -31,7 +32,6 @@ use Rattle.items.proofs.WriteSound.{All, SoundGroup, Sound}
 use Rattle.items.proofs.WriteRefusals.{Eleven, done, not-done, eleven-bind, partsFrom-eleven, packAll-eleven}
 use Rattle.items.proofs.WriteTables.{layout-row-is}
 use Rattle.items.proofs.WriteLaid.{fields-laid, fit-length, numbers-fit}
-use Rattle.items.proofs.WriteTurns.{length-octets}
 
 -- ---- the head
 
@@ -205,7 +205,7 @@ laid-short fx [] ns s = omega arith
 laid-short fx (g ∷ gs) [] s = omega arith
 laid-short fx (g ∷ gs) (n ∷ ns) s =
     let o = octets (g .size) (marked fx (ltb 0 (length ns)) n) in
-    omega (arith, length-append o (laidParts fx gs ns), length-octets (g .size) (marked fx (ltb 0 (length ns)) n), s .0 .short, laid-short fx gs ns (s .1))
+    omega (arith, length-append o (laidParts fx gs ns), octets-length (g .size) (marked fx (ltb 0 (length ns)) n), s .0 .short, laid-short fx gs ns (s .1))
 
 -- what laying the parts that were counted asks
 module _ (i : ℕ) (vs : List ℤ) (k s : ℕ) (e : ok (parts k s) ≡ countParts (chainedAt i) (partsAt i) vs) where

@@ -7,35 +7,22 @@ use mathlib.Core.Path.{_≡_, refl, sym, ap, _∙_, subst}
 use mathlib.Core.Bool.{Bool, true, false}
 use mathlib.Core.List.{List, [], _∷_, _++_, map, append-nil}
 use native.Mathlib.Omega.{arith}
-use native.Mathlib.Nat.{lt-of-lt-of-le, mul-le-mul-right, pow-suc, div-one, add-zero}
+use native.Mathlib.Nat.{lt-of-lt-of-le, pow-suc, div-one, add-zero}
 use borrow.Author.Tests.{leb-true, lt-ltb}
-use lib.Arith.{digits-lt}
-use lib.Dec.{T, leb, ltb, eqb, ltb→lt, le→leb}
+use lib.Dec.{T, leb, ltb, eqb, le→leb}
 use lib.ListN.{length, replicate, length-replicate}
-use lib.Pow.{pow-pos, pow-add, pow-mono}
+use lib.Pow.{pow-add, pow-mono}
 use lib.IntN.{ℤ}
 use Rattle.rules.specs.Answer.{Answer, ok, refused, _>>=_, need_or_then_}
-use Rattle.rules.specs.Field.{Field, any, spare, value, bits, pack}
+use Rattle.rules.specs.Field.{any, bits}
 use Rattle.rules.specs.Layout.{Group, group, Layout, fixed, repeated, led, extended, Values, least, octets, writeNum, writeMany, writeChain, writeParts, packAll, writeFields}
-use Rattle.rules.proofs.AnswerLaws.{refused-ok, ok-inj, bind-in, bind-elim, need-elim, need-in}
+use Rattle.rules.proofs.AnswerLaws.{refused-ok, ok-inj, bind-in, bind-elim, need-in}
+use Rattle.rules.proofs.FieldLaws.{pack-lt}
 use Rattle.items.specs.Write.{partsOf, fieldsOf, numbersOf, chained, marked, laidParts, headOf}
 use Rattle.items.proofs.WriteSound.{All, SoundGroup, Sound, markBits}
 use Rattle.items.proofs.WriteFields.{fields-numbers}
 
 -- ---- numbers that fit
-
-pack-lt : (fs : List Field) (vs : List ℤ) (n : ℕ) → pack fs vs ≡ ok n → n < 2 ^ bits fs
-unfolding pack
-pack-lt [] [] n h = let e : 0 ≡ n = ok-inj h in omega arith
-pack-lt [] (v ∷ vs) n h = refused-ok h
-pack-lt (spare w ∷ fs) vs n h = rw pow-add (lt-of-lt-of-le (pack-lt fs vs n h) (omega (arith, mul-le-mul-right (2 ^ bits fs) (pow-pos w))))
-pack-lt (value w k ∷ fs) [] n h = refused-ok h
-pack-lt (value w k ∷ fs) (v ∷ vs) n h =
-    bind-elim _ _ h λ c p h₁.
-    need-elim _ _ _ h₁ λ q h₂.
-    bind-elim _ _ h₂ λ m r h₃.
-    let e : c * 2 ^ bits fs + m ≡ n = ok-inj h₃ in
-    rw (← e, pow-add 2 w (bits fs)) (digits-lt (ltb→lt _ _ q) (pack-lt fs vs m r))
 
 -- a number for each of the first groups, and it fits the bits
 abbrev pub Fit : List Group → List ℕ → Type 0

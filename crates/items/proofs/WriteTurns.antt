@@ -18,6 +18,7 @@ use Rattle.rules.specs.Answer.{Answer, ok, refused, _>>=_, octetsOf}
 use Rattle.rules.specs.Field.{Field, bits, arity}
 use Rattle.rules.specs.Layout.{Group, octets}
 use Rattle.rules.proofs.AnswerLaws.{refused-ok, ok-inj, bind-elim, bind-in, bind-cong, octetsOf-ok}
+use Rattle.rules.proofs.LayoutLaws.{octets-length}
 use Rattle.items.specs.Tables.{groupAt, layoutAt}
 use Rattle.items.specs.declared.tables.GroupRow.{GroupRow}
 use Rattle.items.specs.declared.tables.LayoutRow.{LayoutRow}
@@ -30,11 +31,6 @@ use Rattle.items.proofs.WriteFields.{packFirst-eleven, numbers-none, nu
 use Rattle.items.proofs.WriteLaid.{Fit, numbers-fit, part-lt, laid-none}
 
 -- ---- a part and those after it
-
-pub length-octets : (k n : ℕ) → length (octets k n) ≡ k
-unfolding octets
-length-octets zero n = refl
-length-octets (suc k) n = ap suc (length-octets k _)
 
 -- what a part's packing says of its number
 packed-ok : (fs : List Field) (vs : List ℤ) (p n k : ℕ) → ok (part n k) ≡ packFrom fs vs p → (packFirst fs (drop p vs) ≡ ok n) × (k ≡ p + arity fs)
@@ -99,7 +95,7 @@ more-cons fx g gs n k s (refused x y) = refl
 more-cons fx g gs n k s (ok ns) =
     let a : k + suc (length ns) ≡ k + 1 + length ns = omega arith in
     let o = octets (g .size) (marked fx (ltb 0 (length ns)) n) in
-    let b : s + length (o ++ laidParts fx gs ns) ≡ s + g .size + length (laidParts fx gs ns) = omega (arith, length-append o (laidParts fx gs ns), length-octets (g .size) (marked fx (ltb 0 (length ns)) n)) in
+    let b : s + length (o ++ laidParts fx gs ns) ≡ s + g .size + length (laidParts fx gs ns) = omega (arith, length-append o (laidParts fx gs ns), octets-length (g .size) (marked fx (ltb 0 (length ns)) n)) in
     ap₂ (λ x y. ok (parts x y)) a b
 
 more-none : (fx : Bool) (gs : List Group) (vs : List ℤ) → moreParts fx gs vs 0 0 ≡ countParts fx gs vs
@@ -271,7 +267,7 @@ module _ (l : ℕ) (vs : List ℤ) (count start : ℕ) (out₀ : List ℕ) (fx :
     length-is : length (laidParts (chainedAt l) (drop i (partsAt l)) (c .ns)) ≡ size + length (laidParts (chainedAt l) (drop (i + 1) (partsAt l)) ms)
     length-is =
         ap length whole-is ∙ length-append (octets size (marked fx (ltb (i + 1) count) n)) _
-        ∙ ap (λ x. x + length (laidParts (chainedAt l) (drop (i + 1) (partsAt l)) ms)) (length-octets size _)
+        ∙ ap (λ x. x + length (laidParts (chainedAt l) (drop (i + 1) (partsAt l)) ms)) (octets-length size _)
 
     place : Placed l vs count start out₀ fx out i p q n p′ size
     place =
@@ -292,7 +288,7 @@ module _ (l : ℕ) (vs : List ℤ) (count start : ℕ) (out₀ : List ℕ) (fx :
                 room = omega (arith, c .room, length-is);
                 same =
                     ap (λ x. sets x (q + size) rest) (eo ∙ ap (λ x. sets out q (octets size x)) em)
-                    ∙ ap (λ x. sets (sets out q o) (q + x) rest) (sym (length-octets size _))
+                    ∙ ap (λ x. sets (sets out q o) (q + x) rest) (sym (octets-length size _))
                     ∙ sym (sets-append o rest out q)
                     ∙ ap (sets out q) (sym whole-is)
                     ∙ c .same;
