@@ -45,11 +45,11 @@ octets-known (b ∷ bs) h = (h 0, octets-known bs (λ i. h (suc i)))
 -- ---- free groups
 
 -- any code is within the range of a free field
-free-unsigned : (w lo hi c : ℕ) → lo ≡ 0 → suc hi ≡ 2 ^ w → c < 2 ^ w → within (w, 0, pos lo, pos hi) (valueOf (w, 0, pos lo, pos hi) c) ≡ true
+pub free-unsigned : (w lo hi c : ℕ) → lo ≡ 0 → suc hi ≡ 2 ^ w → c < 2 ^ w → within (w, 0, pos lo, pos hi) (valueOf (w, 0, pos lo, pos hi) c) ≡ true
 unfolding within valueOf
 free-unsigned w lo hi c a b h = rw (a, leb·zero c) (le-leb c hi (omega arith))
 
-free-signed : (w lo hi c : ℕ) → 1 ≤ w → lo ≡ half w → suc hi ≡ half w → c < 2 ^ w → within (w, 1, minus lo, pos hi) (valueOf (w, 1, minus lo, pos hi) c) ≡ true
+pub free-signed : (w lo hi c : ℕ) → 1 ≤ w → lo ≡ half w → suc hi ≡ half w → c < 2 ^ w → within (w, 1, minus lo, pos hi) (valueOf (w, 1, minus lo, pos hi) c) ≡ true
 unfolding within valueOf twosOf
 free-signed w lo hi c o a b h = go (ltb c (half w)) refl
   where

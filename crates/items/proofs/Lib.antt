@@ -8,3 +8,4 @@ pub mod ReadLaws
 pub mod CheckLaws
 pub mod StoreLaws
 pub mod OneLaws
+pub mod RuleLaws

@@ -1,4 +1,5 @@
 // One item of categories 017 and 018: its layout by table.
+mod field_rules;
 mod fields;
 mod parts;
 mod tables;
