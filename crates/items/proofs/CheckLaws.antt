@@ -149,13 +149,13 @@ module _ (l : LayoutRow) (bs : List ℕ) where
         pub walk-equal : {h : ℕ} → h ≡ headOf (l .0) → Walk 0 h
         walk-equal eh = subst (Walk 0) (sym eh) (subst (λ x. Walk x (headOf (l .0))) no-step walk)
 
-        pub equal-free : {r : GroupRow} → r ≡ groupAt (l .3) → r .4 ≡ true → ok (c, long) ≡ wholeOf l bs
-        equal-free er f =
+        pub equal-free : {t : Bool} → t ≡ groupAt (l .3) .4 → t ≡ true → ok (c, long) ≡ wholeOf l bs
+        equal-free et f =
             let w : Walk 0 (headOf (l .0)) = walk-equal refl in
             whole-legal
             (ap (λ x. partsLegal x (l .3) c (drop (headOf (l .0)) bs)) no-step
             ∙ free-parts (l .3) c (drop (headOf (l .0)) bs) (octets-drop (headOf (l .0)) bs o) (w .sound) (omega (arith, w .there, length-drop (headOf (l .0)) bs))
-            (sym (group-free (l .3) (group-at .inside)) ∙ ap (λ (x : GroupRow). x .4) (sym er) ∙ f))
+            (sym (group-free (l .3) (group-at .inside)) ∙ sym et ∙ f))
 
         module _ {t : Bool} {h : ℕ} (eh : h ≡ headOf (l .0)) (et : t ≡ partsLegal 0 (l .3) c (drop h bs)) where
           legal-equal : partsLegal (stepOf (l .0)) (l .3) c (drop (headOf (l .0)) bs) ≡ t

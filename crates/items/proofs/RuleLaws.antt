@@ -11,21 +11,23 @@ use native.Mathlib.Nat.{mod-lt, mod-eq-of-lt, mod-eq-sub-mod, mod-add-mod, add-m
 use native.Mathlib.Numerals.{add-one}
 use lib.Dec.{leb, ltb, eqb, leb·suc-zero, eqb·suc-zero}
 use lib.IntN.{pos, negsuc}
-use lib.ListN.{length, getD, take, drop, List·getD-map, drop-of-length-le}
+use lib.ListN.{length, getD, take, drop, List·getD-map, drop-of-length-le, length-drop}
 use lib.Seq.{slice, slice-cons, length-take-le}
-use lib.Pow.{pow-pos, shr-le, field, mod-mod-pow}
+use lib.Pow.{pow-pos, pow-mono, shr-le, field, mod-mod-pow}
 use borrow.Author.Tests.{le-leb, lt-leb, lt-ltb, le-ltb, leb-true, ltb-true, ltb-false, eqb-true}
 use Rattle.rules.specs.Field.{Field, spare, value, unsigned, signed, bits, half}
 use Rattle.rules.specs.Category017.{category017}
 use Rattle.rules.specs.Category018.{category018}
 use Rattle.rules.specs.Entry.{categories}
-use Rattle.rules.proofs.AnswerLaws.{both-left, both-right}
+use Rattle.rules.specs.Layout.{joined}
+use Rattle.rules.proofs.AnswerLaws.{Octets, both-left, both-right}
 use Rattle.items.specs.declared.tables.GroupRow.{GroupRow}
 use Rattle.items.specs.Tables.{fields, groups, layouts, fieldRow, minus, isFree, groupRows, groupAt}
-use Rattle.items.specs.Read.{rowsAt, valueOf, within, width, legal}
+use Rattle.items.specs.Read.{rowsAt, partAt, valueOf, within, width, legal, partSound}
 use Rattle.items.specs.FieldRules.{Rule, ruleOf, rulesOf, obeys, allObeyed, rules, firstRules, firstRule, ruleAt, ruleWords, addedTo, limits, sizes}
 use Rattle.items.proofs.FieldCodes.{and-true, and-false, and-last, width-bits, low-minus, low-neg, spare-is, twice, value-plain, value-low, value-high}
-use Rattle.items.proofs.ReadLaws.{fieldsAt, rows-map, le-or-lt, same-leb}
+use Rattle.items.proofs.ReadLaws.{fieldsAt, rows-map, part-small, octets-drop, le-or-lt, same-leb}
+use Rattle.items.proofs.PartLaws.{part-sound}
 use Rattle.items.proofs.CheckLaws.{free-unsigned, free-signed}
 use Rattle.items.proofs.TableLaws.{in-row, each, every, getD-map-in}
 
@@ -105,10 +107,11 @@ asked-bad a e n i c h k et z = sym (asked a e n i c h k et ∙ and-false (allObe
 pub asked-good : (a e n i : ℕ) {t : Bool} → Asking a e n i → i < e → e ≤ 17 → t ≡ obeys (ruleAt i) n → t ≡ true → Asking a e n (i + 1)
 asked-good a e n i c h k et z = record { same = sym (asked a e n i c h k et ∙ and-true (allObeyed (slice (i + 1) e rules) n) z) }
 
+no-rules : (a e : ℕ) → e ≤ a → e ≤ 17 → slice a e rules ≡ []
+no-rules a e h k = drop-of-length-le (take e rules) (subst (λ x. x ≤ a) (sym (length-take-le e rules (subst (λ x. e ≤ x) (sym rules-long) k))) h)
+
 pub asked-none : (a e n i : ℕ) → Asking a e n i → e ≤ i → e ≤ 17 → true ≡ allObeyed (slice a e rules) n
-asked-none a e n i c h k =
-    let z : slice i e rules ≡ [] = drop-of-length-le (take e rules) (subst (λ x. x ≤ i) (sym (length-take-le e rules (subst (λ x. e ≤ x) (sym rules-long) k))) h) in
-    sym (ap (λ rs. allObeyed rs n) z) ∙ c .same
+asked-none a e n i c h k = sym (ap (λ rs. allObeyed rs n) (no-rules i e h k)) ∙ c .same
 
 -- ---- one field: what its rule asks of a code
 
@@ -250,4 +253,38 @@ group-obeyed g n h k =
 
 -- a group without a rule is free
 pub group-none : (g n : ℕ) → g < 52 → n < 2 ^ width (rowsAt g) → firstRule (g + 1) ≤ firstRule g → legal (rowsAt g) n ≡ true
-group-none g n h k l = sym (group-obeyed g n h k) ∙ ?
+group-none g n h k l =
+    let z : slice (firstRule g) (firstRule (g + 1)) rules ≡ [] = no-rules (firstRule g) (firstRule (g + 1)) l (first-few (g + 1) (omega arith)) in
+    sym (group-obeyed g n h k) ∙ ap (λ rs. allObeyed rs n) z
+
+-- and says so
+pub group-said : (g : ℕ) → g < 52 → leb (firstRule (g + 1)) (firstRule g) ≡ groupAt g .4
+unfolding firstRule groupAt fields groups layouts categories category017 category018
+group-said g h = rw (add-one g) (below (λ i. leb (firstRule (suc i)) (firstRule i)) (λ i. groupAt i .4) 52 refl g h)
+
+-- ---- a part that starts at a place
+
+pub size-few : (step g : ℕ) → partSound step (groupAt g) ≡ true → {m : ℕ} → m ≡ groupAt g .0 → m ≤ 8
+size-few step g p em = omega (arith, part-sound step (groupAt g) p .short)
+
+pub part-below : (step g : ℕ) → partSound step (groupAt g) ≡ true → (m n : ℕ) → m ≡ groupAt g .0 → n < 2 ^ (8 * m) → n / 2 ^ step < 2 ^ 56
+part-below step g p m n em k =
+    let d : n / 2 ^ step ≤ n = shr-le n step in
+    let q : 8 * m ≤ 56 = omega (arith, part-sound step (groupAt g) p .short) in
+    omega (arith, pow-mono q)
+
+pub rules-few : (g : ℕ) → g < 52 → {e : ℕ} → e ≡ firstRule (g + 1) → e ≤ 17
+rules-few g h ee = subst (λ x. x ≤ 17) (sym ee) (first-few (g + 1) (omega arith))
+
+module _ (step g at : ℕ) (s : List ℕ) (o : Octets s) (h : g < 52) (p : partSound step (groupAt g) ≡ true) (l : at + groupAt g .0 ≤ length s) where
+  part-fits : partAt step g (drop at s) < 2 ^ width (rowsAt g)
+  part-fits =
+      let e : width (rowsAt g) ≡ bits (fieldsAt g) = ap width (rows-map (groupAt g .1) (groupAt g .2)) ∙ width-bits (fieldsAt g) in
+      rw e (part-small step g (drop at s) (octets-drop at s o) (part-sound step (groupAt g) p) (omega (arith, length-drop at s)))
+
+  module _ {a e : ℕ} (ea : a ≡ firstRule g) (ee : e ≡ firstRule (g + 1)) where
+    pub part-free : e ≤ a → true ≡ legal (rowsAt g) (partAt step g (drop at s))
+    part-free k = sym (group-none g (partAt step g (drop at s)) h part-fits (omega arith))
+
+    pub part-ruled : {m n : ℕ} {t : Bool} → m ≡ groupAt g .0 → n ≡ joined (take m (drop at s)) → t ≡ allObeyed (slice a e rules) (n / 2 ^ step) → t ≡ legal (rowsAt g) (partAt step g (drop at s))
+    part-ruled em en et = et ∙ rw (ea, ee, en, em) (group-obeyed g (partAt step g (drop at s)) h part-fits)

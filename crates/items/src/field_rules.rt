@@ -1,7 +1,6 @@
 // The fields that have a rule, spare or with a range, by small tables: what the check of an item looks at. A table is written out where it is
 // read, so the check reads octets, and leaves a field that has no rule alone. The contracts tie each table, whole, to the rules' profiles.
 use super::fields::pow2;
-
 ghost use mathlib.Core.Path.{_≡_};
 ghost use Prim.Native.Nat.{_≤_, _<_, _^_};
 ghost use lib.ListN.{getD};
@@ -317,6 +316,14 @@ pub fn first_rule(group: usize) -> usize
     ensures { λ r. ⌜ r ≡ firstRule group ⌝ }
 {
     first_in(group) as usize
+}
+
+// Whether a group is free: it has no rule.
+pub fn is_free(group: usize) -> bool
+    requires { ⌜ group < 52 ⌝ }
+    ensures { λ r. ⌜ r ≡ groupAt group .4 ⌝ }
+{
+    first_rule(group + 1) <= first_rule(group)
 }
 
 // 1 more than the group of the item at a place, where it is one of one part; else 0.

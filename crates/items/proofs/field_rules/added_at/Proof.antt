@@ -20,5 +20,6 @@ array-read-result c = search needs
 returns : tie.Need-returns
 unfolding addedTo rules groups layouts categories category017 category018
 returns c = refl
+
 pub added-at-spec : {M : Type 1} → statement M
 added-at-spec = tie.close (tie.spec mul-result array-read-result returns)

@@ -17,5 +17,6 @@ array-read-result c = search needs
 returns : tie.Need-returns
 unfolding firstRule groups layouts categories category017 category018
 returns c = refl
+
 pub first-in-spec : {M : Type 1} → statement M
 first-in-spec = tie.close (tie.spec array-read-result returns)

@@ -19,6 +19,7 @@ cast-code c = search needs
 
 shr-code : tie.Need-shr-code
 shr-code c = shift-fits _ _ (c .before .pre .0) (c .rule-word .ensures)
+
 added-at-requires : tie.Need-added-at-requires
 added-at-requires c κs = search needs
 
@@ -27,13 +28,16 @@ cast-code-2 c = search needs
 
 add-code : tie.Need-add-code
 add-code c = record { fits = sum-fits _ _ _ _ (c .before .before .pre .0) (c .before .before .pre .1) (c .before .rule-word .ensures) (c .added-at .ensures) }
+
 cast-pow2 : tie.Need-cast-pow2
 cast-pow2 c = search needs
 
 pow2-requires : tie.Need-pow2-requires
 pow2-requires c κs = width-fits _ _ (c .before .before .pre .0) (c .before .rule-word .ensures)
+
 rem-result : tie.Need-rem-result
 rem-result c = rw (c .pow2 .ensures) (pow-pos _)
+
 limit-at-requires : tie.Need-limit-at-requires
 limit-at-requires c κs = search needs
 
@@ -42,6 +46,7 @@ cast-result c = search needs
 
 returns : tie.Need-returns
 returns c = obeyed _ _ _ _ _ _ (c .before .before .before .before .pre .0) (c .before .before .before .rule-word .ensures) (c .before .before .added-at .ensures) (c .limit-at .ensures) (c .before .pow2 .ensures)
+
 pub is-obeyed-spec : {M : Type 1} → statement M
 is-obeyed-spec =
     tie.close

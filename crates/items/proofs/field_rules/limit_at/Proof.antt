@@ -20,5 +20,6 @@ array-read-result c = search needs
 returns : tie.Need-returns
 unfolding limits rules groups layouts categories category017 category018
 returns c = refl
+
 pub limit-at-spec : {M : Type 1} → statement M
 limit-at-spec = tie.close (tie.spec mul-result array-read-result returns)

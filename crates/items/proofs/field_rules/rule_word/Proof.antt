@@ -20,5 +20,6 @@ array-read-result c = search needs
 returns : tie.Need-returns
 unfolding ruleWords rules groups layouts categories category017 category018
 returns c = refl
+
 pub rule-word-spec : {M : Type 1} → statement M
 rule-word-spec = tie.close (tie.spec mul-result array-read-result returns)

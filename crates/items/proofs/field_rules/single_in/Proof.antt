@@ -17,5 +17,6 @@ array-read-result c = search needs
 returns : tie.Need-returns
 unfolding singles layoutAt layouts categories category017 category018
 returns c = refl
+
 pub single-in-spec : {M : Type 1} → statement M
 single-in-spec = tie.close (tie.spec array-read-result returns)

@@ -16,5 +16,6 @@ cast-result c = search needs
 
 returns : tie.Need-returns
 returns c = c .size-in .ensures ∙ size-of (c .before .args .group)
+
 pub size-at-spec : {M : Type 1} → statement M
 size-at-spec = tie.close (tie.spec size-in-requires cast-result returns)

@@ -17,5 +17,6 @@ array-read-result c = search needs
 returns : tie.Need-returns
 unfolding sizes groups layouts categories category017 category018
 returns c = refl
+
 pub size-in-spec : {M : Type 1} → statement M
 size-in-spec = tie.close (tie.spec array-read-result returns)
