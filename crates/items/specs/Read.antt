@@ -149,6 +149,12 @@ wholeOf l bs = do
   s ← shapeOf l bs
   need partsLegal (stepOf (l .0)) (l .3) (s .0) (drop (headOf (l .0)) bs) or 11 then ok s
 
+-- how many octets it takes
+unfoldable pub wholeSize : LayoutRow → List ℕ → Answer ℕ
+wholeSize l bs = do
+  s ← wholeOf l bs
+  ok (s .1)
+
 -- ---- an item by its row: its shape, then its fields
 
 abbrev pub readKind : ℕ → ℕ → ℕ → ℕ → ℕ → Read Values

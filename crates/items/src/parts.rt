@@ -43,7 +43,7 @@ fn number_at(s: &[u8], at: usize, size: usize) -> u64
 }
 
 // Whether the fields of the part at a place, by a group, are legal: those that have a rule obey it.
-fn part_legal(s: &[u8], at: usize, group: usize, step: usize) -> bool
+pub fn part_legal(s: &[u8], at: usize, group: usize, step: usize) -> bool
     requires { ⌜ (step ≤ 1) × (group < 52) × (partSound step (groupAt group) ≡ true) × (at + groupAt group .0 ≤ length (now s)) ⌝ }
     ensures { λ r. ⌜ r ≡ legal (rowsAt group) (partAt step group (drop at (now (s .entry)))) ⌝ }
 {
