@@ -35,7 +35,7 @@ use Rattle.items.specs.FieldRules.{singleOf, singles, singleSize}
 use Rattle.items.proofs.FieldCodes.{Wide, width-bits, and-true, low-minus, low-neg, twice}
 use Rattle.items.proofs.PartLaws.{PartSound, part-sound, First, first-part}
 use Rattle.items.proofs.ReadLaws.{fieldsAt, rows-map, wide-slice, part-small, octets-drop, Fitting, fitting, reads, le-or-lt}
-use Rattle.items.proofs.ShapeLaws.{Rowed, rowed, Grouped, fixed-one, fixed-group, list-group, led-group, few-kinds, no-shape}
+use Rattle.items.proofs.ShapeLaws.{Rowed, rowed, Grouped, fixed-one, fixed-group, list-group, led-group, few-kinds, no-shape, fixed-cut, fixed-there}
 use Rattle.items.proofs.TableLaws.{group-free, layout-sound, place-is, place-row, place-none}
 
 -- ---- octets of a slice
@@ -235,12 +235,41 @@ pub record Single (l : LayoutRow) (g : ℕ) : Type 0 where
   pub kind : l .0 ≡ 1
   pub group : l .3 ≡ g
 
-pub single-of : (l : LayoutRow) (n : ℕ) → n ≡ singleOf l → 0 < n → Single l (n - 1)
-single-of l n e h = go (eqb (l .0) 1) refl e
+-- a free one, of so many octets
+pub record Free (l : LayoutRow) (n : ℕ) : Type 0 where
+  pub kind : l .0 ≡ 1
+  pub free : groupAt (l .3) .4 ≡ true
+  pub size : groupAt (l .3) .0 ≡ n
+
+-- the number in the table says which
+pub single-of : (l : LayoutRow) (n : ℕ) → rowSound l ≡ true → n ≡ singleOf l → 8 ≤ n → Single l (n - 8)
+single-of l n s e h = go (eqb (l .0) 1) refl (groupAt (l .3) .4) e
   where
-    go : (t : Bool) → eqb (l .0) 1 ≡ t → n ≡ cond t (suc (l .3)) 0 → Single l (n - 1)
-    go true q r = record { kind = eqb-true (l .0) 1 q; group = omega arith }
-    go false q r = absurd (omega arith)
+    go : (t : Bool) → eqb (l .0) 1 ≡ t → (u : Bool) → n ≡ cond t (cond u (groupAt (l .3) .0) (8 + l .3)) 0 → Single l (n - 8)
+    go true q true r =
+        let k : l .0 ≡ 1 = eqb-true (l .0) 1 q in
+        absurd (omega (arith, fixed-group l (rowed l s) k .sound .short))
+    go true q false r = record { kind = eqb-true (l .0) 1 q; group = omega arith }
+    go false q u r = absurd (omega arith)
+
+pub free-of : (l : LayoutRow) (n : ℕ) → n ≡ singleOf l → 0 < n → n < 8 → Free l n
+free-of l n e h k = go (eqb (l .0) 1) refl (groupAt (l .3) .4) refl e
+  where
+    go : (t : Bool) → eqb (l .0) 1 ≡ t → (u : Bool) → groupAt (l .3) .4 ≡ u → n ≡ cond t (cond u (groupAt (l .3) .0) (8 + l .3)) 0 → Free l n
+    go true q true f r = record { kind = eqb-true (l .0) 1 q; free = f; size = sym r }
+    go true q false f r = absurd (omega arith)
+    go false q u f r = absurd (omega arith)
+
+-- it needs no look
+module _ (l : LayoutRow) (n : ℕ) (bs : List ℕ) (s : rowSound l ≡ true) (o : Octets bs) (f : Free l n) where
+  pub free-cut : length bs < n → refused 9 0 ≡ wholeSize l bs
+  unfolding wholeSize _>>=_
+  free-cut h = sym (rw (whole-stopped l bs 9 0 (sym (fixed-cut l bs (f .kind) (sym (f .size)) h))))
+
+  pub free-there : n ≤ length bs → ok n ≡ wholeSize l bs
+  free-there h =
+      check-whole l bs 1 n
+      (equal-free l bs 1 n (sym (fixed-there l bs (f .kind) (sym (f .size)) h)) s o (λ e. absurd (omega (arith, f .kind, e))) (sym (f .free)) refl)
 
 one-part-size : (u : Bool) (n : ℕ) → (need u or 11 then ok n) ≡ (_>>=_ {A = Shaped} (need (u && true) or 11 then ok (1, n)) (λ s. ok (s .1)))
 unfolding need_or_then_ _>>=_

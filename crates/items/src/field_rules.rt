@@ -184,24 +184,24 @@ const FIRST_RULES: [u8; 53] = [
     17, // the end
 ];
 
-// Places: 1 more than the place of the group of an item with one part, 0 where there is none.
+// Places, of an item with one part: how many octets it has, where it is free; 8 more than the place of its group, where it has a rule. Else 0.
 const SINGLE: [u8; 72] = [
     0, //  FRN 0   no item
-    1, //  FRN 1   I017/010  5.2.2   Data Source Identifier
+    2, //  FRN 1   I017/010  5.2.2   Data Source Identifier
     2, //  FRN 2   I017/012  5.2.3   Data Destination Identifier
-    3, //  FRN 3   I017/000  5.2.1   Message Type
+    1, //  FRN 3   I017/000  5.2.1   Message Type
     0, //  FRN 4   I017/350  5.2.14  Cluster Station/Node List
-    5, //  FRN 5   I017/220  5.2.10  Aircraft Address
-    6, //  FRN 6   I017/221  5.2.11  Duplicate Address Reference Number
-    7, //  FRN 7   I017/140  5.2.7   Time of Day
-    8, //  FRN 8   I017/045  5.2.4   Calculated Position in WGS-84 Coordinates
-    9, //  FRN 9   I017/070  5.2.6   Mode 3/A Code in Octal Representation
-    10, // FRN 10  I017/050  5.2.5   Flight Level in Binary Representation
-    11, // FRN 11  I017/200  5.2.8   Track Velocity in Polar Co-ordinates
-    12, // FRN 12  I017/230  5.2.12  Transponder Capability
-    13, // FRN 13  I017/240  5.2.13  Track Status
+    3, //  FRN 5   I017/220  5.2.10  Aircraft Address
+    2, //  FRN 6   I017/221  5.2.11  Duplicate Address Reference Number
+    14, // FRN 7   I017/140  5.2.7   Time of Day
+    15, // FRN 8   I017/045  5.2.4   Calculated Position in WGS-84 Coordinates
+    16, // FRN 9   I017/070  5.2.6   Mode 3/A Code in Octal Representation
+    2, //  FRN 10  I017/050  5.2.5   Flight Level in Binary Representation
+    4, //  FRN 11  I017/200  5.2.8   Track Velocity in Polar Co-ordinates
+    19, // FRN 12  I017/230  5.2.12  Transponder Capability
+    20, // FRN 13  I017/240  5.2.13  Track Status
     0, //  FRN 14  I017/210  5.2.9   Mode S Address List
-    15, // FRN 15  I017/360  5.2.15  Cluster Controller Command State
+    1, //  FRN 15  I017/360  5.2.15  Cluster Controller Command State
     0, //  FRN 16  spare
     0, //  FRN 17  spare
     0, //  FRN 18  spare
@@ -223,41 +223,41 @@ const SINGLE: [u8; 72] = [
     0, //  FRN 34  past the end of the profile
     0, //  FRN 35  past the end of the profile
     0, //  FRN 0   no item
-    16, // FRN 1   I018/036  5.2.34  Data Source Identifier
-    17, // FRN 2   I018/037  5.2.35  Data Destination Identifier
-    18, // FRN 3   I018/000  5.2.1   Message Type
-    19, // FRN 4   I018/001  5.2.2   Result
-    20, // FRN 5   I018/005  5.2.5   Mode S Address
-    21, // FRN 6   I018/016  5.2.16  Packet Number
+    2, //  FRN 1   I018/036  5.2.34  Data Source Identifier
+    2, //  FRN 2   I018/037  5.2.35  Data Destination Identifier
+    1, //  FRN 3   I018/000  5.2.1   Message Type
+    1, //  FRN 4   I018/001  5.2.2   Result
+    3, //  FRN 5   I018/005  5.2.5   Mode S Address
+    4, //  FRN 6   I018/016  5.2.16  Packet Number
     0, //  FRN 7   I018/017  5.2.17  Packet Number List
-    23, // FRN 8   I018/018  5.2.18  Mode S Packet Properties
+    30, // FRN 8   I018/018  5.2.18  Mode S Packet Properties
     0, //  FRN 9   I018/019  5.2.19  Mode S Packet
-    25, // FRN 10  I018/028  5.2.26  GICB Extraction Periodicity
-    26, // FRN 11  I018/030  5.2.28  GICB Properties
-    27, // FRN 12  I018/025  5.2.24  GICB Number
-    28, // FRN 13  I018/027  5.2.25  BDS Code
-    29, // FRN 14  I018/029  5.2.27  GICB Extracted
-    30, // FRN 15  I018/002  5.2.3   Time of Day
+    2, //  FRN 10  I018/028  5.2.26  GICB Extraction Periodicity
+    33, // FRN 11  I018/030  5.2.28  GICB Properties
+    4, //  FRN 12  I018/025  5.2.24  GICB Number
+    1, //  FRN 13  I018/027  5.2.25  BDS Code
+    7, //  FRN 14  I018/029  5.2.27  GICB Extracted
+    37, // FRN 15  I018/002  5.2.3   Time of Day
     0, //  FRN 16  I018/006  5.2.6   Mode S Address List
-    32, // FRN 17  I018/007  5.2.7   Aircraft Data Link Command
+    39, // FRN 17  I018/007  5.2.7   Aircraft Data Link Command
     0, //  FRN 18  I018/008  5.2.8   Aircraft Data Link Status
     0, //  FRN 19  I018/009  5.2.9   Aircraft Data Link Report Request
-    37, // FRN 20  I018/010  5.2.10  Transponder Communications Capability
-    38, // FRN 21  I018/011  5.2.11  Capability Report
-    39, // FRN 22  I018/014  5.2.14  Aircraft Position in Polar Co-ordinates
-    40, // FRN 23  I018/015  5.2.15  Aircraft Position in Cartesian Co-ordinates
-    41, // FRN 24  I018/020  5.2.20  Broadcast Number
-    42, // FRN 25  I018/021  5.2.21  Broadcast Properties
-    43, // FRN 26  I018/022  5.2.22  Broadcast Prefix
-    44, // FRN 27  I018/023  5.2.23  Uplink or Downlink Broadcast
-    45, // FRN 28  I018/004  5.2.4   II Code
-    46, // FRN 29  I018/031  5.2.29  Aircraft Identity
-    47, // FRN 30  I018/032  5.2.30  Aircraft Mode A
-    48, // FRN 31  I018/033  5.2.31  Aircraft Height
-    49, // FRN 32  I018/034  5.2.32  Aircraft Speed
-    50, // FRN 33  I018/035  5.2.33  Aircraft Heading
-    51, // FRN 34  I018/012  5.2.12  Aircraft Coverage Quality Factor
-    52, // FRN 35  I018/013  5.2.13  Aircraft CQF Calculation Method
+    44, // FRN 20  I018/010  5.2.10  Transponder Communications Capability
+    7, //  FRN 21  I018/011  5.2.11  Capability Report
+    4, //  FRN 22  I018/014  5.2.14  Aircraft Position in Polar Co-ordinates
+    4, //  FRN 23  I018/015  5.2.15  Aircraft Position in Cartesian Co-ordinates
+    4, //  FRN 24  I018/020  5.2.20  Broadcast Number
+    6, //  FRN 25  I018/021  5.2.21  Broadcast Properties
+    50, // FRN 26  I018/022  5.2.22  Broadcast Prefix
+    7, //  FRN 27  I018/023  5.2.23  Uplink or Downlink Broadcast
+    1, //  FRN 28  I018/004  5.2.4   II Code
+    6, //  FRN 29  I018/031  5.2.29  Aircraft Identity
+    54, // FRN 30  I018/032  5.2.30  Aircraft Mode A
+    2, //  FRN 31  I018/033  5.2.31  Aircraft Height
+    56, // FRN 32  I018/034  5.2.32  Aircraft Speed
+    2, //  FRN 33  I018/035  5.2.33  Aircraft Heading
+    1, //  FRN 34  I018/012  5.2.12  Aircraft Coverage Quality Factor
+    1, //  FRN 35  I018/013  5.2.13  Aircraft CQF Calculation Method
 ];
 
 fn rule_word(place: usize) -> u16
@@ -326,7 +326,7 @@ pub fn is_free(group: usize) -> bool
     first_rule(group + 1) <= first_rule(group)
 }
 
-// 1 more than the group of the item at a place, where it is one of one part; else 0.
+// Of an item with one part, its octets, at most 7, where it is free, or 8 more than its group; else 0.
 pub fn single_at(place: usize) -> usize
     requires { ⌜ place < 72 ⌝ }
     ensures { λ r. ⌜ r ≡ getD singles place 0 ⌝ }

@@ -93,7 +93,7 @@ pub enum ItemCheck {
     Refused { number: u8, place: usize },
 }
 
-// How many octets an item with one part takes, by the group of the part.
+// How many octets an item with one part takes, by the group of the part, which has a rule.
 fn check_single(group: usize, part: &[u8]) -> ItemCheck
     requires { ⌜ (group < 52) × (partSound 0 (groupAt group) ≡ true) ⌝ }
     ensures { λ r. ⌜ checkedOf r ≡ singleSize group (now (part .entry)) ⌝ }
@@ -114,14 +114,23 @@ fn check_single(group: usize, part: &[u8]) -> ItemCheck
     }
 }
 
-// How many octets the item at a place of the tables takes: most items have one part.
+// How many octets the item at a place of the tables takes: most items have one part, and most of these are free.
 fn check_at(place: usize, part: &[u8]) -> ItemCheck
     requires { ⌜ place < 72 ⌝ }
     ensures { λ r. ⌜ checkedOf r ≡ wholeSize (layoutAt (placeRowAt place .0)) (now (part .entry)) ⌝ }
 {
     let single = single_at(place);
+    if 8 <= single {
+        return check_single(single - 8, part);
+    }
     if 0 < single {
-        return check_single(single - 1, part);
+        if part.len() < single {
+            return ItemCheck::Refused {
+                number: 9,
+                place: 0,
+            };
+        }
+        return ItemCheck::Whole(single);
     }
     match whole_of(layout_at(layout_row(place)), part) {
         Shape::Parts { count: _, long } => ItemCheck::Whole(long),

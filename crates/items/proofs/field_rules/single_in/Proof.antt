@@ -4,7 +4,7 @@ use Rattle.rules.specs.Entry.{categories}
 use Rattle.rules.specs.Category017.{category017}
 use Rattle.rules.specs.Category018.{category018}
 use Rattle.items.specs.FieldRules.{singles}
-use Rattle.items.specs.Tables.{layoutAt, layouts}
+use Rattle.items.specs.Tables.{groupAt, groups, layoutAt, layouts}
 use borrow.Author.Needs.{needs}
 use Rattle.items.proofs.field_rules.single_in.Statement.{statement}
 use Rattle.items.proofs.field_rules.single_in.Tie as tie
@@ -15,7 +15,7 @@ array-read-result : tie.Need-array-read-result
 array-read-result c = search needs
 
 returns : tie.Need-returns
-unfolding singles layoutAt layouts categories category017 category018
+unfolding singles groupAt groups layoutAt layouts categories category017 category018
 returns c = refl
 
 pub single-in-spec : {M : Type 1} → statement M
