@@ -20,3 +20,4 @@ pub mod CheckLaws
 pub mod WriteTrip
 pub mod StoreLaws
 pub mod OneLaws
+pub mod RuleLaws

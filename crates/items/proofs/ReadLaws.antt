@@ -153,7 +153,7 @@ le-or-lt a b = go (leb a b) refl
     go false e = inr (leb-false a b e)
 
 -- a test, both ways
-same-leb : (a b c d : ℕ) → (a ≤ b → c ≤ d) → (c ≤ d → a ≤ b) → leb a b ≡ leb c d
+pub same-leb : (a b c d : ℕ) → (a ≤ b → c ≤ d) → (c ≤ d → a ≤ b) → leb a b ≡ leb c d
 same-leb a b c d f g =
     ⊎-elim
     (λ h. le-leb a b h ∙ sym (le-leb c d (f h)))

@@ -45,7 +45,7 @@ places-tied = refl
 at-row : {A B : Type 0} (f g : A → B) (l : List A) (i : ℕ) (d : A) → f d ≡ g d → map f l ≡ map g l → f (getD l i d) ≡ g (getD l i d)
 at-row f g l i d e h = sym (List·getD-map f l i d) ∙ ap (λ m. getD m i (f d)) h ∙ ap (getD (map g l) i) e ∙ List·getD-map g l i d
 
-in-row : {A B : Type 0} (f g : A → B) (l : List A) (i : ℕ) (d : A) → i < length l → map f l ≡ map g l → f (getD l i d) ≡ g (getD l i d)
+pub in-row : {A B : Type 0} (f g : A → B) (l : List A) (i : ℕ) (d : A) → i < length l → map f l ≡ map g l → f (getD l i d) ≡ g (getD l i d)
 in-row f g [] i d k h = absurd (not-suc-le-zero k)
 in-row f g (a ∷ l) zero d k h = ap (λ m. getD m 0 (f a)) h
 in-row f g (a ∷ l) (suc i) d k h = in-row f g l i d (le-of-suc-le-suc k) (ap (drop 1) h)
@@ -134,11 +134,11 @@ place-row i = ltb-true (placeRowAt i .0) 51 (at-row (λ r. ltb (r .0) 51) (λ r.
 
 -- ---- what holds of each row of a table, by one test
 
-abbrev every : {A : Type 0} → (A → Bool) → List A → Bool
+abbrev pub every : {A : Type 0} → (A → Bool) → List A → Bool
 every t [] = true
 every t (a ∷ l) = t a && every t l
 
-each : {A : Type 0} (t : A → Bool) (l : List A) (d : A) → every t l ≡ true → (i : ℕ) → i < length l → t (getD l i d) ≡ true
+pub each : {A : Type 0} (t : A → Bool) (l : List A) (d : A) → every t l ≡ true → (i : ℕ) → i < length l → t (getD l i d) ≡ true
 each t [] d h i k = absurd (not-suc-le-zero k)
 each t (a ∷ l) d h zero k = both-left (t a) (every t l) h
 each t (a ∷ l) d h (suc i) k = each t l d (both-right (t a) (every t l) h) i (le-of-suc-le-suc k)
@@ -167,7 +167,7 @@ group-free g h =
 
 -- ---- rows as one number
 
-getD-map-in : {A B : Type 0} (f : A → B) (l : List A) (i : ℕ) (d : A) (e : B) → i < length l → getD (map f l) i e ≡ f (getD l i d)
+pub getD-map-in : {A B : Type 0} (f : A → B) (l : List A) (i : ℕ) (d : A) (e : B) → i < length l → getD (map f l) i e ≡ f (getD l i d)
 getD-map-in f [] i d e h = absurd (not-suc-le-zero h)
 getD-map-in f (a ∷ l) zero d e h = refl
 getD-map-in f (a ∷ l) (suc i) d e h = getD-map-in f l i d e (le-of-suc-le-suc h)

@@ -1,27 +1,35 @@
 // One item of categories 017 and 018: its layout by table.
+mod field_rules;
 mod fields;
 mod parts;
 mod tables;
 mod write;
 
+use field_rules::single_at;
+use field_rules::size_at;
 use parts::Shape;
 use parts::item_store;
+use parts::part_legal;
 use parts::whole_of;
 use tables::FRNS;
 use tables::PROFILES;
 use tables::PlaceRow;
 use tables::layout_at;
+use tables::layout_row;
 use tables::place_at;
 pub use write::ItemWritten;
 pub use write::write_item;
 ghost use mathlib.Core.Path.{_≡_};
 ghost use mathlib.Core.List.{List};
+ghost use mathlib.Core.Bool.{true};
 ghost use Prim.Native.Nat.{_<_, _≤_, _+_};
 ghost use Rattle.rules.specs.Layout.{concat};
 ghost use Rattle.rules.specs.Presence.{present, placeAt};
 ghost use Rattle.rules.specs.Answer.{expect_or_};
 ghost use Rattle.rules.specs.Entry.{categories, profileAt, layoutOf, readOne, leaves};
-ghost use Rattle.items.specs.Tables.{placeIs, layoutIs, layoutAt};
+ghost use Rattle.items.specs.Tables.{placeIs, layoutIs, layoutAt, groupAt, placeRowAt};
+ghost use Rattle.items.specs.Read.{partSound, wholeSize};
+ghost use Rattle.items.specs.FieldRules.{singleSize};
 ghost use Rattle.items.specs.Answers.{isNamed, frnAs, frnOf, checkedOf, checkAt, profileIn, readOf, countOf};
 
 // ---- where an item stands
@@ -88,14 +96,63 @@ pub enum ItemCheck {
     Refused { number: u8, place: usize },
 }
 
+// How many octets an item with one part takes, by the group of the part, which has a rule.
+fn check_single(group: usize, part: &[u8]) -> ItemCheck
+    requires { ⌜ (group < 52) × (partSound 0 (groupAt group) ≡ true) ⌝ }
+    ensures { λ r. ⌜ checkedOf r ≡ singleSize group (now (part .entry)) ⌝ }
+{
+    let size = size_at(group);
+    if part.len() < size {
+        return ItemCheck::Refused {
+            number: 9,
+            place: 0,
+        };
+    }
+    if part_legal(part, 0, group, 0) {
+        return ItemCheck::Whole(size);
+    }
+    ItemCheck::Refused {
+        number: 11,
+        place: 0,
+    }
+}
+
+// How many octets the item at a place of the tables takes: most items have one part, and most of these are free.
+fn check_at(place: usize, part: &[u8]) -> ItemCheck
+    requires { ⌜ place < 72 ⌝ }
+    ensures { λ r. ⌜ checkedOf r ≡ wholeSize (layoutAt (placeRowAt place .0)) (now (part .entry)) ⌝ }
+{
+    let single = single_at(place);
+    if 8 <= single {
+        return check_single(single - 8, part);
+    }
+    if 0 < single {
+        if part.len() < single {
+            return ItemCheck::Refused {
+                number: 9,
+                place: 0,
+            };
+        }
+        return ItemCheck::Whole(single);
+    }
+    match whole_of(layout_at(layout_row(place)), part) {
+        Shape::Parts { count: _, long } => ItemCheck::Whole(long),
+        Shape::Refused { number } => ItemCheck::Refused { number, place: 0 },
+    }
+}
+
 // How many octets the item of a profile at an FRN takes, which starts the part: 21 where the profile has none there; 9, 10, 9 of the body, 11.
 pub fn check_item(profile: usize, frn: usize, part: &[u8]) -> ItemCheck
     ensures { λ r. ⌜ checkedOf r ≡ checkAt profile frn (now (part .entry)) ⌝ }
 {
-    let p = place_of(profile, frn);
-    match whole_of(layout_at(p.0), part) {
-        Shape::Parts { count: _, long } => ItemCheck::Whole(long),
-        Shape::Refused { number } => ItemCheck::Refused { number, place: 0 },
+    if profile < PROFILES {
+        if frn < FRNS {
+            return check_at(profile * FRNS + frn, part);
+        }
+    }
+    ItemCheck::Refused {
+        number: 21,
+        place: 0,
     }
 }
 

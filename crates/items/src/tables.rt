@@ -571,6 +571,14 @@ pub fn layout_at(place: usize) -> LayoutRow
     )
 }
 
+// The place of the layout alone.
+pub fn layout_row(place: usize) -> usize
+    requires { ⌜ place < 72 ⌝ }
+    ensures { λ r. ⌜ r ≡ placeRowAt place .0 ⌝ }
+{
+    layout_in(place) as usize
+}
+
 pub fn place_at(place: usize) -> PlaceRow
     requires { ⌜ place < 72 ⌝ }
     ensures { λ r. ⌜ r ≡ placeRowAt place ⌝ }

@@ -37,7 +37,7 @@ sub-w c = omega (arith, sound-at c .some)
 number-at-requires : tie.Need-number-at-requires
 number-at-requires c κs =
     let s = c .before .before in
-    (sound-at c .short, subst (λ (r : GroupRow). s .args .at + r .0 ≤ length (s .args .s .now)) (sym (c .group-at .ensures)) (s .pre .0 .3))
+    (omega (arith, sound-at c .short), subst (λ (r : GroupRow). s .args .at + r .0 ≤ length (s .args .s .now)) (sym (c .group-at .ensures)) (s .pre .0 .3))
 
 shr-n : tie.Need-shr-n
 shr-n c = search needs
@@ -47,7 +47,7 @@ fields-store-requires c κs =
     let s = c .before .before .before .before in
     let r = c .before .before .group-at in
     let o = one-part (s .args .step) (r .result) (c .before .number-at .result) (sound-at (c .before .before)) (c .before .number-at .ensures .1) in
-    ((sound-at (c .before .before) .inside, o .wide), ((o .few, o .small), subst (λ (x : GroupRow). s .args .q + count (rows (x .1) (x .2)) ≤ 8_192) (sym (r .ensures)) (s .pre .1)))
+    ((sound-at (c .before .before) .inside, o .wide), ((omega (arith, o .few), o .small), subst (λ (x : GroupRow). s .args .q + count (rows (x .1) (x .2)) ≤ 8_192) (sym (r .ensures)) (s .pre .1)))
 
 returns : tie.Need-returns
 returns c =
