@@ -8,3 +8,5 @@ pub mod CameLaws
 pub mod RowLaws
 pub mod ItemLaws
 pub mod RecordLaws
+pub mod FspecLaws
+pub mod NewLaws
