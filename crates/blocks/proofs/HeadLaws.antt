@@ -8,7 +8,7 @@ use mathlib.Core.Option.{Option, none, some}
 use mathlib.Core.List.{List, [], _∷_, _++_}
 use native.Mathlib.Omega.{arith}
 use native.Mathlib.Nat.{zero-add}
-use lib.Dec.{leb, ltb, eqb, le→leb, lt→ltb}
+use lib.Dec.{T, leb, ltb, eqb, leb→le, le→leb, lt→ltb, eqb→eq}
 use borrow.Author.Tests.{le-leb, lt-leb, lt-ltb, le-ltb, eq-eqb, ne-eqb}
 use lib.ListN.{length, take, drop, getD, length-drop}
 use lib.Seq.{take-all}
@@ -16,9 +16,10 @@ use Rattle.rules.specs.Answer.{Answer, ok, refused, _>>=_, need_or_then_, expec
 use Rattle.rules.specs.Layout.{joined, readNum}
 use Rattle.rules.specs.Record.{Category, readRecord}
 use Rattle.rules.specs.Block.{Block, Head, categoryOf, readAll, readHead, readBody, readBlock}
-use Rattle.rules.specs.Entry.{categories, checkBlock}
-use Rattle.rules.proofs.AnswerLaws.{bind-in, bind-out, bind-assoc, bind-cong, need-bind, need-in, need-out, T-true}
-use Rattle.blocks.specs.Read.{lenAt, headAt, countFrom, bodyAt, Front, checkFront}
+use Rattle.rules.specs.Entry.{categories, checkBlock, Opened, openBlock, oldBlock}
+use Rattle.rules.proofs.BlockLaws.{category-cat}
+use Rattle.rules.proofs.AnswerLaws.{ok-inj, bind-elim, need-elim, expect-elim, expect-in, bind-in, bind-out, bind-assoc, bind-cong, need-bind, need-in, need-out, T-true}
+use Rattle.blocks.specs.Read.{lenAt, headAt, headBy, countFrom, Opening, openedAt, bodyAt, Front, checkFront}
 
 -- ---- the head
 
@@ -72,81 +73,169 @@ head-is fits (a ∷ (b ∷ (d ∷ bs))) =
     (head-tests (categoryOf a categories) (leb 3 (b * 256 + d)) fits (b * 256 + d) (suc (suc (suc (length bs)))) bs
     ∙ ap (λ z. z >>= λ h. need fits (h .len) (suc (suc (suc (length bs)))) or 3 then ok (h, bs)) (sym (head-four a b d bs))))
 
--- ---- a block, answer by answer, however LEN is held to the octets lent
-
 module _ (fits : ℕ → ℕ → Bool) (bs : List ℕ) where
-  pub block-no-head : (n p : ℕ) → headAt bs ≡ refused n p → readBlock fits categories bs ≡ refused n p
+  pub by-no-head : (n p : ℕ) → headAt bs ≡ refused n p → headBy fits bs ≡ refused n p
+  unfolding headBy
+  by-no-head n p e = bind-out _ e
+
+  pub by-bad-len : (h : Head) → headAt bs ≡ ok h → fits (h .len) (length bs) ≡ false → headBy fits bs ≡ refused 3 0
+  unfolding headBy
+  by-bad-len h e f = bind-in _ e (need-out 3 _ f)
+
+  pub by-head : (h : Head) → headAt bs ≡ ok h → fits (h .len) (length bs) ≡ true → headBy fits bs ≡ ok h
+  unfolding headBy
+  by-head h e f = bind-in _ e (need-in _ 3 (T-true f) refl)
+
+  head-by : readHead fits categories bs ≡ (headBy fits bs >>= λ h. ok (h, drop 3 bs))
+  unfolding headBy _>>=_
+  head-by =
+      head-is fits bs
+      ∙ bind-cong (headAt bs) _ _ (λ h. sym (need-bind (fits (h .len) (length bs)) 3 (ok h) (λ g. ok (g, drop 3 bs))))
+      ∙ sym (bind-assoc (headAt bs) (λ h. need fits (h .len) (length bs) or 3 then ok h) (λ h. ok (h, drop 3 bs)))
+
+  -- what a head says
+  pub record Headed (h : Head) : Type 0 where
+    pub fitted : T (fits (h .len) (length bs))
+    pub room : 3 ≤ length bs
+    pub least : 3 ≤ h .len
+    pub len-is : h .len ≡ lenAt bs
+    pub named : categoryOf (h .category .cat) categories ≡ some (h .category)
+
+  pub headed : (h : Head) → headBy fits bs ≡ ok h → Headed h
+  unfolding headBy headAt
+  headed h e =
+      bind-elim _ _ e λ g p e₁.
+      need-elim _ _ _ e₁ λ t e₂.
+      need-elim _ _ _ p λ l p₁.
+      bind-elim _ _ p₁ λ c q p₂.
+      need-elim _ _ _ p₂ λ m p₃.
+      expect-elim _ _ q λ found.
+      subst Headed (ok-inj e₂)
+      (subst (λ z. T (fits (z .len) (length bs)) → Headed z) (ok-inj p₃)
+      (λ t′.
+      record {
+        fitted = t′;
+        room = leb→le _ _ l;
+        least = leb→le _ _ m;
+        len-is = refl;
+        named = ap (λ k. categoryOf k categories) (sym (category-cat (getD bs 0 0) categories c found)) ∙ found;
+      }) t)
+
+  -- ---- a block, answer by answer, however LEN is held to the octets lent
+
+  pub block-refused : (n p : ℕ) → headBy fits bs ≡ refused n p → readBlock fits categories bs ≡ refused n p
   unfolding readBlock
-  block-no-head n p e = bind-out _ (head-is fits bs ∙ bind-out _ e)
+  block-refused n p e = bind-out _ (head-by ∙ bind-out _ e)
 
-  pub block-bad-len : (h : Head) → headAt bs ≡ ok h → fits (h .len) (length bs) ≡ false → readBlock fits categories bs ≡ refused 3 0
+  pub block-empty : (h : Head) → headBy fits bs ≡ ok h → h .len ≤ 3 → readBlock fits categories bs ≡ refused 4 0
   unfolding readBlock
-  block-bad-len h e f = bind-out _ (head-is fits bs ∙ bind-in _ e (need-out 3 _ f))
+  block-empty h e l = bind-in _ (head-by ∙ bind-in _ e refl) (need-out 4 _ (le-ltb 3 (h .len) l))
 
-  -- the head passes
-  head-passes : (h : Head) → headAt bs ≡ ok h → fits (h .len) (length bs) ≡ true → readHead fits categories bs ≡ ok (h, drop 3 bs)
-  head-passes h e f = head-is fits bs ∙ bind-in _ e (need-in _ 3 (T-true f) refl)
-
-  pub block-empty : (h : Head) → headAt bs ≡ ok h → fits (h .len) (length bs) ≡ true → h .len ≤ 3 → readBlock fits categories bs ≡ refused 4 0
-  unfolding readBlock
-  block-empty h e f l = bind-in _ (head-passes h e f) (need-out 4 _ (le-ltb 3 (h .len) l))
-
-  pub block-body : (h : Head) → headAt bs ≡ ok h → fits (h .len) (length bs) ≡ true → 3 < h .len
+  pub block-body : (h : Head) → headBy fits bs ≡ ok h → 3 < h .len
       → readBlock fits categories bs
       ≡ (later 3 (readAll (readRecord (h .category)) (bodyAt h bs)) >>= λ rs. ok (record { cat = h .category .cat; records = rs }, drop (h .len - 3) (drop 3 bs)))
   unfolding readBlock readBody _>>=_
-  block-body h e f l = bind-in _ (head-passes h e f) (need-in _ 4 (lt→ltb 3 (h .len) l) (bind-assoc (later 3 (readAll (readRecord (h .category)) (bodyAt h bs))) _ _))
+  block-body h e l =
+      bind-in _ (head-by ∙ bind-in _ e refl)
+      (need-in _ 4 (lt→ltb 3 (h .len) l) (bind-assoc (later 3 (readAll (readRecord (h .category)) (bodyAt h bs))) _ _))
 
 -- ---- a single block
 
+-- a block that is read has one of the categories
+block-category : (fits : ℕ → ℕ → Bool) (bs rest : List ℕ) (b : Block) → readBlock fits categories bs ≡ ok (b, rest)
+    → (c : Category) × (categoryOf (b .cat) categories ≡ some c)
+unfolding readBlock
+block-category fits bs rest b e =
+    bind-elim _ _ e λ x p e₁.
+    need-elim _ _ _ e₁ λ t e₂.
+    bind-elim _ _ e₂ λ y q e₃.
+    bind-elim _ _ (sym (head-by fits bs) ∙ p) λ h p₁ p₂.
+    (h .category, ap (λ z. categoryOf (z .0 .cat) categories) (sym (ok-inj e₃)) ∙ ap (λ z. categoryOf (z .0 .category .cat) categories) (sym (ok-inj p₂)) ∙ headed fits bs h p₁ .named)
+
+-- checking a block is opening it
+pub check-opened : (bs : List ℕ) → checkBlock bs ≡ (openedAt bs >>= λ o. ok (o .count))
+unfolding checkBlock openedAt openBlock
+check-opened bs = go (readBlock eqb categories bs) refl
+  where
+    go : (x : Answer (Block × List ℕ)) → readBlock eqb categories bs ≡ x → checkBlock bs ≡ (openedAt bs >>= λ o. ok (o .count))
+    go (refused n p) e = bind-out _ e ∙ sym (bind-out _ (bind-out _ (bind-out _ e)))
+    go (ok (b, rest)) e =
+        let (c, f) = block-category eqb bs rest b e in
+        bind-in _ e refl ∙ sym (bind-in _ (bind-in _ (bind-in _ e (bind-in _ (expect-in 2 f) refl)) refl) refl)
+
 module _ (bs : List ℕ) where
-  pub single-no-head : (n p : ℕ) → headAt bs ≡ refused n p → checkBlock bs ≡ refused n p
-  unfolding checkBlock
-  single-no-head n p e = bind-out _ (block-no-head eqb bs n p e)
-
-  pub single-bad-len : (h : Head) → headAt bs ≡ ok h → (h .len ≡ length bs → ⊥) → checkBlock bs ≡ refused 3 0
-  unfolding checkBlock
-  single-bad-len h e f = bind-out _ (block-bad-len eqb bs h e (ne-eqb (h .len) (length bs) f))
-
-  pub single-empty : (h : Head) → headAt bs ≡ ok h → h .len ≡ length bs → h .len ≤ 3 → checkBlock bs ≡ refused 4 0
-  unfolding checkBlock
-  single-empty h e f l = bind-out _ (block-empty eqb bs h e (eq-eqb (h .len) (length bs) f) l)
-
   -- LEN leaves all that is after the head
-  pub body-all : (h : Head) → h .len ≡ length bs → bodyAt h bs ≡ drop 3 bs
-  body-all h f = take-all (h .len - 3) (drop 3 bs) (rw length-drop (omega arith))
+  pub body-all : (h : Head) → headBy eqb bs ≡ ok h → bodyAt h bs ≡ drop 3 bs
+  body-all h e =
+      let f : h .len ≡ length bs = eqb→eq _ _ (headed eqb bs h e .fitted) in
+      take-all (h .len - 3) (drop 3 bs) (rw length-drop (omega arith))
 
-  pub single-body : (h : Head) → headAt bs ≡ ok h → h .len ≡ length bs → 3 < h .len → checkBlock bs ≡ countFrom (h .category) 0 3 (drop 3 bs)
-  unfolding checkBlock countFrom _>>=_
-  single-body h e f l =
-      ap (λ z. z >>= λ x. ok (length (x .0 .records))) (block-body eqb bs h e (eq-eqb (h .len) (length bs) f) l)
+  pub open-refused : (n p : ℕ) → headBy eqb bs ≡ refused n p → openBlock bs ≡ refused n p
+  unfolding openBlock
+  open-refused n p e = bind-out _ (block-refused eqb bs n p e)
+
+  pub open-empty : (h : Head) → headBy eqb bs ≡ ok h → h .len ≤ 3 → openBlock bs ≡ refused 4 0
+  unfolding openBlock
+  open-empty h e l = bind-out _ (block-empty eqb bs h e l)
+
+  pub open-body : (h : Head) → headBy eqb bs ≡ ok h → 3 < h .len
+      → openBlock bs ≡ (later 3 (readAll (readRecord (h .category)) (drop 3 bs)) >>= λ rs. ok (record { category = h .category; records = rs }))
+  unfolding openBlock _>>=_
+  open-body h e l =
+      ap (λ z. z >>= λ x. (expect categoryOf (x .0 .cat) categories or 2) >>= λ c. ok (record { category = c; records = x .0 .records })) (block-body eqb bs h e l)
       ∙ bind-assoc (later 3 (readAll (readRecord (h .category)) (bodyAt h bs))) _ _
-      ∙ bind-cong (later 3 (readAll (readRecord (h .category)) (bodyAt h bs))) _ _ (λ rs. ap ok (sym (zero-add (length rs))))
-      ∙ ap (λ z. later 3 (readAll (readRecord (h .category)) z) >>= λ rs. ok (0 + length rs)) (body-all h f)
+      ∙ bind-cong (later 3 (readAll (readRecord (h .category)) (bodyAt h bs))) _ _ (λ rs. bind-in _ (expect-in 2 (headed eqb bs h e .named)) refl)
+      ∙ ap (λ z. later 3 (readAll (readRecord (h .category)) z) >>= λ rs. ok (record { category = h .category; records = rs })) (body-all h e)
+
+  pub opened-body : (h : Head) → headBy eqb bs ≡ ok h → 3 < h .len
+      → openedAt bs ≡ (countFrom (h .category) 0 3 (drop 3 bs) >>= λ n. ok (record { category = h .category; count = n }))
+  unfolding openedAt countFrom _>>=_
+  opened-body h e l =
+      ap (λ z. z >>= λ b. ok (record { category = b .category; count = length (b .records) })) (open-body h e l)
+      ∙ bind-assoc (later 3 (readAll (readRecord (h .category)) (drop 3 bs))) _ _
+      ∙ bind-cong (later 3 (readAll (readRecord (h .category)) (drop 3 bs))) _ _ (λ rs. ap (λ n. ok (record { category = h .category; count = n })) (sym (zero-add (length rs))))
+      ∙ sym (bind-assoc (later 3 (readAll (readRecord (h .category)) (drop 3 bs))) _ _)
 
   -- ---- the front of a recording
 
-  pub front-no-head : (n p : ℕ) → headAt bs ≡ refused n p → checkFront bs ≡ refused n p
+  pub front-refused : (n p : ℕ) → headBy leb bs ≡ refused n p → checkFront bs ≡ refused n p
   unfolding checkFront
-  front-no-head n p e = bind-out _ (block-no-head leb bs n p e)
+  front-refused n p e = bind-out _ (block-refused leb bs n p e)
 
-  pub front-bad-len : (h : Head) → headAt bs ≡ ok h → length bs < h .len → checkFront bs ≡ refused 3 0
+  pub front-empty : (h : Head) → headBy leb bs ≡ ok h → h .len ≤ 3 → checkFront bs ≡ refused 4 0
   unfolding checkFront
-  front-bad-len h e f = bind-out _ (block-bad-len leb bs h e (lt-leb (h .len) (length bs) f))
-
-  pub front-empty : (h : Head) → headAt bs ≡ ok h → h .len ≤ length bs → h .len ≤ 3 → checkFront bs ≡ refused 4 0
-  unfolding checkFront
-  front-empty h e f l = bind-out _ (block-empty leb bs h e (le-leb (h .len) (length bs) f) l)
+  front-empty h e l = bind-out _ (block-empty leb bs h e l)
 
   front-len : (n : ℕ) → 3 ≤ n → n ≤ length bs → length bs - length (drop (n - 3) (drop 3 bs)) ≡ n
   front-len n l m = rw (length-drop (n - 3) (drop 3 bs), length-drop 3 bs) (omega arith)
 
-  pub front-body : (h : Head) → headAt bs ≡ ok h → h .len ≤ length bs → 3 < h .len
+  pub front-body : (h : Head) → headBy leb bs ≡ ok h → 3 < h .len
       → checkFront bs ≡ (countFrom (h .category) 0 3 (bodyAt h bs) >>= λ n. ok (record { len = h .len; records = n }))
   unfolding checkFront countFrom _>>=_
-  front-body h e f l =
-      ap (λ z. z >>= λ x. ok (record { len = length bs - length (x .1); records = length (x .0 .records) })) (block-body leb bs h e (le-leb (h .len) (length bs) f) l)
+  front-body h e l =
+      ap (λ z. z >>= λ x. ok (record { len = length bs - length (x .1); records = length (x .0 .records) })) (block-body leb bs h e l)
       ∙ bind-assoc (later 3 (readAll (readRecord (h .category)) (bodyAt h bs))) _ _
       ∙ bind-cong (later 3 (readAll (readRecord (h .category)) (bodyAt h bs))) _ _
-          (λ rs. ap₂ (λ m n. ok (record { len = m; records = n })) (front-len (h .len) (omega arith) f) (sym (zero-add (length rs))))
+      (λ rs. ap₂ (λ m n. ok (record { len = m; records = n })) (front-len (h .len) (omega arith) (leb→le _ _ (headed leb bs h e .fitted))) (sym (zero-add (length rs))))
       ∙ sym (bind-assoc (later 3 (readAll (readRecord (h .category)) (bodyAt h bs))) _ _)
+
+-- ---- the block that a record is added to: LEN 3 is allowed
+
+module _ (out : List ℕ) (used : ℕ) where
+  pub old-none : length out < used → oldBlock out used ≡ refused 16 0
+  unfolding oldBlock
+  old-none l = need-out 16 _ (lt-leb used (length out) l)
+
+  pub old-refused : used ≤ length out → (n p : ℕ) → headBy eqb (take used out) ≡ refused n p → oldBlock out used ≡ refused n p
+  unfolding oldBlock
+  old-refused l n p e = need-in _ 16 (le→leb used (length out) l) (bind-out _ (head-by eqb (take used out) ∙ bind-out _ e))
+
+  pub old-body : used ≤ length out → (h : Head) → headBy eqb (take used out) ≡ ok h
+      → oldBlock out used ≡ (countFrom (h .category) 0 3 (drop 3 (take used out)) >>= λ n. ok (h .category))
+  unfolding oldBlock readBody countFrom _>>=_
+  old-body l h e =
+      need-in _ 16 (le→leb used (length out) l)
+      (bind-in _ (head-by eqb (take used out) ∙ bind-in _ e refl)
+      (bind-assoc (later 3 (readAll (readRecord (h .category)) (bodyAt h (take used out)))) _ _
+      ∙ ap (λ z. later 3 (readAll (readRecord (h .category)) z) >>= λ rs. ok (h .category)) (body-all (take used out) h e)
+      ∙ sym (bind-assoc (later 3 (readAll (readRecord (h .category)) (drop 3 (take used out)))) _ _)))

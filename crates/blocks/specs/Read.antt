@@ -2,13 +2,14 @@
 -- Assumes nothing.
 use Prim.Native.Nat.{ℕ, _+_, _-_, _*_}
 use mathlib.Core.Path.{_≡_}
+use mathlib.Core.Bool.{Bool}
 use mathlib.Core.List.{List}
 use lib.Dec.{leb, ltb, eqb}
 use lib.ListN.{length, take, drop, getD}
 use Rattle.rules.specs.Answer.{Answer, ok, _>>=_, need_or_then_, expect_or_, later}
 use Rattle.rules.specs.Record.{Category, Record, readRecord}
 use Rattle.rules.specs.Block.{Head, categoryOf, readAll, readBlock}
-use Rattle.rules.specs.Entry.{categories, RecordMap, mapOf, numbered}
+use Rattle.rules.specs.Entry.{categories, RecordMap, mapOf, numbered, openBlock}
 
 -- LEN: the second and the third octet, the higher first
 abbrev pub lenAt : List ℕ → ℕ
@@ -19,6 +20,12 @@ unfoldable pub headAt : List ℕ → Answer Head
 headAt bs = need leb 3 (length bs) or 1 then do
   c ← expect categoryOf (getD bs 0 0) categories or 2
   need leb 3 (lenAt bs) or 3 then ok (record { category = c; len = lenAt bs })
+
+-- and then LEN held to them: 3 again
+unfoldable pub headBy : (ℕ → ℕ → Bool) → List ℕ → Answer Head
+headBy fits bs = do
+  h ← headAt bs
+  need fits (h .len) (length bs) or 3 then ok h
 
 -- how many records of a category fill octets that start at a place, after so many others
 unfoldable pub countFrom : Category → ℕ → ℕ → List ℕ → Answer ℕ
@@ -37,6 +44,16 @@ seekAt c k bs n = do
   rs ← readAll (readRecord c) bs
   r ← numbered c k rs n
   ok (mapOf c r)
+
+-- a single block: its category, and its count of records
+pub record Opening : Type 0 where
+  pub category : Category
+  pub count : ℕ
+
+unfoldable pub openedAt : List ℕ → Answer Opening
+openedAt bs = do
+  b ← openBlock bs
+  ok (record { category = b .category; count = length (b .records) })
 
 -- the octets that LEN leaves to the records
 abbrev pub bodyAt : Head → List ℕ → List ℕ
