@@ -1,0 +1,6 @@
+pub mod TableLaws
+pub mod FieldCodes
+pub mod Turns
+pub mod OctetLaws
+pub mod PartLaws
+pub mod ShapeLaws

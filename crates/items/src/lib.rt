@@ -1,0 +1,71 @@
+// One item of categories 017 and 018: its layout by table.
+mod fields;
+mod parts;
+mod tables;
+
+use tables::FRNS;
+use tables::PROFILES;
+use tables::PlaceRow;
+use tables::place_at;
+ghost use mathlib.Core.Path.{_≡_};
+ghost use mathlib.Core.List.{List};
+ghost use Prim.Native.Nat.{_<_, _≤_, _+_};
+ghost use Rattle.rules.specs.Layout.{concat};
+ghost use Rattle.rules.specs.Presence.{present, placeAt};
+ghost use Rattle.rules.specs.Entry.{categories, profileAt};
+ghost use Rattle.items.specs.Tables.{placeIs};
+ghost use Rattle.items.specs.Answers.{isNamed, frnAs, frnOf};
+
+// ---- where an item stands
+
+// What a profile has at an FRN.
+fn place_of(profile: usize, frn: usize) -> PlaceRow
+    ensures { λ r. ⌜ (placeIs r ≡ placeAt (profileAt categories profile) frn) × (r .0 < 51) ⌝ }
+{
+    if profile < PROFILES {
+        if frn < FRNS {
+            return place_at(profile * FRNS + frn);
+        }
+    }
+    PlaceRow(0, 0)
+}
+
+// Whether a profile has an item at an FRN.
+pub fn is_usable(profile: usize, frn: usize) -> bool
+    ensures { λ r. ⌜ r ≡ present (placeAt (profileAt categories profile) frn) ⌝ }
+{
+    let p = place_of(profile, frn);
+    p.0 != 0
+}
+
+// Whether the item of a profile at an FRN has a reference.
+fn is_named(profile: usize, frn: usize, reference: u16) -> bool
+    ensures { λ r. ⌜ r ≡ isNamed reference (placeAt (profileAt categories profile) frn) ⌝ }
+{
+    let p = place_of(profile, frn);
+    if p.0 == 0 {
+        return false;
+    }
+    reference == p.1
+}
+
+// The FRN of an item of a profile.
+pub enum FrnFound {
+    Frn(usize),
+    // The reference names no item of the profile.
+    NoItem,
+}
+
+// The FRN of the item with a reference: the number after its slash.
+pub fn frn_of(profile: usize, reference: u16) -> FrnFound
+    ensures { λ r. ⌜ frnOf r ≡ frnAs reference 1 (concat (profileAt categories profile)) ⌝ }
+{
+    let mut frn: usize = 1;
+    while frn < FRNS {
+        if is_named(profile, frn, reference) {
+            return FrnFound::Frn(frn);
+        }
+        frn += 1;
+    }
+    FrnFound::NoItem
+}
