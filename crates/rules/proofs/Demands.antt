@@ -2,29 +2,29 @@
 --
 -- In order: demand 2, one item read and written; demand 3, a block and what is reported of it; demand 3, a recording. Demand 1 and what the
 -- code does are theorems of the crates above: their functions are proved equal to the rules of `Entry`. Assumes nothing.
-use Prim.Native.Nat.{ℕ, zero, suc, _+_, _-_, _≤_, _<_}
+use Prim.Native.Nat.{ℕ, _+_, _-_, _≤_, _<_}
 use mathlib.Core.Path.{_≡_, refl, sym, ap, ap₂, _∙_, subst}
 use mathlib.Core.Logic.{_↔_}
-use mathlib.Core.Bool.{Bool, true, false}
-use mathlib.Core.Option.{Option, none, some}
+use mathlib.Core.Bool.{true, false}
+use mathlib.Core.Option.{none, some}
 use mathlib.Core.List.{List, [], _∷_, _++_, map, append-nil}
 use native.Mathlib.Omega.{arith}
 use native.Mathlib.Nat.{add-zero}
-use lib.Dec.{T, leb, eqb, leb→le, le→leb, eqb→eq}
+use lib.Dec.{leb, leb→le, le→leb, eqb→eq}
 use borrow.Author.Tests.{lt-leb}
 use lib.IntN.{ℤ}
 use lib.ListN.{length, take, drop, getD, getElem?, length-map, List·getD-map}
-use Rattle.rules.specs.Answer.{Answer, ok, refused, _>>=_, need_or_then_, expect_or_, later, octetsOf}
+use Rattle.rules.specs.Answer.{ok, refused, need_or_then_, octetsOf}
 use Rattle.rules.specs.Layout.{Layout, Values, concat, groups, readItem, writeItem, readFields, writeFields}
 use Rattle.rules.specs.Record.{Category, Record, places, items, valueOf, writeRecord}
 use Rattle.rules.specs.Block.{Block, categoryOf, writeAll, writeBlock, readBlock}
-use Rattle.rules.specs.Recording.{writeRecording, readRecording}
+use Rattle.rules.specs.Recording.{writeRecording}
 use Rattle.rules.specs.Entry.{categories, leaves, checkBlock, countRecords, Counts, checkRecording, Laid, laidItems, laidAs, Numbered, RecordMap, startOf, openBlock, mapOf, findRecord, isItem, findItem, numbered, layoutAs, layoutOf, readOne, writeOne}
 use Rattle.rules.proofs.AnswerLaws.{ok-inj, bind-in, bind-elim, need-elim, need-in, need-out, expect-in, expect-out, bind-out, later-out, octetsOf-ok, T-true, later-in, later-inv, nil-of-length, Octets, octets-left, octets-right, Laws, Split, write-inj}
-use Rattle.rules.proofs.LayoutLaws.{item-laws, fields-laws, PartsInside, item-inside, valued}
+use Rattle.rules.proofs.LayoutLaws.{item-laws, fields-laws, PartsInside, item-inside}
 use Rattle.rules.proofs.BlockLaws.{block-laws, block-starts, single-forth, single-back}
 use Rattle.rules.proofs.RecordingLaws.{recording-forth, recording-back, recording-clean}
-use Rattle.rules.proofs.Tables.{everyCategory, category-every, layoutOf-valued, distinct, tables-distinct, tables-few}
+use Rattle.rules.proofs.Tables.{category-every, layoutOf-valued, distinct, tables-distinct, tables-few}
 use Rattle.rules.proofs.EntryLaws.{Lies, lies-part, lies-second, RecordWritten, record-written, itemOctets, ItemFound, item-found, item-absent, layout-item, RecordFound, record-found, record-missing, BodyFound, body-found, indexAs, start-found, start-absent, over-zeros, laid-length, over-is}
 
 -- ---- DEMAND 2
@@ -138,8 +138,8 @@ map-start : (c : Category) (r : Numbered) (i : ℕ) → length (places c) ≤ 35
     → getD (mapOf c r .starts) i 0 ≡ startOf (getD (laidItems c (r .start) (r .value)) i none)
 unfolding mapOf
 map-start c r i few =
-    over-zeros (map startOf (laidItems c (r .start) (r .value))) 35 i
-    (omega (arith, laid-length (places c) (concat (r .value)) (r .start + length (r .value)), length-map (laidItems c (r .start) (r .value)) startOf))
+    let l : length (laidItems c (r .start) (r .value)) ≤ length (places c) = laid-length (places c) (concat (r .value)) _ in
+    over-zeros (map startOf (laidItems c (r .start) (r .value))) 35 i (omega (arith, length-map (laidItems c (r .start) (r .value)) startOf))
     ∙ List·getD-map startOf (laidItems c (r .start) (r .value)) i none
 
 -- an item alone is read as its fields
