@@ -8,17 +8,19 @@ use mathlib.Core.Bool.{Bool, true, false}
 use mathlib.Core.Option.{Option, none, some}
 use mathlib.Core.List.{List, [], _∷_, _++_}
 use native.Mathlib.Omega.{arith}
-use lib.Dec.{eqb}
+use lib.Dec.{eqb, eqb→eq}
 use lib.ListN.{length, take, drop, getD, getElem?}
 use Rattle.rules.specs.Answer.{Answer, ok, refused, _>>=_, need_or_then_, if_then_else_, expect_or_, later}
 use Rattle.rules.specs.Layout.{Layout, Values, concat}
 use Rattle.rules.specs.Record.{Place, Category, Record, places, items, valueOf, readRecord}
 use Rattle.rules.specs.Block.{Block, Head, categoryOf, readAll, writeBlock, readBlock}
 use Rattle.rules.specs.Entry.{categories, Laid, laidAs, laid, laidItems, Numbered, numbered, RecordMap, mapOf, openBlock, findRecord, isItem, findItem, layoutAs}
-use Rattle.rules.proofs.AnswerLaws.{refused-ok, ok-inj, bind-in, bind-out, bind-elim, need-in, need-out, expect-in, expect-out, later-in, later-out, if-inv, if-true, if-false, some-inj, none-some, T-true, Octets}
+use Rattle.rules.proofs.AnswerLaws.{refused-ok, ok-inj, bind-in, bind-out, bind-elim, need-in, need-out, expect-in, expect-out, expect-elim, later-in, later-out, if-inv, if-true, if-false, some-inj, none-some, T-true, Octets}
+use Rattle.rules.proofs.BlockLaws.{single-forth}
 use Rattle.rules.proofs.EntryLaws.{indexAs}
 use Rattle.items.specs.Answers.{isNamed, frnAs, sizeOf}
 use Rattle.blocks.specs.Read.{headBy, Records, seekAt, Opening, openedAt}
+use Rattle.blocks.proofs.HeadLaws.{headed, OpenHead, open-head}
 
 -- ---- the FRN of a reference
 
@@ -88,4 +90,17 @@ opens bs o b h =
     bind-elim _ _ h λ k p h₁.
     bind-elim _ _ p λ x q p₁.
     bind-elim _ _ p₁ λ c r p₂.
-    ?
+    expect-elim _ _ r λ named.
+    let d : OpenHead bs k = open-head bs k p in
+    let f : d .head .len ≡ length bs = eqb→eq _ _ (headed eqb bs (d .head) (d .is-head) .fitted) in
+    let e : k .category ≡ o .category = ap (λ z. z .category) (ok-inj h₁) in
+    let g : k .category ≡ c = ap (λ z. z .category) (sym (ok-inj p₂)) in
+    let u : x .0 .records ≡ k .records = ap (λ z. z .records) (ok-inj p₂) in
+    record {
+      block = x .0;
+      opened = p ∙ ap₂ (λ y z. ok (record { category = y; records = z })) e (sym u);
+      writes = single-forth categories (x .0) bs (x .1) b q;
+      named = named ∙ ap some (sym g ∙ e);
+      reads = ap (λ z. readAll (readRecord z) (drop 3 bs)) (sym e) ∙ d .reads ∙ ap ok (sym u);
+      room = omega (arith, d .long);
+    }

@@ -9,7 +9,7 @@ use mathlib.Core.List.{List, [], _∷_, _++_}
 use native.Mathlib.Omega.{arith}
 use native.Mathlib.Nat.{zero-add}
 use lib.Dec.{T, leb, ltb, eqb, leb→le, le→leb, lt→ltb, eqb→eq}
-use borrow.Author.Tests.{le-leb, lt-leb, lt-ltb, le-ltb, eq-eqb, ne-eqb}
+use borrow.Author.Tests.{le-leb, lt-leb, lt-ltb, le-ltb, ltb-true, ltb-false, eq-eqb, ne-eqb}
 use lib.ListN.{length, take, drop, getD, length-drop}
 use lib.Seq.{take-all}
 use Rattle.rules.specs.Answer.{Answer, ok, refused, _>>=_, need_or_then_, expect_or_, later}
@@ -18,7 +18,7 @@ use Rattle.rules.specs.Record.{Category, readRecord}
 use Rattle.rules.specs.Block.{Block, Head, categoryOf, readAll, readHead, readBody, readBlock}
 use Rattle.rules.specs.Entry.{categories, checkBlock, Opened, openBlock, oldBlock}
 use Rattle.rules.proofs.BlockLaws.{category-cat}
-use Rattle.rules.proofs.AnswerLaws.{ok-inj, bind-elim, need-elim, expect-elim, expect-in, bind-in, bind-out, bind-assoc, bind-cong, need-bind, need-in, need-out, T-true}
+use Rattle.rules.proofs.AnswerLaws.{refused-ok, ok-inj, later-inv, bind-elim, need-elim, expect-elim, expect-in, bind-in, bind-out, bind-assoc, bind-cong, need-bind, need-in, need-out, T-true}
 use Rattle.blocks.specs.Read.{lenAt, headAt, headBy, countFrom, Opening, openedAt, bodyAt, Front, checkFront}
 
 -- ---- the head
@@ -195,6 +195,27 @@ module _ (bs : List ℕ) where
       ∙ bind-assoc (later 3 (readAll (readRecord (h .category)) (drop 3 bs))) _ _
       ∙ bind-cong (later 3 (readAll (readRecord (h .category)) (drop 3 bs))) _ _ (λ rs. ap (λ n. ok (record { category = h .category; count = n })) (sym (zero-add (length rs))))
       ∙ sym (bind-assoc (later 3 (readAll (readRecord (h .category)) (drop 3 bs))) _ _)
+
+  -- a block that is opened has a head, and records after it
+  pub record OpenHead (k : Opened) : Type 0 where
+    pub head : Head
+    pub is-head : headBy eqb bs ≡ ok head
+    pub long : 3 < head .len
+    pub category : k .category ≡ head .category
+    pub reads : readAll (readRecord (k .category)) (drop 3 bs) ≡ ok (k .records)
+
+  pub open-head : (k : Opened) → openBlock bs ≡ ok k → OpenHead k
+  open-head k e = go (headBy eqb bs) refl
+    where
+      long : (h : Head) (t : Bool) → headBy eqb bs ≡ ok h → ltb 3 (h .len) ≡ t → OpenHead k
+      long h false p q = refused-ok (sym (open-empty h p (ltb-false 3 (h .len) q)) ∙ e)
+      long h true p q =
+          bind-elim _ _ (sym (open-body h p (ltb-true 3 (h .len) q)) ∙ e) λ rs r f.
+          subst OpenHead (ok-inj f)
+          (record { head = h; is-head = p; long = ltb-true 3 (h .len) q; category = refl; reads = later-inv 3 _ r })
+      go : (x : Answer Head) → headBy eqb bs ≡ x → OpenHead k
+      go (refused n p) q = refused-ok (sym (open-refused n p q) ∙ e)
+      go (ok h) q = long h (ltb 3 (h .len)) q refl
 
   -- ---- the front of a recording
 
