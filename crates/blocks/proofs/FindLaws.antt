@@ -8,16 +8,21 @@ use mathlib.Core.Bool.{Bool, true, false}
 use mathlib.Core.Option.{Option, none, some}
 use mathlib.Core.List.{List, [], _∷_, _++_}
 use native.Mathlib.Omega.{arith}
-use lib.Dec.{eqb, eqb→eq}
-use lib.ListN.{length, take, drop, getD, getElem?}
-use Rattle.rules.specs.Answer.{Answer, ok, refused, _>>=_, need_or_then_, if_then_else_, expect_or_, later}
-use Rattle.rules.specs.Layout.{Layout, Values, concat}
-use Rattle.rules.specs.Record.{Place, Category, Record, places, items, valueOf, readRecord}
-use Rattle.rules.specs.Block.{Block, Head, categoryOf, readAll, writeBlock, readBlock}
-use Rattle.rules.specs.Entry.{categories, Laid, laidAs, laid, laidItems, Numbered, numbered, RecordMap, mapOf, openBlock, findRecord, isItem, findItem, layoutAs}
+use native.Mathlib.Nat.{le-of-eq, add-zero}
+use lib.Dec.{leb, eqb, leb→le, eqb→eq}
+use lib.ListN.{length, take, drop, getD, getElem?, length-append}
+use lib.Seq.{drop-at}
+use Rattle.rules.specs.Answer.{Answer, ok, refused, _>>=_, need_or_then_, if_then_else_, expect_or_, later, octetsOf}
+use Rattle.rules.specs.Layout.{Layout, Values, concat, readItem, writeItem}
+use Rattle.rules.specs.Record.{Place, Category, Record, places, items, valueOf, readRecord, writeRecord, writePlace}
+use Rattle.rules.specs.Block.{Block, Head, categoryOf, readAll, writeAll, writeBlock, readBlock}
+use Rattle.rules.specs.Entry.{categories, Laid, laidAs, laid, laidItems, Numbered, numbered, RecordMap, startOf, mapOf, openBlock, findRecord, isItem, findItem, layoutAs}
 use Rattle.rules.proofs.AnswerLaws.{refused-ok, ok-inj, bind-in, bind-out, bind-elim, need-in, need-out, expect-in, expect-out, expect-elim, later-in, later-out, if-inv, if-true, if-false, some-inj, none-some, T-true, Octets}
 use Rattle.rules.proofs.BlockLaws.{single-forth}
-use Rattle.rules.proofs.EntryLaws.{indexAs}
+use Rattle.rules.proofs.EntryLaws.{Lies, RecordWritten, record-written, ItemFound, item-found, item-absent, RecordFound, record-found, BodyFound, body-found, indexAs, start-found, start-absent}
+use Rattle.rules.proofs.LayoutLaws.{item-laws}
+use Rattle.rules.proofs.Tables.{category-every, distinct, tables-distinct, tables-few}
+use Rattle.rules.proofs.Demands.{items-lie, map-start}
 use Rattle.items.specs.Answers.{isNamed, frnAs, sizeOf}
 use Rattle.blocks.specs.Read.{headBy, Records, seekAt, Opening, openedAt}
 use Rattle.blocks.proofs.HeadLaws.{headed, OpenHead, open-head}
@@ -75,6 +80,16 @@ frn-some ref f (some p ∷ ps) g h =
 
 -- ---- an opened block
 
+-- what is made of a value that is not there
+pub made-refused : {A B : Type 0} (x : Answer A) (f : A → B) (n p : ℕ) → (x >>= λ a. ok (f a)) ≡ refused n p → x ≡ refused n p
+unfolding _>>=_
+made-refused (ok a) f n p h = refused-ok (sym h)
+made-refused (refused m q) f n p h = (cc)
+
+open-refusal : (bs : List ℕ) (n p : ℕ) → openedAt bs ≡ refused n p → openBlock bs ≡ refused n p
+unfolding openedAt
+open-refusal bs n p h = made-refused (openBlock bs) (λ b. record { category = b .category; count = length (b .records) }) n p h
+
 -- what is known of a block that is opened
 pub record Opens (bs : List ℕ) (o : Opening) : Type 0 where
   pub block : Block
@@ -104,3 +119,162 @@ opens bs o b h =
       reads = ap (λ z. readAll (readRecord z) (drop 3 bs)) (sym e) ∙ d .reads ∙ ap ok (sym u);
       room = omega (arith, d .long);
     }
+
+-- ---- a record
+
+-- a block that is refused is not searched
+pub find-refused : (bs : List ℕ) (k n p : ℕ) → openedAt bs ≡ refused n p → findRecord bs k ≡ refused n p
+unfolding findRecord
+find-refused bs k n p h = bind-out _ (open-refusal bs n p h)
+
+-- the record with a number is sought among those after the head
+pub find-record : (bs : List ℕ) (n : ℕ) (o : Opening) → Opens bs o → findRecord bs n ≡ seekAt (o .category) 3 (drop 3 bs) n
+unfolding findRecord seekAt
+find-record bs n o k = bind-in _ (k .opened) refl ∙ sym (bind-in _ (k .reads) refl)
+
+-- ---- an item
+
+numbered-elem : (c : Category) (k : ℕ) (rs : List Record) (n : ℕ) (z : Numbered) → numbered c k rs n ≡ ok z → getElem? rs n ≡ some (z .value)
+unfolding numbered
+numbered-elem c k [] n z h = refused-ok h
+numbered-elem c k (r ∷ rs) zero z h = ap (λ y. some (y .value)) (ok-inj h)
+numbered-elem c k (r ∷ rs) (suc n) z h = numbered-elem c (k + length (octetsOf (writeRecord c r))) rs n z h
+
+-- records and items start no earlier than the first of them
+numbered-low : (c : Category) (k : ℕ) (rs : List Record) (n : ℕ) (z : Numbered) → numbered c k rs n ≡ ok z → k ≤ z .start
+unfolding numbered
+numbered-low c k [] n z h = refused-ok h
+numbered-low c k (r ∷ rs) zero z h = le-of-eq (ap (λ y. y .start) (ok-inj h))
+numbered-low c k (r ∷ rs) (suc n) z h = omega (arith, numbered-low c (k + length (octetsOf (writeRecord c r))) rs n z h)
+
+laid-low : (ref k : ℕ) (ps : List (Option Place)) (vs : List (Option Values)) (l : Laid) → laidAs ref (laid k ps vs) ≡ some l → k ≤ l .start
+laid-low ref k [] vs l h = none-some h
+laid-low ref k (p ∷ ps) [] l h = none-some h
+laid-low ref k (p ∷ ps) (none ∷ vs) l h = laid-low ref k ps vs l h
+laid-low ref k (none ∷ ps) (some v ∷ vs) l h = laid-low ref k ps vs l h
+laid-low ref k (some p ∷ ps) (some v ∷ vs) l h =
+    ⊎-elim
+    (λ (e, g). le-of-eq (ap (λ y. y .start) (some-inj g)))
+    (λ (e, g). omega (arith, laid-low ref (k + length (octetsOf (writePlace p v))) ps vs l g))
+    (if-inv (eqb ref (p .reference)) _ (laidAs ref (laid (k + length (octetsOf (writePlace p v))) ps vs)) h)
+
+-- an item that lies in octets is what is read there
+lies-read : (layout : Layout) (v : Values) (bs out : List ℕ) (start : ℕ) → writeItem layout v ≡ ok out → Lies bs start out
+    → sizeOf layout (drop start bs) ≡ ok (length out)
+unfolding sizeOf
+lies-read layout v bs out start h l =
+    let d : drop start bs ≡ out ++ l .after = ap (drop start) (l .joins) ∙ drop-at (l .before) (out ++ l .after) start (l .starts) in
+    let e : length (drop start bs) ≡ length out + length (l .after) = ap length d ∙ length-append out (l .after) in
+    let n : length (drop start bs) - length (l .after) ≡ length out = omega arith in
+    bind-in _ (ap (readItem layout) d ∙ item-laws layout .back v out (l .after) h) (ap ok n)
+
+pub item-refused : (bs : List ℕ) (ref k n p : ℕ) → openedAt bs ≡ refused n p → findItem bs ref k ≡ refused n p
+unfolding findItem
+item-refused bs ref k n p h = bind-out _ (open-refusal bs n p h)
+
+module _ (bs : List ℕ) (ref n : ℕ) (o : Opening) (k : Opens bs o) where
+  pub item-unknown : isItem ref (places (o .category)) ≡ false → findItem bs ref n ≡ refused 21 0
+  unfolding findItem
+  item-unknown h = bind-in _ (k .opened) (need-out 21 _ h)
+
+  pub item-nowhere : isItem ref (places (o .category)) ≡ true → (m p : ℕ) → seekAt (o .category) 3 (drop 3 bs) n ≡ refused m p → findItem bs ref n ≡ refused m p
+  unfolding findItem seekAt
+  item-nowhere i m p h =
+      bind-in _ (k .opened) (need-in _ 21 (T-true i) (bind-out _ (made-refused (numbered (o .category) 3 (k .block .records) n) (mapOf (o .category)) m p (sym (bind-in _ (k .reads) refl) ∙ h))))
+
+  -- the record that was sought
+  record Sought (m : RecordMap) : Type 0 where
+    value : Record
+    found : RecordFound (o .category) 3 (k .block .records) n bs value
+    map-is : mapOf (o .category) (record { start = found .start; value = value }) ≡ m
+
+  sought : (m : RecordMap) → seekAt (o .category) 3 (drop 3 bs) n ≡ ok m → Sought m
+  unfolding seekAt
+  sought m h =
+      bind-elim _ _ h λ rs p h₁.
+      bind-elim _ _ h₁ λ z q h₂.
+      let y : BodyFound categories (k .block) bs = body-found categories (k .block) bs (k .writes) in
+      let e : y .category ≡ o .category = some-inj (sym (y .is-category) ∙ k .named) in
+      let f : rs ≡ k .block .records = ok-inj (sym p ∙ k .reads) in
+      let g : numbered (o .category) 3 (k .block .records) n ≡ ok z = ap (λ u. numbered (o .category) 3 u n) (sym f) ∙ q in
+      let r : RecordFound (o .category) 3 (k .block .records) n bs (z .value) =
+      record-found (o .category) (k .block .records) n 3 bs (y .body) (z .value) (ap (λ u. writeAll (writeRecord u) (k .block .records)) (sym e) ∙ y .writes) (y .lies)
+      (numbered-elem (o .category) 3 (k .block .records) n z g) in
+      record { value = z .value; found = r; map-is = ap (mapOf (o .category)) (ok-inj (sym (r .is-numbered) ∙ g)) ∙ ok-inj h₂ }
+
+  -- an item that is there: its start is the map's, and its size is what its check answers there
+  pub record ItemAt (m : RecordMap) (l : Laid) : Type 0 where
+    pub is-found : findItem bs ref n ≡ ok l
+    pub start-is : getD (m .starts) (indexAs ref (places (o .category))) 0 ≡ l .start
+    pub some-start : 0 < l .start
+    pub size-is : (p : Layout) → layoutAs ref (places (o .category)) ≡ some p → sizeOf p (drop (l .start) bs) ≡ ok (l .size)
+    pub inside : l .start + l .size ≤ length bs
+
+  pub record ItemAbsent (m : RecordMap) : Type 0 where
+    pub is-absent : findItem bs ref n ≡ refused 20 (m .start)
+    pub start-is : getD (m .starts) (indexAs ref (places (o .category))) 0 ≡ 0
+
+  once : distinct (places (o .category)) ≡ true
+  once = category-every (λ c. distinct (places c)) categories (k .block .cat) (o .category) tables-distinct (k .named)
+
+  few : length (places (o .category)) ≤ 35
+  few = leb→le _ _ (T-true (category-every (λ c. leb (length (places c)) 35) categories (k .block .cat) (o .category) tables-few (k .named)))
+
+  -- where the map has a reference's item
+  start-in : (m : RecordMap) (s : Sought m) → getD (m .starts) (indexAs ref (places (o .category))) 0
+      ≡ startOf (getD (laidItems (o .category) (s .found .start) (s .value)) (indexAs ref (places (o .category))) none)
+  start-in m s =
+      ap (λ z. getD (z .starts) (indexAs ref (places (o .category))) 0) (sym (s .map-is))
+      ∙ map-start (o .category) (record { start = s .found .start; value = s .value }) (indexAs ref (places (o .category))) few
+
+  absent-in : (m : RecordMap) → isItem ref (places (o .category)) ≡ true → (s : Sought m) → valueOf ref (items (o .category) (s .value)) ≡ none → ItemAbsent m
+  unfolding findItem mapOf
+  absent-in m is s e =
+      let a : laidAs ref (laidItems (o .category) (s .found .start) (s .value)) ≡ none =
+      item-absent (places (o .category)) (concat (s .value)) ref (s .found .start + length (s .value)) e in
+      record {
+        is-absent = bind-in _ (k .opened) (need-in _ 21 (T-true is) (bind-in _ (s .found .is-numbered) (later-out _ (expect-out 20 a))))
+            ∙ ap (refused 20) (add-zero _ ∙ ap (λ z. z .start) (s .map-is));
+        start-is = start-in m s ∙ start-absent (places (o .category)) (concat (s .value)) ref (s .found .start + length (s .value)) e;
+      }
+
+  there-in : (m : RecordMap) → isItem ref (places (o .category)) ≡ true → (s : Sought m) (v : Values) → valueOf ref (items (o .category) (s .value)) ≡ some v
+      → (l : Laid) × ItemAt m l
+  unfolding findItem
+  there-in m is s v e =
+      let w : RecordWritten (o .category) (s .value) (s .found .out) = record-written (o .category) (s .value) (s .found .out) (s .found .writes) in
+      let i : ItemFound (places (o .category)) (concat (s .value)) ref (s .found .start + length (s .value)) bs v =
+      item-found (places (o .category)) (concat (s .value)) ref (s .found .start + length (s .value)) bs v (w .each) once (items-lie (s .found) w) e in
+      let low : 3 ≤ s .found .start = numbered-low (o .category) 3 (k .block .records) n _ (s .found .is-numbered) in
+      let high : s .found .start + length (s .value) ≤ i .item .start =
+      laid-low ref (s .found .start + length (s .value)) (places (o .category)) (concat (s .value)) (i .item) (i .is-laid) in
+      let z : length bs ≡ length (i .lies .before) + (length (i .out) + length (i .lies .after)) =
+      ap length (i .lies .joins) ∙ length-append (i .lies .before) (i .out ++ i .lies .after) ∙ ap (λ y. length (i .lies .before) + y) (length-append (i .out) (i .lies .after)) in (
+        i .item,
+        record {
+          is-found = bind-in _ (k .opened) (need-in _ 21 (T-true is) (bind-in _ (s .found .is-numbered) (later-in _ (expect-in 20 (i .is-laid)))));
+          start-is = start-in m s ∙ start-found (places (o .category)) (concat (s .value)) ref (s .found .start + length (s .value)) (i .item) once (i .is-laid);
+          some-start = omega arith;
+          size-is = λ p q.
+              ap (λ y. sizeOf y (drop (i .item .start) bs)) (some-inj (sym q ∙ i .is-layout))
+              ∙ lies-read (i .layout) v bs (i .out) (i .item .start) (i .writes) (i .lies)
+              ∙ ap ok (sym (i .size));
+          inside = omega (arith, i .lies .starts, i .size);
+        },
+      )
+
+  pub item-either : (m : RecordMap) → isItem ref (places (o .category)) ≡ true → seekAt (o .category) 3 (drop 3 bs) n ≡ ok m → ((l : Laid) × ItemAt m l) ⊎ ItemAbsent m
+  item-either m is h = go (valueOf ref (items (o .category) (sought m h .value))) refl
+    where
+      go : (x : Option Values) → valueOf ref (items (o .category) (sought m h .value)) ≡ x → ((l : Laid) × ItemAt m l) ⊎ ItemAbsent m
+      go none e = inr (absent-in m is (sought m h) e)
+      go (some v) e = inl (there-in m is (sought m h) v e)
+
+  -- by the map alone: 0 is absent
+  pub item-absent-at : (m : RecordMap) → isItem ref (places (o .category)) ≡ true → seekAt (o .category) 3 (drop 3 bs) n ≡ ok m
+      → getD (m .starts) (indexAs ref (places (o .category))) 0 ≡ 0 → findItem bs ref n ≡ refused 20 (m .start)
+  item-absent-at m is h z = ⊎-elim (λ (l, a). absurd (omega (arith, a .start-is, a .some-start))) (λ a. a .is-absent) (item-either m is h)
+
+  pub item-there-at : (m : RecordMap) → isItem ref (places (o .category)) ≡ true → seekAt (o .category) 3 (drop 3 bs) n ≡ ok m
+      → (getD (m .starts) (indexAs ref (places (o .category))) 0 ≡ 0 → ⊥) → (l : Laid) × ItemAt m l
+  item-there-at m is h z = ⊎-elim (λ a. a) (λ a. absurd (z (a .start-is))) (item-either m is h)

@@ -213,6 +213,7 @@ module _ (bs : List ℕ) where
           bind-elim _ _ (sym (open-body h p (ltb-true 3 (h .len) q)) ∙ e) λ rs r f.
           subst OpenHead (ok-inj f)
           (record { head = h; is-head = p; long = ltb-true 3 (h .len) q; category = refl; reads = later-inv 3 _ r })
+
       go : (x : Answer Head) → headBy eqb bs ≡ x → OpenHead k
       go (refused n p) q = refused-ok (sym (open-refused n p q) ∙ e)
       go (ok h) q = long h (ltb 3 (h .len)) q refl
