@@ -12,13 +12,17 @@ use lib.Dec.{T, leb, ltb, eqb, leb→le, le→leb, lt→ltb, eqb→eq}
 use borrow.Author.Tests.{le-leb, lt-leb, lt-ltb, le-ltb, ltb-true, ltb-false, eq-eqb, ne-eqb}
 use lib.ListN.{length, take, drop, getD, length-drop}
 use lib.Seq.{take-all}
-use Rattle.rules.specs.Answer.{Answer, ok, refused, _>>=_, need_or_then_, expect_or_, later}
+use Rattle.rules.specs.Answer.{Answer, ok, refused, _>>=_, need_or_then_, if_then_else_, expect_or_, later}
 use Rattle.rules.specs.Layout.{joined, readNum}
 use Rattle.rules.specs.Record.{Category, readRecord}
 use Rattle.rules.specs.Block.{Block, Head, categoryOf, readAll, readHead, readBody, readBlock}
 use Rattle.rules.specs.Entry.{categories, checkBlock, Opened, openBlock, oldBlock}
+use Rattle.rules.specs.Category017.{category017}
+use Rattle.rules.specs.Category018.{category018}
 use Rattle.rules.proofs.BlockLaws.{category-cat}
-use Rattle.rules.proofs.AnswerLaws.{refused-ok, ok-inj, later-inv, bind-elim, need-elim, expect-elim, expect-in, bind-in, bind-out, bind-assoc, bind-cong, need-bind, need-in, need-out, T-true}
+use Rattle.rules.proofs.AnswerLaws.{refused-ok, ok-inj, later-inv, bind-elim, need-elim, expect-elim, expect-in, expect-out, if-false, bind-in, bind-out, bind-assoc, bind-cong, need-bind, need-in, need-out, T-true, Octets}
+use Rattle.records.specs.Sets.{categoryAt}
+use Rattle.blocks.proofs.LoopLaws.{octets-at}
 use Rattle.blocks.specs.Read.{lenAt, headAt, headBy, countFrom, Opening, openedAt, bodyAt, Front, checkFront}
 
 -- ---- the head
@@ -60,6 +64,40 @@ head-short fits (a ∷ (b ∷ (d ∷ bs))) l = absurd (omega arith)
 pub head-none : (bs : List ℕ) → length bs < 3 → headAt bs ≡ refused 1 0
 unfolding headAt
 head-none bs l = need-out 1 _ (lt-leb 3 (length bs) l)
+
+-- its category, by CAT
+
+pub cat-017 : (k : ℕ) → k ≡ 17 → categoryOf k categories ≡ some (categoryAt 0)
+unfolding categoryOf categories categoryAt if_then_else_ category017 category018
+cat-017 k e = rw e
+
+pub cat-018 : (k : ℕ) → k ≡ 18 → categoryOf k categories ≡ some (categoryAt 1)
+unfolding categoryOf categories categoryAt if_then_else_ category017 category018
+cat-018 k e = rw e
+
+pub cat-other : (k : ℕ) → (k ≡ 17 → ⊥) → (k ≡ 18 → ⊥) → categoryOf k categories ≡ none
+unfolding categoryOf categories category017 category018
+cat-other k p q = if-false _ (ne-eqb k 17 p) (if-false _ (ne-eqb k 18 q) refl)
+
+-- answer by answer
+module _ (bs : List ℕ) (three : 3 ≤ length bs) where
+  pub head-alien : categoryOf (getD bs 0 0) categories ≡ none → headAt bs ≡ refused 2 0
+  unfolding headAt
+  head-alien e = need-in _ 1 (le→leb 3 (length bs) three) (bind-out _ (expect-out 2 e))
+
+  pub head-less : (c : Category) (a b : ℕ) → categoryOf (getD bs 0 0) categories ≡ some c → a ≡ getD bs 1 0 → b ≡ getD bs 2 0 → a * 256 + b < 3 → headAt bs ≡ refused 3 0
+  unfolding headAt
+  head-less c a b e p q l =
+      let m : lenAt bs < 3 = rw (← p, ← q) l in
+      need-in _ 1 (le→leb 3 (length bs) three) (bind-in _ (expect-in 2 e) (need-out 3 _ (lt-leb 3 (lenAt bs) m)))
+
+  pub head-good : (c : Category) (a b : ℕ) → categoryOf (getD bs 0 0) categories ≡ some c → a ≡ getD bs 1 0 → b ≡ getD bs 2 0 → 3 ≤ a * 256 + b
+      → headAt bs ≡ ok (record { category = c; len = a * 256 + b })
+  unfolding headAt
+  head-good c a b e p q l =
+      let m : 3 ≤ lenAt bs = rw (← p, ← q) l in
+      need-in _ 1 (le→leb 3 (length bs) three)
+      (bind-in _ (expect-in 2 e) (need-in _ 3 (le→leb 3 (lenAt bs) m) (ap₂ (λ y z. ok (record { category = c; len = y * 256 + z })) (sym p) (sym q))))
 
 pub head-is : (fits : ℕ → ℕ → Bool) (bs : List ℕ)
     → readHead fits categories bs ≡ (headAt bs >>= λ h. need fits (h .len) (length bs) or 3 then ok (h, drop 3 bs))
@@ -121,6 +159,10 @@ module _ (fits : ℕ → ℕ → Bool) (bs : List ℕ) where
         named = ap (λ k. categoryOf k categories) (sym (category-cat (getD bs 0 0) categories c found)) ∙ found;
       }) t)
 
+  -- LEN has two octets
+  pub len-few : (h : Head) → Octets bs → headBy fits bs ≡ ok h → h .len < 65_536
+  len-few h o e = omega (arith, headed h e .len-is, octets-at bs 1 o, octets-at bs 2 o)
+
   -- ---- a block, answer by answer, however LEN is held to the octets lent
 
   pub block-refused : (n p : ℕ) → headBy fits bs ≡ refused n p → readBlock fits categories bs ≡ refused n p
@@ -163,6 +205,12 @@ check-opened bs = go (readBlock eqb categories bs) refl
         let (c, f) = block-category eqb bs rest b e in
         bind-in _ e refl ∙ sym (bind-in _ (bind-in _ (bind-in _ e (bind-in _ (expect-in 2 f) refl)) refl) refl)
 
+pub check-accepted : (bs : List ℕ) (o : Opening) → openedAt bs ≡ ok o → checkBlock bs ≡ ok (o .count)
+check-accepted bs o h = check-opened bs ∙ bind-in _ h refl
+
+pub check-refused : (bs : List ℕ) (n p : ℕ) → openedAt bs ≡ refused n p → checkBlock bs ≡ refused n p
+check-refused bs n p h = check-opened bs ∙ bind-out _ h
+
 module _ (bs : List ℕ) where
   -- LEN leaves all that is after the head
   pub body-all : (h : Head) → headBy eqb bs ≡ ok h → bodyAt h bs ≡ drop 3 bs
@@ -187,14 +235,32 @@ module _ (bs : List ℕ) where
       ∙ bind-cong (later 3 (readAll (readRecord (h .category)) (bodyAt h bs))) _ _ (λ rs. bind-in _ (expect-in 2 (headed eqb bs h e .named)) refl)
       ∙ ap (λ z. later 3 (readAll (readRecord (h .category)) z) >>= λ rs. ok (record { category = h .category; records = rs })) (body-all h e)
 
-  pub opened-body : (h : Head) → headBy eqb bs ≡ ok h → 3 < h .len
+  pub opened-refused : (n p : ℕ) → headBy eqb bs ≡ refused n p → openedAt bs ≡ refused n p
+  unfolding openedAt
+  opened-refused n p e = bind-out _ (open-refused n p e)
+
+  pub opened-empty : (h : Head) → headBy eqb bs ≡ ok h → h .len ≡ 3 → openedAt bs ≡ refused 4 0
+  unfolding openedAt
+  opened-empty h e l = bind-out _ (open-empty h e (omega arith))
+
+  opened-body : (h : Head) → headBy eqb bs ≡ ok h → (h .len ≡ 3 → ⊥)
       → openedAt bs ≡ (countFrom (h .category) 0 3 (drop 3 bs) >>= λ n. ok (record { category = h .category; count = n }))
   unfolding openedAt countFrom _>>=_
   opened-body h e l =
-      ap (λ z. z >>= λ b. ok (record { category = b .category; count = length (b .records) })) (open-body h e l)
+      let m : 3 < h .len = omega (arith, headed eqb bs h e .least) in
+      ap (λ z. z >>= λ b. ok (record { category = b .category; count = length (b .records) })) (open-body h e m)
       ∙ bind-assoc (later 3 (readAll (readRecord (h .category)) (drop 3 bs))) _ _
       ∙ bind-cong (later 3 (readAll (readRecord (h .category)) (drop 3 bs))) _ _ (λ rs. ap (λ n. ok (record { category = h .category; count = n })) (sym (zero-add (length rs))))
       ∙ sym (bind-assoc (later 3 (readAll (readRecord (h .category)) (drop 3 bs))) _ _)
+
+  -- by what was found of the part after the head
+  pub opened-stop : (h : Head) (part : List ℕ) (n p : ℕ) → headBy eqb bs ≡ ok h → (h .len ≡ 3 → ⊥) → part ≡ drop 3 bs
+      → countFrom (h .category) 0 3 part ≡ refused n p → openedAt bs ≡ refused n p
+  opened-stop h part n p e l q r = opened-body h e l ∙ bind-out _ (ap (countFrom (h .category) 0 3) (sym q) ∙ r)
+
+  pub opened-all : (h : Head) (part : List ℕ) (n : ℕ) → headBy eqb bs ≡ ok h → (h .len ≡ 3 → ⊥) → part ≡ drop 3 bs
+      → countFrom (h .category) 0 3 part ≡ ok n → openedAt bs ≡ ok (record { category = h .category; count = n })
+  opened-all h part n e l q r = opened-body h e l ∙ bind-in _ (ap (countFrom (h .category) 0 3) (sym q) ∙ r) refl
 
   -- a block that is opened has a head, and records after it
   pub record OpenHead (k : Opened) : Type 0 where
@@ -224,22 +290,30 @@ module _ (bs : List ℕ) where
   unfolding checkFront
   front-refused n p e = bind-out _ (block-refused leb bs n p e)
 
-  pub front-empty : (h : Head) → headBy leb bs ≡ ok h → h .len ≤ 3 → checkFront bs ≡ refused 4 0
+  pub front-empty : (h : Head) → headBy leb bs ≡ ok h → h .len ≡ 3 → checkFront bs ≡ refused 4 0
   unfolding checkFront
-  front-empty h e l = bind-out _ (block-empty leb bs h e l)
+  front-empty h e l = bind-out _ (block-empty leb bs h e (omega arith))
 
   front-len : (n : ℕ) → 3 ≤ n → n ≤ length bs → length bs - length (drop (n - 3) (drop 3 bs)) ≡ n
   front-len n l m = rw (length-drop (n - 3) (drop 3 bs), length-drop 3 bs) (omega arith)
 
-  pub front-body : (h : Head) → headBy leb bs ≡ ok h → 3 < h .len
+  front-body : (h : Head) → headBy leb bs ≡ ok h → (h .len ≡ 3 → ⊥)
       → checkFront bs ≡ (countFrom (h .category) 0 3 (bodyAt h bs) >>= λ n. ok (record { len = h .len; records = n }))
   unfolding checkFront countFrom _>>=_
   front-body h e l =
-      ap (λ z. z >>= λ x. ok (record { len = length bs - length (x .1); records = length (x .0 .records) })) (block-body leb bs h e l)
+      let m : 3 < h .len = omega (arith, headed leb bs h e .least) in
+      ap (λ z. z >>= λ x. ok (record { len = length bs - length (x .1); records = length (x .0 .records) })) (block-body leb bs h e m)
       ∙ bind-assoc (later 3 (readAll (readRecord (h .category)) (bodyAt h bs))) _ _
       ∙ bind-cong (later 3 (readAll (readRecord (h .category)) (bodyAt h bs))) _ _
-      (λ rs. ap₂ (λ m n. ok (record { len = m; records = n })) (front-len (h .len) (omega arith) (leb→le _ _ (headed leb bs h e .fitted))) (sym (zero-add (length rs))))
+      (λ rs. ap₂ (λ m n. ok (record { len = m; records = n })) (front-len (h .len) (headed leb bs h e .least) (leb→le _ _ (headed leb bs h e .fitted))) (sym (zero-add (length rs))))
       ∙ sym (bind-assoc (later 3 (readAll (readRecord (h .category)) (bodyAt h bs))) _ _)
+
+  pub front-stop : (h : Head) (n p : ℕ) → headBy leb bs ≡ ok h → (h .len ≡ 3 → ⊥) → countFrom (h .category) 0 3 (bodyAt h bs) ≡ refused n p → checkFront bs ≡ refused n p
+  front-stop h n p e l r = front-body h e l ∙ bind-out _ r
+
+  pub front-all : (h : Head) (n : ℕ) → headBy leb bs ≡ ok h → (h .len ≡ 3 → ⊥) → countFrom (h .category) 0 3 (bodyAt h bs) ≡ ok n
+      → checkFront bs ≡ ok (record { len = h .len; records = n })
+  front-all h n e l r = front-body h e l ∙ bind-in _ r refl
 
 -- ---- the block that a record is added to: LEN 3 is allowed
 

@@ -13,6 +13,8 @@ use Rattle.rules.specs.Block.{readUpTo, readAll}
 use Rattle.rules.specs.Entry.{RecordMap, mapOf, Numbered, numbered}
 use Rattle.rules.proofs.AnswerLaws.{refused-ok, ok-inj, bind-in, bind-out, bind-elim, bind-cong, bind-assoc, later-inv, later-in, octetsOf-ok, Octets, Split}
 use Rattle.rules.proofs.RecordLaws.{record-laws, record-starts}
+use Rattle.records.specs.Sets.{categoryAt}
+use Rattle.records.specs.Answers.{recordAt}
 use Rattle.blocks.specs.Read.{countFrom, Records, seekAt}
 use Rattle.blocks.proofs.LoopLaws.{Taken, taken-out, all-end, all-stop, all-turn, later-zero}
 
@@ -21,6 +23,10 @@ use Rattle.blocks.proofs.LoopLaws.{Taken, taken-out, all-end, all-stop,
 -- the map of the record that starts octets, its places counted from k on
 abbrev pub recordIn : Category → ℕ → List ℕ → Answer RecordMap
 recordIn c k bs = later k (readRecord c bs >>= λ x. ok (mapOf c (record { start = k; value = x .0 })))
+
+pub record-is : (i k : ℕ) (bs : List ℕ) → recordAt i k bs ≡ recordIn (categoryAt i) k bs
+unfolding recordAt
+record-is i k bs = ?
 
 -- a record that starts octets: its value, and the octets to its end
 pub record Accepted (c : Category) (k : ℕ) (bs : List ℕ) (m : RecordMap) : Type 0 where
@@ -78,17 +84,25 @@ count-stop c n k bs m q l h =
 left-over : {c : Category} {k : ℕ} {bs : List ℕ} {m : RecordMap} (a : Accepted c k bs m) → k + (length bs - length (drop (m .end - k) bs)) ≡ m .end
 left-over {bs = bs} {m = m} a = rw length-drop (omega (arith, a .low, a .high))
 
-pub count-turn : (c : Category) (n k : ℕ) (bs : List ℕ) (m : RecordMap) → Octets bs → recordIn c k bs ≡ ok m
-    → countFrom c n k bs ≡ countFrom c (n + 1) (m .end) (drop (m .end - k) bs)
+pub count-turn : (c : Category) (n k : ℕ) (bs rest : List ℕ) (m : RecordMap) → Octets bs → recordIn c k bs ≡ ok m → rest ≡ drop (m .end - k) bs
+    → countFrom c n k bs ≡ countFrom c (n + 1) (m .end) rest
 unfolding countFrom
-count-turn c n k bs m o h =
+count-turn c n k bs rest m o h left =
     let a : Accepted c k bs m = record-accepted c k bs m o h in
     all-turn (record-laws c) (record-starts c) k bs (drop (m .end - k) bs) (a .value) _ o (a .reads)
     ∙ ap (λ z. later z (readAll (readRecord c) (drop (m .end - k) bs)) >>= λ rs. ok (n + suc (length rs))) (left-over a)
     ∙ bind-cong (later (m .end) (readAll (readRecord c) (drop (m .end - k) bs))) _ _ (λ rs. ap ok (more n (length rs)))
+    ∙ ap (λ z. later (m .end) (readAll (readRecord c) z) >>= λ rs. ok (n + 1 + length rs)) (sym left)
   where
     more : (i j : ℕ) → i + suc j ≡ i + 1 + j
     more i j = omega arith
+
+-- what holds at each turn of the loop that counts the records of a part: what is left, where it starts, and how many came before
+pub record Counting (c : Category) (part : List ℕ) (from : ℕ) (rest : List ℕ) (at n : ℕ) : Type 0 where
+  pub room : at + length rest < 65_536
+  pub few : n + length rest ≤ length part
+  pub octets : Octets rest
+  pub same : countFrom c n at rest ≡ countFrom c 0 from part
 
 -- ---- the record with a number, in octets that are records
 

@@ -1,0 +1,134 @@
+-- `check::open_block` meets its contract: at each `return` the head, and then the records, say which case of the rule holds. Assumes nothing.
+use mathlib.Core.Path.{_≡_, sym, ap, ap₂, _∙_}
+use Prim.Native.Nat.{_<_, _≤_}
+use borrow.Author.Needs.{needs}
+use native.Mathlib.Omega.{arith}
+use lib.Dec.{eqb, eqb→eq}
+use lib.ListN.{length}
+use Rattle.rules.specs.Answer.{ok, refused}
+use Rattle.rules.specs.Block.{Head}
+use Rattle.records.specs.Sets.{categoryAt}
+use Rattle.blocks.specs.Read.{headBy}
+use Rattle.blocks.specs.Answers.{headOf, headNumber, checkedOf, checkedNumber, checkedPlace}
+use Rattle.blocks.proofs.LoopLaws.{octets-each, to-end}
+use Rattle.blocks.proofs.HeadLaws.{headed, len-few, opened-refused, opened-empty, opened-stop, opened-all}
+use Rattle.blocks.proofs.check.open_block.Statement.{statement}
+use Rattle.blocks.proofs.check.open_block.Tie as tie
+use Rattle.blocks.proofs.check.open_block.Reads as reads
+use Rattle.blocks.proofs.check.open_block.Lts as lts
+use Rattle.blocks.proofs.check.BlockChecked.number.Reads as check-BlockChecked-number-reads
+use Rattle.blocks.proofs.check.BlockChecked.place.Reads as place-reads
+use Rattle.blocks.proofs.check.check_records.Reads as check-records-reads
+use Rattle.blocks.proofs.head.HeadRead.number.Reads as head-HeadRead-number-reads
+use Rattle.blocks.proofs.head.single_head.Reads as single-head-reads
+
+-- the head that was read
+abbrev head-of : tie.Else1 → Head
+head-of c = record { category = categoryAt (c .before .before .head .given .0 .0); len = c .before .before .head .given .0 .1 .0 }
+
+has-head : (c : tie.Else1) → headBy eqb (c .before .before .before .before .before .before .args .block .now) ≡ ok (head-of c)
+has-head c = sym (c .before .before .before .before .single-head .ensures) ∙ ap headOf (c .before .before .head .given .1)
+
+-- LEN is the length lent, and so has two octets
+len-is : (c : tie.Else1) → head-of c .len ≡ length (c .before .before .before .before .before .before .args .block .now)
+len-is c = eqb→eq _ _ (headed eqb (c .before .before .before .before .before .before .args .block .now) (head-of c) (has-head c) .fitted)
+
+few : (c : tie.Else1) → head-of c .len < 65_536
+few c =
+    len-few eqb (c .before .before .before .before .before .before .args .block .now) (head-of c)
+    (octets-each (c .before .before .before .before .before .before .args .block .now) (c .before .before .before .before .before .shared-slice-known .given)) (has-head c)
+
+least : (c : tie.Else1) → 3 ≤ length (c .before .before .before .before .before .before .args .block .now)
+least c = headed eqb (c .before .before .before .before .before .before .args .block .now) (head-of c) (has-head c) .room
+
+-- src/check.rt:84:9
+single-head-requires : tie.Need-single-head-requires
+single-head-requires c κs = search needs
+
+-- src/check.rt:85:26
+enum-known-head : tie.Need-enum-known-head
+enum-known-head c = search needs
+
+-- src/check.rt:87:21
+enum-told : tie.Need-enum-told
+enum-told c = search needs
+
+-- src/check.rt:87:21
+number-requires : tie.Need-number-requires
+number-requires c κs = search needs
+
+-- src/check.rt:86:9
+returns : tie.Need-returns
+returns c = 
+    ap (λ n. refused n 0) (c .number .ensures ∙ ap headNumber (c .before .enum-told .given .1))
+    ∙ sym (opened-refused _ _ _ (sym (c .before .before .before .single-head .ensures) ∙ ap headOf (c .before .enum-told .given .1)))
+
+-- src/check.rt:92:9
+returns-2 : tie.Need-returns-2
+returns-2 c = sym (opened-empty _ (record { category = categoryAt (c .before .before .head .given .0 .0); len = c .before .before .head .given .0 .1 .0 }) (sym (c .before .before .before .before .single-head .ensures) ∙ ap headOf (c .before .before .head .given .1)) (c .if1 .taken))
+
+-- src/check.rt:97:42
+sub-check-records : tie.Need-sub-check-records
+sub-check-records c = least c
+
+-- src/check.rt:97:42
+part-check-records-start : tie.Need-part-check-records-start
+part-check-records-start c = least c
+
+-- src/check.rt:97:42
+part-check-records-end : tie.Need-part-check-records-end
+part-check-records-end c = search needs
+
+-- src/check.rt:97:9
+check-records-requires : tie.Need-check-records-requires
+check-records-requires c κs = omega (arith, few (c .before), len-is (c .before), c .check-records-arg .given .2)
+
+-- src/check.rt:98:34
+enum-known-checked : tie.Need-enum-known-checked
+enum-known-checked c = search needs
+
+-- src/check.rt:100:21
+enum-told-2 : tie.Need-enum-told-2
+enum-told-2 c = search needs
+
+-- src/check.rt:100:21
+number-requires-2 : tie.Need-number-requires-2
+number-requires-2 c κs = search needs
+
+-- src/check.rt:101:20
+place-requires : tie.Need-place-requires
+place-requires c κs = search needs
+
+-- src/check.rt:99:9
+returns-3 : tie.Need-returns-3
+returns-3 c = 
+    ap₂ refused (c .before .number2 .ensures ∙ ap checkedNumber (c .before .before .enum-told2 .given .1)) (c .place .ensures ∙ ap checkedPlace (c .before .before .enum-told2 .given .1))
+    ∙ sym (opened-stop _ (head-of (c .before .before .before .before .before .before)) _ _ _ (has-head (c .before .before .before .before .before .before)) (c .before .before .before .before .before .before .if1 .left) (to-end (c .before .before .before .before .before .before .before .before .before .before .before .before .args .block .now) 3)
+    (sym (c .before .before .before .before .check-records .ensures) ∙ ap checkedOf (c .before .before .enum-told2 .given .1)))
+
+-- src/check.rt:81:1
+returns-4 : tie.Need-returns-4
+returns-4 c = 
+    sym (opened-all _ (head-of (c .before .before .before .before .before)) _ _ (has-head (c .before .before .before .before .before)) (c .before .before .before .before .before .if1 .left) (to-end (c .before .before .before .before .before .before .before .before .before .before .before .args .block .now) 3)
+    (sym (c .before .before .before .check-records .ensures) ∙ ap checkedOf (c .before .checked .given .1)))
+
+pub open-block-spec : {M : Type 1} → statement M
+open-block-spec =
+    tie.close
+    (tie.spec
+    single-head-requires
+    enum-known-head
+    enum-told
+    number-requires
+    returns
+    returns-2
+    sub-check-records
+    part-check-records-start
+    part-check-records-end
+    check-records-requires
+    enum-known-checked
+    enum-told-2
+    number-requires-2
+    place-requires
+    returns-3
+    returns-4)
