@@ -22,6 +22,9 @@ use Rattle.rules.specs.Category018.{category018}
 use Rattle.rules.proofs.BlockLaws.{category-cat}
 use Rattle.rules.proofs.AnswerLaws.{refused-ok, ok-inj, later-inv, bind-elim, need-elim, expect-elim, expect-in, expect-out, if-false, bind-in, bind-out, bind-assoc, bind-cong, need-bind, need-in, need-out, T-true, Octets}
 use Rattle.records.specs.Sets.{categoryAt}
+use Rattle.blocks.specs.declared.check.BlockChecked.{BlockChecked}
+use Rattle.blocks.specs.declared.check.BlockChecked.the-variants as blockChecked
+use Rattle.blocks.specs.Answers.{checkedOf, openedBy}
 use Rattle.blocks.proofs.LoopLaws.{octets-at}
 use Rattle.blocks.specs.Read.{lenAt, headAt, headBy, countFrom, Opening, openedAt, bodyAt, Front, checkFront}
 
@@ -195,7 +198,7 @@ block-category fits bs rest b e =
     (h .category, ap (λ z. categoryOf (z .0 .cat) categories) (sym (ok-inj e₃)) ∙ ap (λ z. categoryOf (z .0 .category .cat) categories) (sym (ok-inj p₂)) ∙ headed fits bs h p₁ .named)
 
 -- checking a block is opening it
-pub check-opened : (bs : List ℕ) → checkBlock bs ≡ (openedAt bs >>= λ o. ok (o .count))
+check-opened : (bs : List ℕ) → checkBlock bs ≡ (openedAt bs >>= λ o. ok (o .count))
 unfolding checkBlock openedAt openBlock
 check-opened bs = go (readBlock eqb categories bs) refl
   where
@@ -205,11 +208,16 @@ check-opened bs = go (readBlock eqb categories bs) refl
         let (c, f) = block-category eqb bs rest b e in
         bind-in _ e refl ∙ sym (bind-in _ (bind-in _ (bind-in _ e (bind-in _ (expect-in 2 f) refl)) refl) refl)
 
-pub check-accepted : (bs : List ℕ) (o : Opening) → openedAt bs ≡ ok o → checkBlock bs ≡ ok (o .count)
-check-accepted bs o h = check-opened bs ∙ bind-in _ h refl
+-- what was found of the records is what was found of the block
+pub opened-by : (i : ℕ) (x : BlockChecked) → openedBy i x ≡ (checkedOf x >>= λ n. ok (record { category = categoryAt i; count = n }))
+unfolding _>>=_
+opened-by i (blockChecked.Accepted n) = refl
+opened-by i (blockChecked.Refused n p) = refl
 
-pub check-refused : (bs : List ℕ) (n p : ℕ) → openedAt bs ≡ refused n p → checkBlock bs ≡ refused n p
-check-refused bs n p h = check-opened bs ∙ bind-out _ h
+pub check-is : (bs : List ℕ) (i : ℕ) (x : BlockChecked) → openedBy i x ≡ openedAt bs → checkedOf x ≡ checkBlock bs
+unfolding _>>=_
+check-is bs i (blockChecked.Accepted n) h = sym (check-opened bs ∙ bind-in _ (sym h) refl)
+check-is bs i (blockChecked.Refused n p) h = sym (check-opened bs ∙ bind-out _ (sym h))
 
 module _ (bs : List ℕ) where
   -- LEN leaves all that is after the head
@@ -243,24 +251,17 @@ module _ (bs : List ℕ) where
   unfolding openedAt
   opened-empty h e l = bind-out _ (open-empty h e (omega arith))
 
-  opened-body : (h : Head) → headBy eqb bs ≡ ok h → (h .len ≡ 3 → ⊥)
-      → openedAt bs ≡ (countFrom (h .category) 0 3 (drop 3 bs) >>= λ n. ok (record { category = h .category; count = n }))
+  -- by the part after the head
+  pub opened-body : (h : Head) (part : List ℕ) → headBy eqb bs ≡ ok h → (h .len ≡ 3 → ⊥) → part ≡ drop 3 bs
+      → openedAt bs ≡ (countFrom (h .category) 0 3 part >>= λ n. ok (record { category = h .category; count = n }))
   unfolding openedAt countFrom _>>=_
-  opened-body h e l =
+  opened-body h part e l q =
       let m : 3 < h .len = omega (arith, headed eqb bs h e .least) in
       ap (λ z. z >>= λ b. ok (record { category = b .category; count = length (b .records) })) (open-body h e m)
       ∙ bind-assoc (later 3 (readAll (readRecord (h .category)) (drop 3 bs))) _ _
       ∙ bind-cong (later 3 (readAll (readRecord (h .category)) (drop 3 bs))) _ _ (λ rs. ap (λ n. ok (record { category = h .category; count = n })) (sym (zero-add (length rs))))
       ∙ sym (bind-assoc (later 3 (readAll (readRecord (h .category)) (drop 3 bs))) _ _)
-
-  -- by what was found of the part after the head
-  pub opened-stop : (h : Head) (part : List ℕ) (n p : ℕ) → headBy eqb bs ≡ ok h → (h .len ≡ 3 → ⊥) → part ≡ drop 3 bs
-      → countFrom (h .category) 0 3 part ≡ refused n p → openedAt bs ≡ refused n p
-  opened-stop h part n p e l q r = opened-body h e l ∙ bind-out _ (ap (countFrom (h .category) 0 3) (sym q) ∙ r)
-
-  pub opened-all : (h : Head) (part : List ℕ) (n : ℕ) → headBy eqb bs ≡ ok h → (h .len ≡ 3 → ⊥) → part ≡ drop 3 bs
-      → countFrom (h .category) 0 3 part ≡ ok n → openedAt bs ≡ ok (record { category = h .category; count = n })
-  opened-all h part n e l q r = opened-body h e l ∙ bind-in _ (ap (countFrom (h .category) 0 3) (sym q) ∙ r) refl
+      ∙ ap (λ z. countFrom (h .category) 0 3 z >>= λ n. ok (record { category = h .category; count = n })) (sym q)
 
   -- a block that is opened has a head, and records after it
   pub record OpenHead (k : Opened) : Type 0 where

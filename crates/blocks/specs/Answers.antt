@@ -15,7 +15,6 @@ use Rattle.blocks.specs.declared.head.HeadRead.the-variants as headRead
 use Rattle.blocks.specs.declared.check.BlockChecked.{BlockChecked}
 use Rattle.blocks.specs.declared.check.BlockChecked.the-variants as blockChecked
 use Rattle.blocks.specs.declared.check.BlockOpened.{BlockOpened}
-use Rattle.blocks.specs.declared.check.BlockOpened.the-variants as blockOpened
 use Rattle.blocks.specs.declared.check.FrontChecked.{FrontChecked}
 use Rattle.blocks.specs.declared.check.FrontChecked.the-variants as frontChecked
 use Rattle.blocks.specs.Read.{Opening, Front}
@@ -53,9 +52,12 @@ abbrev pub checkedBy : RecordChecked → Answer ℕ
 checkedBy (recordChecked.Ends e) = ok 0
 checkedBy (recordChecked.Refused n p) = refused n p
 
+abbrev pub openedBy : ℕ → BlockChecked → Answer Opening
+openedBy i (blockChecked.Accepted n) = ok (record { category = categoryAt i; count = n })
+openedBy i (blockChecked.Refused n p) = refused n p
+
 abbrev pub openedOf : BlockOpened → Answer Opening
-openedOf (blockOpened.Records i n) = ok (record { category = categoryAt i; count = n })
-openedOf (blockOpened.Refused n p) = refused n p
+openedOf o = openedBy (o .profile) (o .checked)
 
 abbrev pub frontOf : FrontChecked → Answer Front
 frontOf (frontChecked.Block l n) = ok (record { len = l; records = n })

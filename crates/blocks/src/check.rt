@@ -72,10 +72,10 @@ pub fn check_records(profile: usize, part: &[u8], from: usize) -> BlockChecked
     BlockChecked::Accepted { records: n }
 }
 
-// A single block's profile and its count of records, or a refusal.
-pub enum BlockOpened {
-    Records { profile: usize, count: usize },
-    Refused { number: u8, place: usize },
+// A single block: its profile, 0 where it is refused, and its check.
+pub struct BlockOpened {
+    pub profile: usize,
+    pub checked: BlockChecked,
 }
 
 pub fn open_block(block: &[u8]) -> BlockOpened
@@ -83,28 +83,25 @@ pub fn open_block(block: &[u8]) -> BlockOpened
 {
     let head = single_head(block);
     let HeadRead::Head { profile, len } = head else {
-        return BlockOpened::Refused {
-            number: head.number(),
-            place: 0,
+        return BlockOpened {
+            profile: 0,
+            checked: BlockChecked::Refused {
+                number: head.number(),
+                place: 0,
+            },
         };
     };
     if len == HEAD {
-        return BlockOpened::Refused {
-            number: 4,
-            place: 0,
+        return BlockOpened {
+            profile: 0,
+            checked: BlockChecked::Refused {
+                number: 4,
+                place: 0,
+            },
         };
     }
     let checked = check_records(profile, &block[HEAD..], HEAD);
-    let BlockChecked::Accepted { records } = checked else {
-        return BlockOpened::Refused {
-            number: checked.number(),
-            place: checked.place(),
-        };
-    };
-    BlockOpened::Records {
-        profile,
-        count: records,
-    }
+    BlockOpened { profile, checked }
 }
 
 // A single block: all of the bytes lent.
@@ -112,10 +109,7 @@ pub fn check_block(block: &[u8]) -> BlockChecked
     ensures { λ r. ⌜ checkedOf r ≡ checkBlock (now (block .entry)) ⌝ }
 {
     let opened = open_block(block);
-    match opened {
-        BlockOpened::Records { profile: _, count } => BlockChecked::Accepted { records: count },
-        BlockOpened::Refused { number, place } => BlockChecked::Refused { number, place },
-    }
+    opened.checked
 }
 
 // The block at the front of a recording: how many bytes it takes and its count of records, or a refusal, its place counted from the block's start.

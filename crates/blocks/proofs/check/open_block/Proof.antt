@@ -1,25 +1,23 @@
 -- `check::open_block` meets its contract: at each `return` the head, and then the records, say which case of the rule holds. Assumes nothing.
-use mathlib.Core.Path.{_≡_, sym, ap, ap₂, _∙_}
+use mathlib.Core.Path.{_≡_, sym, ap, _∙_}
 use Prim.Native.Nat.{_<_, _≤_}
 use borrow.Author.Needs.{needs}
 use native.Mathlib.Omega.{arith}
 use lib.Dec.{eqb, eqb→eq}
 use lib.ListN.{length}
-use Rattle.rules.specs.Answer.{ok, refused}
+use Rattle.rules.specs.Answer.{ok, refused, _>>=_}
 use Rattle.rules.specs.Block.{Head}
 use Rattle.records.specs.Sets.{categoryAt}
 use Rattle.blocks.specs.Read.{headBy}
-use Rattle.blocks.specs.Answers.{headOf, headNumber, checkedOf, checkedNumber, checkedPlace}
+use Rattle.blocks.specs.Answers.{headOf, headNumber}
 use Rattle.blocks.proofs.LoopLaws.{octets-each, to-end}
-use Rattle.blocks.proofs.HeadLaws.{headed, len-few, opened-refused, opened-empty, opened-stop, opened-all}
+use Rattle.blocks.proofs.HeadLaws.{headed, len-few, opened-refused, opened-empty, opened-body, opened-by}
 use Rattle.blocks.proofs.check.open_block.Statement.{statement}
 use Rattle.blocks.proofs.check.open_block.Tie as tie
 use Rattle.blocks.proofs.check.open_block.Reads as reads
 use Rattle.blocks.proofs.check.open_block.Lts as lts
-use Rattle.blocks.proofs.check.BlockChecked.number.Reads as check-BlockChecked-number-reads
-use Rattle.blocks.proofs.check.BlockChecked.place.Reads as place-reads
 use Rattle.blocks.proofs.check.check_records.Reads as check-records-reads
-use Rattle.blocks.proofs.head.HeadRead.number.Reads as head-HeadRead-number-reads
+use Rattle.blocks.proofs.head.HeadRead.number.Reads as number-reads
 use Rattle.blocks.proofs.head.single_head.Reads as single-head-reads
 
 -- the head that was read
@@ -49,11 +47,11 @@ single-head-requires c κs = search needs
 enum-known-head : tie.Need-enum-known-head
 enum-known-head c = search needs
 
--- src/check.rt:87:21
+-- src/check.rt:89:25
 enum-told : tie.Need-enum-told
 enum-told c = search needs
 
--- src/check.rt:87:21
+-- src/check.rt:89:25
 number-requires : tie.Need-number-requires
 number-requires c κs = search needs
 
@@ -63,54 +61,32 @@ returns c =
     ap (λ n. refused n 0) (c .number .ensures ∙ ap headNumber (c .before .enum-told .given .1))
     ∙ sym (opened-refused _ _ _ (sym (c .before .before .before .single-head .ensures) ∙ ap headOf (c .before .enum-told .given .1)))
 
--- src/check.rt:92:9
+-- src/check.rt:95:9
 returns-2 : tie.Need-returns-2
 returns-2 c = sym (opened-empty _ (record { category = categoryAt (c .before .before .head .given .0 .0); len = c .before .before .head .given .0 .1 .0 }) (sym (c .before .before .before .before .single-head .ensures) ∙ ap headOf (c .before .before .head .given .1)) (c .if1 .taken))
 
--- src/check.rt:97:42
+-- src/check.rt:103:42
 sub-check-records : tie.Need-sub-check-records
 sub-check-records c = least c
 
--- src/check.rt:97:42
+-- src/check.rt:103:42
 part-check-records-start : tie.Need-part-check-records-start
 part-check-records-start c = least c
 
--- src/check.rt:97:42
+-- src/check.rt:103:42
 part-check-records-end : tie.Need-part-check-records-end
 part-check-records-end c = search needs
 
--- src/check.rt:97:9
+-- src/check.rt:103:9
 check-records-requires : tie.Need-check-records-requires
 check-records-requires c κs = omega (arith, few (c .before), len-is (c .before), c .check-records-arg .given .2)
 
--- src/check.rt:98:34
-enum-known-checked : tie.Need-enum-known-checked
-enum-known-checked c = search needs
-
--- src/check.rt:100:21
-enum-told-2 : tie.Need-enum-told-2
-enum-told-2 c = search needs
-
--- src/check.rt:100:21
-number-requires-2 : tie.Need-number-requires-2
-number-requires-2 c κs = search needs
-
--- src/check.rt:101:20
-place-requires : tie.Need-place-requires
-place-requires c κs = search needs
-
--- src/check.rt:99:9
+-- src/check.rt:81:1
 returns-3 : tie.Need-returns-3
 returns-3 c = 
-    ap₂ refused (c .before .number2 .ensures ∙ ap checkedNumber (c .before .before .enum-told2 .given .1)) (c .place .ensures ∙ ap checkedPlace (c .before .before .enum-told2 .given .1))
-    ∙ sym (opened-stop _ (head-of (c .before .before .before .before .before .before)) _ _ _ (has-head (c .before .before .before .before .before .before)) (c .before .before .before .before .before .before .if1 .left) (to-end (c .before .before .before .before .before .before .before .before .before .before .before .before .args .block .now) 3)
-    (sym (c .before .before .before .before .check-records .ensures) ∙ ap checkedOf (c .before .before .enum-told2 .given .1)))
-
--- src/check.rt:81:1
-returns-4 : tie.Need-returns-4
-returns-4 c = 
-    sym (opened-all _ (head-of (c .before .before .before .before .before)) _ _ (has-head (c .before .before .before .before .before)) (c .before .before .before .before .before .if1 .left) (to-end (c .before .before .before .before .before .before .before .before .before .before .before .args .block .now) 3)
-    (sym (c .before .before .before .check-records .ensures) ∙ ap checkedOf (c .before .checked .given .1)))
+    opened-by _ (c .check-records .result)
+    ∙ ap (λ z. z >>= λ n. ok (record { category = head-of (c .before .before) .category; count = n })) (c .check-records .ensures)
+    ∙ sym (opened-body _ (head-of (c .before .before)) _ (has-head (c .before .before)) (c .before .before .if1 .left) (to-end (c .before .before .before .before .before .before .before .before .args .block .now) 3))
 
 pub open-block-spec : {M : Type 1} → statement M
 open-block-spec =
@@ -126,9 +102,4 @@ open-block-spec =
     part-check-records-start
     part-check-records-end
     check-records-requires
-    enum-known-checked
-    enum-told-2
-    number-requires-2
-    place-requires
-    returns-3
-    returns-4)
+    returns-3)
