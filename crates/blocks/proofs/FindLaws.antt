@@ -17,7 +17,7 @@ use Rattle.rules.specs.Layout.{Layout, Values, concat, readItem, writeItem}
 use Rattle.rules.specs.Record.{Place, Category, Record, places, items, valueOf, readRecord, writeRecord, writePlace}
 use Rattle.rules.specs.Block.{Block, Head, categoryOf, readAll, writeAll, writeBlock, readBlock}
 use Rattle.rules.specs.Entry.{categories, Laid, laidAs, laid, laidItems, Numbered, numbered, RecordMap, startOf, mapOf, openBlock, findRecord, isItem, findItem, layoutAs}
-use Rattle.rules.proofs.AnswerLaws.{refused-ok, ok-inj, bind-in, bind-out, bind-elim, need-in, need-out, expect-in, expect-out, expect-elim, later-in, later-out, if-inv, if-true, if-false, some-inj, none-some, T-true, Octets}
+use Rattle.rules.proofs.AnswerLaws.{refused-ok, ok-inj, bind-in, bind-out, bind-elim, need-in, need-out, expect-in, expect-out, expect-elim, later-in, later-out, if-inv, if-true, if-false, some-inj, none-some, T-true, octetsOf-ok, Octets}
 use Rattle.rules.proofs.BlockLaws.{single-forth}
 use Rattle.rules.proofs.EntryLaws.{Lies, RecordWritten, record-written, ItemFound, item-found, item-absent, RecordFound, record-found, BodyFound, body-found, indexAs, start-found, start-absent}
 use Rattle.rules.proofs.LayoutLaws.{item-laws}
@@ -25,7 +25,7 @@ use Rattle.rules.proofs.Tables.{category-every, distinct, tables-distinct, tabl
 use Rattle.rules.proofs.Demands.{items-lie, map-start}
 use Rattle.items.specs.Answers.{isNamed, frnAs, sizeOf}
 use Rattle.blocks.specs.Read.{headBy, Records, seekAt, Opening, openedAt}
-use Rattle.blocks.proofs.HeadLaws.{headed, OpenHead, open-head}
+use Rattle.blocks.proofs.HeadLaws.{headed, len-few, OpenHead, open-head}
 
 -- ---- the FRN of a reference
 
@@ -98,6 +98,7 @@ pub record Opens (bs : List ℕ) (o : Opening) : Type 0 where
   pub named : categoryOf (block .cat) categories ≡ some (o .category)
   pub reads : readAll (readRecord (o .category)) (drop 3 bs) ≡ ok (block .records)
   pub room : 3 < length bs
+  pub few : length bs < 65_536
 
 pub opens : (bs : List ℕ) (o : Opening) → Octets bs → openedAt bs ≡ ok o → Opens bs o
 unfolding openedAt openBlock
@@ -118,7 +119,11 @@ opens bs o b h =
       named = named ∙ ap some (sym g ∙ e);
       reads = ap (λ z. readAll (readRecord z) (drop 3 bs)) (sym e) ∙ d .reads ∙ ap ok (sym u);
       room = omega (arith, d .long);
+      few = omega (arith, len-few eqb bs (d .head) b (d .is-head));
     }
+
+pub opens-records : {bs : List ℕ} {o : Opening} → Opens bs o → Records (o .category) (drop 3 bs)
+opens-records k = record { values = k .block .records; reads = k .reads }
 
 -- ---- a record
 
@@ -278,3 +283,24 @@ module _ (bs : List ℕ) (ref n : ℕ) (o : Opening) (k : Opens bs o) where
   pub item-there-at : (m : RecordMap) → isItem ref (places (o .category)) ≡ true → seekAt (o .category) 3 (drop 3 bs) n ≡ ok m
       → (getD (m .starts) (indexAs ref (places (o .category))) 0 ≡ 0 → ⊥) → (l : Laid) × ItemAt m l
   item-there-at m is h z = ⊎-elim (λ a. a) (λ a. absurd (z (a .start-is))) (item-either m is h)
+
+-- ---- what is found lies in the block
+
+lies-inside : {bs : List ℕ} {start : ℕ} {out : List ℕ} → Lies bs start out → start + length out ≤ length bs
+lies-inside {bs} {start} {out} l =
+    let e : length bs ≡ length (l .before) + (length out + length (l .after)) =
+    ap length (l .joins) ∙ length-append (l .before) (out ++ l .after) ∙ ap (λ z. length (l .before) + z) (length-append out (l .after)) in
+    omega (arith, l .starts)
+
+pub record-inside : (bs : List ℕ) (n : ℕ) (m : RecordMap) → Octets bs → findRecord bs n ≡ ok m → m .start + (m .end - m .start) ≤ length bs
+unfolding findRecord openedAt mapOf
+record-inside bs n m b h =
+    bind-elim _ _ h λ x p h₁.
+    let o : Opening = record { category = x .category; count = length (x .records) } in
+    let k : Opens bs o = opens bs o b (bind-in _ p refl) in
+    let s : Sought bs 0 n o k m = sought bs 0 n o k m (sym (find-record bs n o k) ∙ h) in
+    let i : s .found .start + length (s .found .out) ≤ length bs = lies-inside (s .found .lies) in
+    let e : s .found .start + length (s .found .out) ≡ m .end =
+    ap (λ z. s .found .start + length z) (sym (octetsOf-ok (s .found .writes))) ∙ ap (λ z. z .end) (s .map-is) in
+    let f : s .found .start ≡ m .start = ap (λ z. z .start) (s .map-is) in
+    omega arith

@@ -7,12 +7,13 @@ use records::RecordMap;
 ghost use mathlib.Core.Path.{_≡_};
 ghost use Prim.Native.Nat.{_+_, _≤_, _<_};
 ghost use lib.ListN.{length};
+ghost use Rattle.rules.specs.Answer.{refused};
 ghost use Rattle.rules.specs.Entry.{findRecord};
 ghost use Rattle.records.specs.Sets.{categoryAt};
 ghost use Rattle.blocks.specs.Read.{Records, seekAt};
 ghost use Rattle.blocks.specs.Part.{VeryPart};
 ghost use Rattle.blocks.specs.Answers.{checkedNumber, checkedPlace};
-ghost use Rattle.blocks.specs.Found.{recordLocated, recordLost, recordSpan};
+ghost use Rattle.blocks.specs.Found.{recordLocated, recordSpan};
 
 // The bytes of a block from start on, so many: that very part.
 fn part_of(block: &[u8], start: usize, count: usize) -> &[u8]
@@ -42,7 +43,7 @@ pub struct RecordLocated {
 }
 
 fn record_lost(number: u8, place: usize) -> RecordLocated
-    ensures { λ r. ⌜ r ≡ recordLost number place ⌝ }
+    ensures { λ r. ⌜ r ≡ recordLocated (refused number place) ⌝ }
 {
     RecordLocated {
         answer: RecordPlace::Refused { number, place },

@@ -1,17 +1,14 @@
 -- `check::check_records` meets its contract. The loop's invariant: the rule on what is left, counted on, is the rule on the whole. The measure is
 -- the length of what is left. Assumes nothing.
-use Prim.Native.Nat.{_+_, _-_, _≤_, _<_}
-use mathlib.Core.Path.{_≡_, refl, sym, ap, _∙_}
+use Prim.Native.Nat.{_-_}
+use mathlib.Core.Path.{refl, sym, ap, _∙_}
 use borrow.Author.Needs.{needs}
 use native.Mathlib.Omega.{arith}
 use lib.ListN.{length}
-use Rattle.rules.specs.Answer.{ok}
-use Rattle.rules.specs.Entry.{RecordMap}
 use Rattle.records.specs.Sets.{categoryAt}
-use Rattle.records.specs.Answers.{walkedBy}
 use Rattle.blocks.specs.Answers.{checkedBy}
-use Rattle.blocks.proofs.LoopLaws.{octets-each, octets-drop, octets-to-end, to-end}
-use Rattle.blocks.proofs.RecordLaws.{recordIn, record-is, Accepted, record-accepted, count-end, count-stop, count-turn, Counting}
+use Rattle.blocks.proofs.LoopLaws.{octets-each, to-end}
+use Rattle.blocks.proofs.RecordLaws.{Accepted, walked-accepted, walked-refused, count-end, count-stop, Counting, count-again}
 use Rattle.blocks.proofs.check.check_records.Statement.{statement}
 use Rattle.blocks.proofs.check.check_records.Tie as tie
 use Rattle.blocks.proofs.check.check_records.Reads as reads
@@ -25,29 +22,13 @@ Inv-loop profile part from rest₀ at₀ n₀ rest at n = Counting (categoryAt p
 abbrev μ-loop : tie.MeasureT-loop
 μ-loop profile part from rest₀ at₀ n₀ rest at n = length rest
 
--- the turn at which a record was accepted: where it began, and the record's map
-abbrev at-loop : tie.After-known-told Inv-loop μ-loop → tie.At-loop Inv-loop μ-loop
-at-loop c = c .before .before .before .before .before
-
-abbrev map-of : tie.After-known-told Inv-loop μ-loop → RecordMap
-map-of c =
-    record {
-      start = at-loop c .loop .at;
-      starts = c .before .before .before .check-record .result .map .starts;
-      end = c .before .checked .given .0 .0;
-      count = c .before .before .before .check-record .result .map .count;
-    }
-
-mapped : (c : tie.After-known-told Inv-loop μ-loop)
-    → recordIn (categoryAt (c .before .before .before .before .before .before .before .args .profile)) (at-loop c .loop .at) (at-loop c .loop .rest .now) ≡ ok (map-of c)
-mapped c =
-    sym (record-is _ _ _)
-    ∙ sym (c .before .before .before .check-record .ensures)
-    ∙ ap (λ z. walkedBy (at-loop c .loop .at) z (c .before .before .before .check-record .result .map)) (c .before .checked .given .1)
-
+-- the record of this turn
 accepted : (c : tie.After-known-told Inv-loop μ-loop)
-    → Accepted (categoryAt (c .before .before .before .before .before .before .before .args .profile)) (at-loop c .loop .at) (at-loop c .loop .rest .now) (map-of c)
-accepted c = record-accepted _ _ _ (map-of c) (at-loop c .loop .inv .octets) (mapped c)
+    → Accepted (categoryAt (c .before .before .before .before .before .before .before .args .profile)) (c .before .before .before .before .before .loop .at)
+    (c .before .before .before .before .before .loop .rest .now) (c .before .checked .given .0 .0)
+accepted c =
+    walked-accepted _ _ (c .before .before .before .before .before .loop .rest .now) (c .before .before .before .check-record .result) (c .before .before .before .check-record .ensures) _
+    (c .before .before .before .before .before .loop .inv .octets) (c .before .checked .given .1)
 
 -- src/check.rt:61:5
 loop-holds : tie.Need-loop-holds Inv-loop μ-loop
@@ -74,8 +55,7 @@ returns : tie.Need-returns Inv-loop μ-loop
 returns c = 
     c .refused-by .ensures
     ∙ ap checkedBy (c .before .enum-told .given .1)
-    ∙ sym (count-stop _ _ _ _ _ _ (c .before .before .before .before .loop-test .taken)
-    (sym (record-is _ _ _) ∙ sym (c .before .before .before .check-record .ensures) ∙ ap (λ z. walkedBy (c .before .before .before .before .before .loop .at) z (c .before .before .before .check-record .result .map)) (c .before .enum-told .given .1)))
+    ∙ sym (count-stop _ _ _ _ _ _ (c .before .before .before .before .loop-test .taken) (walked-refused _ _ _ (c .before .before .before .check-record .result) (c .before .before .before .check-record .ensures) _ _ (c .before .enum-told .given .1)))
     ∙ c .before .before .before .before .before .loop .inv .same
 
 -- src/check.rt:67:20
@@ -105,12 +85,7 @@ loop-less c = omega (arith, accepted (c .before) .low, accepted (c .before) .hig
 -- src/check.rt:61:5
 loop-again : tie.Need-loop-again Inv-loop μ-loop
 loop-again c = 
-    record {
-      room = omega (arith, accepted (c .before) .low, accepted (c .before) .high, c .rest .given .2);
-      few = omega (arith, accepted (c .before) .low, accepted (c .before) .high, c .rest .given .2);
-      octets = octets-to-end (at-loop (c .before) .loop .rest .now) (map-of (c .before) .end - at-loop (c .before) .loop .at) (at-loop (c .before) .loop .inv .octets);
-      same = sym (count-turn _ _ _ _ _ (map-of (c .before)) (at-loop (c .before) .loop .inv .octets) (mapped (c .before)) (to-end (at-loop (c .before) .loop .rest .now) (map-of (c .before) .end - at-loop (c .before) .loop .at))) ∙ at-loop (c .before) .loop .inv .same;
-    }
+    count-again _ _ _ (c .before .before .before .before .before .before .loop .rest .now) _ _ _ _ (c .before .before .before .before .before .before .loop .inv) (accepted (c .before)) (to-end (c .before .before .before .before .before .before .loop .rest .now) (c .before .before .checked .given .0 .0 - c .before .before .before .before .before .before .loop .at))
 
 -- src/check.rt:54:1
 returns-2 : tie.Need-returns-2 Inv-loop μ-loop
