@@ -88,7 +88,7 @@ below63 b c s h = lt-of-lt-of-le h (pow-mono {j = 63} (le-trans s (lit≤ tt)))
 
 -- ---- one field
 
-twice : (w : ℕ) → 1 ≤ w → half w + half w ≡ 2 ^ w
+pub twice : (w : ℕ) → 1 ≤ w → half w + half w ≡ 2 ^ w
 twice zero h = absurd (not-suc-le-zero h)
 twice (suc k) h = let e : suc k - 1 ≡ k = omega arith in rw e (omega (arith, pow-suc 2 k))
 
@@ -97,11 +97,11 @@ unfolding need_or_then_
 need-and true t x = refl
 need-and false t x = refl
 
-low-minus : (lo c : ℕ) → leZ (minus lo) (pos c) ≡ true
+pub low-minus : (lo c : ℕ) → leZ (minus lo) (pos c) ≡ true
 low-minus zero c = leb·zero c
 low-minus (suc n) c = refl
 
-low-neg : (lo m : ℕ) → leZ (minus lo) (negsuc m) ≡ ltb m lo
+pub low-neg : (lo m : ℕ) → leZ (minus lo) (negsuc m) ≡ ltb m lo
 low-neg zero m = sym (le-ltb m 0 zero-le)
 low-neg (suc n) m = sym (leb·suc-suc m n)
 

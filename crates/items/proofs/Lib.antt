@@ -4,3 +4,5 @@ pub mod Turns
 pub mod OctetLaws
 pub mod PartLaws
 pub mod ShapeLaws
+pub mod ReadLaws
+pub mod CheckLaws

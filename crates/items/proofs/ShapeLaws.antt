@@ -173,11 +173,14 @@ module _ (l : LayoutRow) (r : Rowed l) where
   pub led-group : l .0 ≡ 3 → Grouped l
   led-group e = grouped (step-kind 3 e) (omega (arith, led-many e))
 
-  pub chain-many : l .0 ≡ 4 → l .2 ≡ l .4 - l .3
-  chain-many e = let t = by-kind 4 e in eqb-true _ _ (both-right (eqb 0 0) _ (both-left (eqb 0 0 && eqb (l .2) (l .4 - l .3)) _ t))
+  pub chain-ends : l .0 ≡ 4 → l .3 + l .2 ≡ l .4
+  chain-ends e = let t = by-kind 4 e in eqb-true _ _ (both-right (eqb 0 0) _ (both-left (eqb 0 0 && eqb (l .3 + l .2) (l .4)) _ t))
+
+  chain-many : l .0 ≡ 4 → l .2 ≡ l .4 - l .3
+  chain-many e = omega (arith, chain-ends e)
 
   pub chain-inside : l .0 ≡ 4 → l .4 ≤ 52
-  chain-inside e = let t = by-kind 4 e in leb-true _ _ (both-right (eqb 0 0 && eqb (l .2) (l .4 - l .3)) _ t)
+  chain-inside e = let t = by-kind 4 e in leb-true _ _ (both-right (eqb 0 0 && eqb (l .3 + l .2) (l .4)) _ t)
 
   pub chain-parts : l .0 ≡ 4 → partsSound 1 (l .3) (l .4 - l .3) ≡ true
   chain-parts e = subst (λ x. partsSound x (l .3) (l .4 - l .3) ≡ true) (step-kind 4 e) (subst (λ x. partsSound (stepOf (l .0)) (l .3) x ≡ true) (chain-many e) (r .parts))
@@ -192,7 +195,7 @@ module _ (l : LayoutRow) (r : Rowed l) where
       go (suc (suc (suc zero))) e = lit≤ tt
       go (suc (suc (suc (suc k)))) e =
           let t = by-kind (suc (suc (suc (suc k)))) e in
-          let z : k ≡ 0 = eqb-true _ _ (both-left (eqb k 0) _ (both-left (eqb k 0 && eqb (l .2) (l .4 - l .3)) _ t)) in
+          let z : k ≡ 0 = eqb-true _ _ (both-left (eqb k 0) _ (both-left (eqb k 0 && eqb (l .3 + l .2) (l .4)) _ t)) in
           omega arith
 
   -- what is left when each other way has been tested

@@ -12,6 +12,8 @@ use Rattle.rules.specs.Record.{Place}
 use Rattle.rules.specs.Entry.{categories, profileAt}
 use Rattle.items.specs.declared.FrnFound.{FrnFound}
 use Rattle.items.specs.declared.FrnFound.the-variants.{Frn, NoItem}
+use Rattle.items.specs.declared.ItemCheck.{ItemCheck}
+use Rattle.items.specs.declared.ItemCheck.the-variants.{Whole, Refused}
 
 -- ---- places
 
@@ -30,6 +32,10 @@ frnOf (Frn f) = some f
 frnOf NoItem = none
 
 -- ---- the check of an item
+
+abbrev pub checkedOf : ItemCheck → Answer ℕ
+checkedOf (Whole n) = ok n
+checkedOf (Refused n p) = refused n p
 
 -- how many octets the item that starts the octets takes
 unfoldable pub sizeOf : Layout → List ℕ → Answer ℕ

@@ -8,9 +8,9 @@ use lib.IntN.{ℤ, pos, negsuc}
 use lib.Signed.{leZ}
 use lib.ListN.{length, take, drop, getD}
 use lib.Seq.{slice}
-use Rattle.rules.specs.Answer.{Answer, ok, refused, _>>=_, need_or_then_, if_then_else_}
+use Rattle.rules.specs.Answer.{Answer, ok, refused, _>>=_, need_or_then_, if_then_else_, Read}
 use Rattle.rules.specs.Field.{Field, spare, value, unsigned, signed}
-use Rattle.rules.specs.Layout.{joined}
+use Rattle.rules.specs.Layout.{Values, joined}
 use Rattle.items.specs.declared.parts.Shape.{Shape}
 use Rattle.items.specs.declared.parts.Shape.the-variants.{Parts, Refused}
 use Rattle.items.specs.declared.tables.FieldRow.{FieldRow}
@@ -143,6 +143,22 @@ shapeBy (suc (suc (suc (suc k)))) lo hi a e bs = chain a (e - a) bs
 unfoldable pub shapeOf : LayoutRow → List ℕ → Answer Shaped
 shapeOf l bs = shapeBy (l .0) (l .1) (l .2) (l .3) (l .4) bs
 
+-- the shape of an item whose fields are legal
+unfoldable pub wholeOf : LayoutRow → List ℕ → Answer Shaped
+wholeOf l bs = do
+  s ← shapeOf l bs
+  need partsLegal (stepOf (l .0)) (l .3) (s .0) (drop (headOf (l .0)) bs) or 11 then ok s
+
+-- ---- an item by its row: its shape, then its fields
+
+abbrev pub readKind : ℕ → ℕ → ℕ → ℕ → ℕ → Read Values
+readKind k lo hi a e bs = do
+  (c, long) ← shapeBy k lo hi a e bs
+  need partsLegal (stepOf k) a c (drop (headOf k) bs) or 11 then ok (partValues (stepOf k) a c (drop (headOf k) bs), drop long bs)
+
+unfoldable pub readBy : LayoutRow → Read Values
+readBy l bs = readKind (l .0) (l .1) (l .2) (l .3) (l .4) bs
+
 -- ---- rows that the code can work with
 
 -- one octet of eight bits
@@ -158,7 +174,7 @@ rowSoundBy zero hi a e = true
 rowSoundBy (suc zero) hi a e = eqb hi 1
 rowSoundBy (suc (suc zero)) hi a e = leb 1 hi
 rowSoundBy (suc (suc (suc zero))) hi a e = eqb hi 254 && eqb (groupAt a .0) 1 && isOctet (slice (groupAt a .1) (groupAt a .2) fields)
-rowSoundBy (suc (suc (suc (suc k)))) hi a e = eqb k 0 && eqb hi (e - a) && leb e 52
+rowSoundBy (suc (suc (suc (suc k)))) hi a e = eqb k 0 && eqb (a + hi) e && leb e 52
 
 -- there is a sound group for each part that an item may have, and room for all their values
 unfoldable pub rowSound : LayoutRow → Bool

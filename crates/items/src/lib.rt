@@ -3,9 +3,12 @@ mod fields;
 mod parts;
 mod tables;
 
+use parts::Shape;
+use parts::whole_of;
 use tables::FRNS;
 use tables::PROFILES;
 use tables::PlaceRow;
+use tables::layout_at;
 use tables::place_at;
 ghost use mathlib.Core.Path.{_≡_};
 ghost use mathlib.Core.List.{List};
@@ -14,7 +17,7 @@ ghost use Rattle.rules.specs.Layout.{concat};
 ghost use Rattle.rules.specs.Presence.{present, placeAt};
 ghost use Rattle.rules.specs.Entry.{categories, profileAt};
 ghost use Rattle.items.specs.Tables.{placeIs};
-ghost use Rattle.items.specs.Answers.{isNamed, frnAs, frnOf};
+ghost use Rattle.items.specs.Answers.{isNamed, frnAs, frnOf, checkedOf, checkAt};
 
 // ---- where an item stands
 
@@ -68,4 +71,25 @@ pub fn frn_of(profile: usize, reference: u16) -> FrnFound
         frn += 1;
     }
     FrnFound::NoItem
+}
+
+// ---- checking an item
+
+// What checking an item answers.
+pub enum ItemCheck {
+    // Its octets are there and its fields are legal: how many octets it takes.
+    Whole(usize),
+    // The number of the refusal, and its place, counted from the item's start.
+    Refused { number: u8, place: usize },
+}
+
+// How many octets the item of a profile at an FRN takes, which starts the part: 21 where the profile has none there; 9, 10, 9 of the body, 11.
+pub fn check_item(profile: usize, frn: usize, part: &[u8]) -> ItemCheck
+    ensures { λ r. ⌜ checkedOf r ≡ checkAt profile frn (now (part .entry)) ⌝ }
+{
+    let p = place_of(profile, frn);
+    match whole_of(layout_at(p.0), part) {
+        Shape::Parts { count: _, long } => ItemCheck::Whole(long),
+        Shape::Refused { number } => ItemCheck::Refused { number, place: 0 },
+    }
 }

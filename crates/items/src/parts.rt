@@ -13,7 +13,7 @@ ghost use mathlib.Core.Bool.{true};
 ghost use Prim.Native.Nat.{_+_, _-_, _*_, _%_, _≤_, _<_, _^_};
 ghost use lib.ListN.{length, take, drop};
 ghost use Rattle.rules.specs.Layout.{joined};
-ghost use Rattle.items.specs.Read.{rowsAt, partAt, legal, span, partSound, partsSound, partsLegal, shapeIs, chain, listShape, shapeOf, rowSound};
+ghost use Rattle.items.specs.Read.{rowsAt, partAt, legal, span, partSound, partsSound, partsLegal, shapeIs, chain, listShape, headOf, shapeOf, wholeOf, rowSound};
 ghost use lib.Dec.{eqb};
 ghost use Rattle.items.specs.Tables.{groupAt};
 
@@ -175,4 +175,43 @@ pub fn shape_of(l: LayoutRow, s: &[u8]) -> Shape
         };
     }
     list_of(l, n, s.len())
+}
+
+// How many octets come before the parts.
+fn head_of(kind: u8) -> usize
+    ensures { λ r. ⌜ r ≡ headOf kind ⌝ }
+{
+    if kind == REPEATED {
+        return 1;
+    }
+    if kind == LED {
+        return 1;
+    }
+    0
+}
+
+// The shape of an item whose fields are legal, else 11. The fields of a free group need no look, however many parts there are.
+pub fn whole_of(l: LayoutRow, s: &[u8]) -> Shape
+    requires { ⌜ rowSound l ≡ true ⌝ }
+    ensures { λ r. ⌜ shapeIs r ≡ wholeOf l (now (s .entry)) ⌝ }
+{
+    let shape = shape_of(l, s);
+    let Shape::Parts { count, long: _ } = shape else {
+        return shape;
+    };
+    let kind = l.0;
+    if kind == EXTENDED {
+        if parts_legal(s, 0, count, l.3, 1) {
+            return shape;
+        }
+        return Shape::Refused { number: 11 };
+    }
+    let g = group_at(l.3);
+    if g.4 {
+        return shape;
+    }
+    if parts_legal(s, head_of(kind), count, l.3, 0) {
+        return shape;
+    }
+    Shape::Refused { number: 11 }
 }
