@@ -9,21 +9,29 @@ use mathlib.Core.Option.{Option, none, some}
 use mathlib.Core.List.{List, [], _∷_, _++_}
 use native.Mathlib.Omega.{arith}
 use native.Mathlib.Nat.{le-of-eq, add-zero}
-use lib.Dec.{leb, eqb, leb→le, eqb→eq}
-use lib.ListN.{length, take, drop, getD, getElem?, length-append}
+use borrow.Author.Tests.{ltb-true, ltb-false}
+use lib.Dec.{T, leb, ltb, eqb, leb→le, eqb→eq}
+use lib.ListN.{length, take, drop, getD, getElem?, length-append, List·getD-eq-default}
 use lib.Seq.{drop-at}
 use Rattle.rules.specs.Answer.{Answer, ok, refused, _>>=_, need_or_then_, if_then_else_, expect_or_, later, octetsOf}
 use Rattle.rules.specs.Layout.{Layout, Values, concat, readItem, writeItem}
+use Rattle.rules.specs.Presence.{placeAt}
 use Rattle.rules.specs.Record.{Place, Category, Record, places, items, valueOf, readRecord, writeRecord, writePlace}
 use Rattle.rules.specs.Block.{Block, Head, categoryOf, readAll, writeAll, writeBlock, readBlock}
-use Rattle.rules.specs.Entry.{categories, Laid, laidAs, laid, laidItems, Numbered, numbered, RecordMap, startOf, mapOf, openBlock, findRecord, isItem, findItem, layoutAs}
-use Rattle.rules.proofs.AnswerLaws.{refused-ok, ok-inj, bind-in, bind-out, bind-elim, need-in, need-out, expect-in, expect-out, expect-elim, later-in, later-out, if-inv, if-true, if-false, some-inj, none-some, T-true, octetsOf-ok, Octets}
+use Rattle.rules.specs.Entry.{categories, profileAt, Laid, laidAs, laid, laidItems, Numbered, numbered, RecordMap, startOf, mapOf, Opened, openBlock, findRecord, isItem, findItem, layoutAs}
+use Rattle.rules.proofs.AnswerLaws.{refused-ok, ok-inj, bind-in, bind-out, bind-elim, need-in, need-elim, need-out, expect-in, expect-out, expect-elim, later-in, later-out, if-inv, if-true, if-false, some-inj, none-some, T-true, octetsOf-ok, Octets}
 use Rattle.rules.proofs.BlockLaws.{single-forth}
 use Rattle.rules.proofs.EntryLaws.{Lies, RecordWritten, record-written, ItemFound, item-found, item-absent, RecordFound, record-found, BodyFound, body-found, indexAs, start-found, start-absent}
 use Rattle.rules.proofs.LayoutLaws.{item-laws}
 use Rattle.rules.proofs.Tables.{category-every, distinct, tables-distinct, tables-few}
 use Rattle.rules.proofs.Demands.{items-lie, map-start}
-use Rattle.items.specs.Answers.{isNamed, frnAs, sizeOf}
+use Rattle.items.specs.Answers.{isNamed, frnAs, sizeOf, checkAt}
+use Rattle.records.specs.Sets.{categoryIn, categoryAt}
+use Rattle.records.specs.Answers.{mapIn}
+use Rattle.blocks.specs.declared.find.RecordPlace.the-variants as recordPlace
+use Rattle.blocks.specs.declared.find.RecordLocated.{RecordLocated}
+use Rattle.blocks.specs.declared.find.ItemLocated.the-variants as itemLocated
+use Rattle.blocks.specs.Found.{recordLocated, recordSpan, locatedOf, itemSpan}
 use Rattle.blocks.specs.Read.{headBy, Records, seekAt, Opening, openedAt}
 use Rattle.blocks.proofs.HeadLaws.{headed, len-few, OpenHead, open-head}
 
@@ -77,6 +85,30 @@ frn-some ref f (some p ∷ ps) g h =
       layout-is = if-false (some (p .layout)) e (n .layout-is);
     })
     (if-inv (eqb ref (p .reference)) (some f) (frnAs ref (f + 1) ps) h)
+
+-- its index in a map of 35 places
+pub index-few : (i : ℕ) {ref f g : ℕ} → NamedAt ref f (places (categoryAt i)) g → indexAs ref (places (categoryAt i)) < length (places (categoryAt i))
+index-few i {ref} n = go (ltb (indexAs ref (places (categoryAt i))) (length (places (categoryAt i)))) refl
+  where
+    go : (t : Bool) → ltb (indexAs ref (places (categoryAt i))) (length (places (categoryAt i))) ≡ t → indexAs ref (places (categoryAt i)) < length (places (categoryAt i))
+    go true e = ltb-true _ _ e
+    go false e = none-some (sym (List·getD-eq-default (places (categoryAt i)) none (ltb-false _ _ e)) ∙ n .place-is)
+
+-- the check of the item at that FRN
+profile-in : (cs : List Category) (i : ℕ) → categoryIn cs i .profile ≡ profileAt cs i
+profile-in [] i = refl
+profile-in (c ∷ cs) zero = refl
+profile-in (c ∷ cs) (suc i) = profile-in cs i
+
+pub profile-is : (i : ℕ) → categoryAt i .profile ≡ profileAt categories i
+unfolding categoryAt
+profile-is i = profile-in categories i
+
+pub check-at : (i ref g : ℕ) (bs : List ℕ) (n : NamedAt ref 1 (places (categoryAt i)) g) → checkAt i g bs ≡ sizeOf (n .place .layout) bs
+unfolding checkAt
+check-at i ref g bs n =
+    let e : g ≡ suc (indexAs ref (places (categoryAt i))) = n .frn-is ∙ omega arith in
+    bind-in _ (expect-in 21 (ap₂ placeAt (sym (profile-is i)) e ∙ n .place-is)) refl
 
 -- ---- an opened block
 
@@ -222,15 +254,15 @@ module _ (bs : List ℕ) (ref n : ℕ) (o : Opening) (k : Opens bs o) where
   once : distinct (places (o .category)) ≡ true
   once = category-every (λ c. distinct (places c)) categories (k .block .cat) (o .category) tables-distinct (k .named)
 
-  few : length (places (o .category)) ≤ 35
-  few = leb→le _ _ (T-true (category-every (λ c. leb (length (places c)) 35) categories (k .block .cat) (o .category) tables-few (k .named)))
+  pub places-few : length (places (o .category)) ≤ 35
+  places-few = leb→le _ _ (T-true (category-every (λ c. leb (length (places c)) 35) categories (k .block .cat) (o .category) tables-few (k .named)))
 
   -- where the map has a reference's item
   start-in : (m : RecordMap) (s : Sought m) → getD (m .starts) (indexAs ref (places (o .category))) 0
       ≡ startOf (getD (laidItems (o .category) (s .found .start) (s .value)) (indexAs ref (places (o .category))) none)
   start-in m s =
       ap (λ z. getD (z .starts) (indexAs ref (places (o .category))) 0) (sym (s .map-is))
-      ∙ map-start (o .category) (record { start = s .found .start; value = s .value }) (indexAs ref (places (o .category))) few
+      ∙ map-start (o .category) (record { start = s .found .start; value = s .value }) (indexAs ref (places (o .category))) places-few
 
   absent-in : (m : RecordMap) → isItem ref (places (o .category)) ≡ true → (s : Sought m) → valueOf ref (items (o .category) (s .value)) ≡ none → ItemAbsent m
   unfolding findItem mapOf
@@ -304,3 +336,136 @@ record-inside bs n m b h =
     ap (λ z. s .found .start + length z) (sym (octetsOf-ok (s .found .writes))) ∙ ap (λ z. z .end) (s .map-is) in
     let f : s .found .start ≡ m .start = ap (λ z. z .start) (s .map-is) in
     omega arith
+
+T-eq : (t : Bool) → T t → t ≡ true
+T-eq true h = refl
+T-eq false h = absurd h
+
+-- the map of a record that was found
+found-record : (bs : List ℕ) (n : ℕ) (x : Opened) (r : Numbered) → openBlock bs ≡ ok x → numbered (x .category) 3 (x .records) n ≡ ok r
+    → findRecord bs n ≡ ok (mapOf (x .category) r)
+unfolding findRecord
+found-record bs n x r p q = bind-in _ p (bind-in _ q refl)
+
+pub item-inside : (bs : List ℕ) (ref n : ℕ) (l : Laid) → Octets bs → findItem bs ref n ≡ ok l → l .start + l .size ≤ length bs
+unfolding findItem openedAt
+item-inside bs ref n l b h =
+    bind-elim _ _ h λ x p h₁.
+    need-elim _ _ _ h₁ λ is h₂.
+    bind-elim _ _ h₂ λ r q h₃.
+    let o : Opening = record { category = x .category; count = length (x .records) } in
+    let k : Opens bs o = opens bs o b (bind-in _ p refl) in
+    let e : x .records ≡ k .block .records = ap (λ z. z .records) (ok-inj (sym p ∙ k .opened)) in
+    let s : seekAt (x .category) 3 (drop 3 bs) n ≡ ok (mapOf (x .category) r) =
+    sym (find-record bs n o k) ∙ found-record bs n x r p q in
+    ⊎-elim
+    (λ (m, a). subst (λ z. z .start + z .size ≤ length bs) (ok-inj (sym (a .is-found) ∙ h)) (a .inside))
+    (λ a. refused-ok (sym (a .is-absent) ∙ h))
+    (item-either bs ref n o k (mapOf (x .category) r) (T-eq _ is) s)
+
+-- ---- by what the code answers
+
+pub record LocatedAt (x : Answer RecordMap) (r : RecordLocated) (s l : ℕ) : Type 0 where
+  pub map : RecordMap
+  pub found : x ≡ ok map
+  pub start-is : map .start ≡ s
+  pub starts-is : r .map .starts ≡ map .starts
+  pub span-is : recordSpan x ≡ (s, l)
+
+pub located : (x : Answer RecordMap) (r : RecordLocated) (s l : ℕ) → r ≡ recordLocated x → r .answer ≡ recordPlace.At s l → LocatedAt x r s l
+located (ok m) r s l e f =
+    let g : recordPlace.At (m .start) (m .end - m .start) ≡ recordPlace.At s l = ap (λ z. z .answer) (sym e) ∙ f in
+    let p : m .start ≡ s = cc in
+    let q : m .end - m .start ≡ l = cc in
+    record { map = m; found = refl; start-is = p; starts-is = ap (λ z. z .map .starts) e; span-is = ap₂ (λ a b. (a, b)) p q }
+located (refused n p) r s l e f =
+    let g : recordPlace.Refused n p ≡ recordPlace.At s l = ap (λ z. z .answer) (sym e) ∙ f in
+    let z : _≡_ {A = ℕ} 0 1 = cc in absurd (omega arith)
+
+pub record-inside-at : (bs : List ℕ) (n : ℕ) {r : RecordLocated} (s l : ℕ) → Octets bs → LocatedAt (findRecord bs n) r s l → s + l ≤ length bs
+record-inside-at bs n s l b a =
+    let e : _≡_ {A = ℕ × ℕ} (a .map .start, a .map .end - a .map .start) (s, l) = ap recordSpan (sym (a .found)) ∙ a .span-is in
+    let p : a .map .start ≡ s = ap (λ z. z .0) e in
+    let q : a .map .end - a .map .start ≡ l = ap (λ z. z .1) e in
+    omega (arith, record-inside bs n (a .map) b (a .found))
+
+pub lost : (x : Answer RecordMap) (r : RecordLocated) (n p : ℕ) → r ≡ recordLocated x → r .answer ≡ recordPlace.Refused n p → x ≡ refused n p
+lost (ok m) r n p e f =
+    let g : recordPlace.At (m .start) (m .end - m .start) ≡ recordPlace.Refused n p = ap (λ z. z .answer) (sym e) ∙ f in
+    let z : _≡_ {A = ℕ} 0 1 = cc in absurd (omega arith)
+lost (refused m q) r n p e f =
+    let g : recordPlace.Refused m q ≡ recordPlace.Refused n p = ap (λ z. z .answer) (sym e) ∙ f in
+    (cc)
+
+pub record ItemSpan (x : Answer Laid) (s l : ℕ) : Type 0 where
+  pub item : Laid
+  pub found : x ≡ ok item
+  pub start-is : item .start ≡ s
+  pub size-is : item .size ≡ l
+  pub span-is : itemSpan x ≡ (s, l)
+
+pub item-located : (x : Answer Laid) (s l : ℕ) → locatedOf x ≡ itemLocated.At s l → ItemSpan x s l
+item-located (ok m) s l e =
+    let p : m .start ≡ s = cc in
+    let q : m .size ≡ l = cc in
+    record { item = m; found = refl; start-is = p; size-is = q; span-is = ap₂ (λ a b. (a, b)) p q }
+item-located (refused n p) s l e = let z : _≡_ {A = ℕ} 0 1 = cc in absurd (omega arith)
+
+pub item-lost : (x : Answer Laid) (n p : ℕ) → locatedOf x ≡ itemLocated.Refused n p → itemSpan x ≡ (0, 0)
+item-lost (ok m) n p e = let z : _≡_ {A = ℕ} 0 1 = cc in absurd (omega arith)
+item-lost (refused m q) n p e = refl
+
+pub item-inside-at : (bs : List ℕ) (ref n s l : ℕ) → Octets bs → ItemSpan (findItem bs ref n) s l → s + l ≤ length bs
+item-inside-at bs ref n s l b a = omega (arith, item-inside bs ref n (a .item) b (a .found), a .start-is, a .size-is)
+
+-- there is no record with a number only for the reason 19
+numbered-refused : (c : Category) (k : ℕ) (rs : List Record) (n m p : ℕ) → numbered c k rs n ≡ refused m p → _≡_ {A = Answer Numbered} (refused m p) (refused 19 0)
+unfolding numbered
+numbered-refused c k [] n m p h = sym h
+numbered-refused c k (r ∷ rs) zero m p h = refused-ok (sym h)
+numbered-refused c k (r ∷ rs) (suc n) m p h = numbered-refused c (k + length (octetsOf (writeRecord c r))) rs n m p h
+
+-- the item of a block that is opened, by its FRN and the map of its record
+module _ (bs : List ℕ) (ref n i count : ℕ) (k : Opens bs (record { category = categoryAt i; count = count })) where
+  pub no-record-at : (f m p : ℕ) → NamedAt ref 1 (places (categoryAt i)) f → seekAt (categoryAt i) 3 (drop 3 bs) n ≡ refused m p → findItem bs ref n ≡ refused 19 0
+  unfolding seekAt
+  no-record-at f m p named h =
+      let e : numbered (categoryAt i) 3 (k .block .records) n ≡ refused m p =
+      made-refused (numbered (categoryAt i) 3 (k .block .records) n) (mapOf (categoryAt i)) m p (sym (bind-in _ (k .reads) refl) ∙ h) in
+      let g : _≡_ {A = Answer Numbered} (refused m p) (refused 19 0) = numbered-refused (categoryAt i) 3 (k .block .records) n m p e in
+      item-nowhere bs ref n _ k (named .is-item) m p h ∙ (cc)
+
+  -- the map has a place for it
+  pub index-in : (f : ℕ) → NamedAt ref 1 (places (categoryAt i)) f → f - 1 < 35
+  index-in f named = omega (arith, named .frn-is, index-few i named, places-few bs ref n _ k)
+
+  -- 0 in the map
+  pub absent-at : (f : ℕ) (m : RecordMap) (starts : List ℕ) → NamedAt ref 1 (places (categoryAt i)) f → seekAt (categoryAt i) 3 (drop 3 bs) n ≡ ok m
+      → starts ≡ m .starts → getD starts (f - 1) 0 ≡ 0 → findItem bs ref n ≡ refused 20 (m .start)
+  absent-at f m starts named h e z =
+      let d : f - 1 ≡ indexAs ref (places (categoryAt i)) = omega (arith, named .frn-is) in
+      item-absent-at bs ref n _ k m (named .is-item) h (ap₂ (λ y j. getD y j 0) (sym e) (sym d) ∙ z)
+
+  -- or where it starts, x, and what its check answers there
+  pub record ThereAt (f x : ℕ) : Type 0 where
+    pub item : Laid
+    pub found : findItem bs ref n ≡ ok item
+    pub start-is : x ≡ item .start
+    pub inside : item .start + item .size ≤ length bs
+    pub check : checkAt i f (drop x bs) ≡ ok (item .size)
+
+  pub there-at : (f : ℕ) (m : RecordMap) (starts : List ℕ) → NamedAt ref 1 (places (categoryAt i)) f → seekAt (categoryAt i) 3 (drop 3 bs) n ≡ ok m
+      → starts ≡ m .starts → (getD starts (f - 1) 0 ≡ 0 → ⊥) → ThereAt f (getD starts (f - 1) 0)
+  there-at f m starts named h e z =
+      let d : f - 1 ≡ indexAs ref (places (categoryAt i)) = omega (arith, named .frn-is) in
+      let g : getD starts (f - 1) 0 ≡ getD (m .starts) (indexAs ref (places (categoryAt i))) 0 = ap₂ (λ y j. getD y j 0) e d in
+      let (l, a) = item-there-at bs ref n _ k m (named .is-item) h (λ y. z (g ∙ y)) in
+      let x : getD starts (f - 1) 0 ≡ l .start = g ∙ a .start-is in
+      record {
+        item = l;
+        found = a .is-found;
+        start-is = x;
+        inside = a .inside;
+        check = check-at i ref f (drop (getD starts (f - 1) 0) bs) named ∙ ap (λ y. sizeOf (named .place .layout) (drop y bs)) x
+            ∙ a .size-is (named .place .layout) (named .layout-is);
+      }

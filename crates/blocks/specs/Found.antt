@@ -2,23 +2,35 @@
 -- order"). Assumes nothing.
 use Prim.Native.Nat.{ℕ, _-_}
 use Rattle.rules.specs.Answer.{Answer, ok, refused}
-use Rattle.rules.specs.Entry.{RecordMap}
+use Rattle.rules.specs.Entry.{RecordMap, Laid}
 use Rattle.records.specs.Answers.{mapIn}
 use Rattle.blocks.specs.declared.find.RecordPlace.{RecordPlace}
-use Rattle.blocks.specs.declared.find.RecordPlace.the-variants.{At, Refused}
+use Rattle.blocks.specs.declared.find.RecordPlace.the-variants as recordPlace
 use Rattle.blocks.specs.declared.find.RecordLocated.{RecordLocated}
+use Rattle.blocks.specs.declared.find.ItemLocated.{ItemLocated}
+use Rattle.blocks.specs.declared.find.ItemLocated.the-variants as itemLocated
 
 -- ---- a record
 
-abbrev pub recordPlace : Answer RecordMap → RecordPlace
-recordPlace (ok m) = At (m .start) (m .end - m .start)
-recordPlace (refused n p) = Refused n p
+abbrev pub placeOf : Answer RecordMap → RecordPlace
+placeOf (ok m) = recordPlace.At (m .start) (m .end - m .start)
+placeOf (refused n p) = recordPlace.Refused n p
 
 -- with the map beside it, every place absent on refusal
 abbrev pub recordLocated : Answer RecordMap → RecordLocated
-recordLocated a = record { answer = recordPlace a; map = mapIn a }
+recordLocated a = record { answer = placeOf a; map = mapIn a }
 
--- its first byte and how many there are; none at the start where it is not found
+-- its place and how many bytes it has; where it is not found none, at the block's start
 abbrev pub recordSpan : Answer RecordMap → ℕ × ℕ
 recordSpan (ok m) = (m .start, m .end - m .start)
 recordSpan (refused n p) = (0, 0)
+
+-- ---- an item
+
+abbrev pub locatedOf : Answer Laid → ItemLocated
+locatedOf (ok l) = itemLocated.At (l .start) (l .size)
+locatedOf (refused n p) = itemLocated.Refused n p
+
+abbrev pub itemSpan : Answer Laid → ℕ × ℕ
+itemSpan (ok l) = (l .start, l .size)
+itemSpan (refused n p) = (0, 0)
