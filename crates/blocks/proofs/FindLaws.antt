@@ -32,8 +32,8 @@ use Rattle.blocks.specs.declared.find.RecordPlace.the-variants as record
 use Rattle.blocks.specs.declared.find.RecordLocated.{RecordLocated}
 use Rattle.blocks.specs.declared.find.ItemLocated.the-variants as itemLocated
 use Rattle.blocks.specs.Found.{recordLocated, recordSpan, locatedOf, itemSpan}
-use Rattle.blocks.specs.Read.{headBy, Records, seekAt, Opening, openedAt}
-use Rattle.blocks.proofs.HeadLaws.{headed, len-few, OpenHead, open-head}
+use Rattle.blocks.specs.Read.{headBy, Records, seekAt, Opening, opening, openFrom}
+use Rattle.blocks.proofs.HeadLaws.{headed, len-few, OpenHead, open-head, opened-is}
 
 -- ---- the FRN of a reference
 
@@ -118,9 +118,8 @@ unfolding _>>=_
 made-refused (ok a) f n p h = refused-ok (sym h)
 made-refused (refused m q) f n p h = (cc)
 
-open-refusal : (bs : List ℕ) (n p : ℕ) → openedAt bs ≡ refused n p → openBlock bs ≡ refused n p
-unfolding openedAt
-open-refusal bs n p h = made-refused (openBlock bs) (λ b. record { category = b .category; count = length (b .records) }) n p h
+open-refusal : (bs : List ℕ) (n p : ℕ) → openFrom 4 bs ≡ refused n p → openBlock bs ≡ refused n p
+open-refusal bs n p h = made-refused (openBlock bs) (λ b. opening (b .category) (length (b .records))) n p (sym (opened-is bs) ∙ h)
 
 -- what is known of a block that is opened
 pub record Opens (bs : List ℕ) (o : Opening) : Type 0 where
@@ -132,10 +131,10 @@ pub record Opens (bs : List ℕ) (o : Opening) : Type 0 where
   pub room : 3 < length bs
   pub few : length bs < 65_536
 
-pub opens : (bs : List ℕ) (o : Opening) → Octets bs → openedAt bs ≡ ok o → Opens bs o
-unfolding openedAt openBlock
+pub opens : (bs : List ℕ) (o : Opening) → Octets bs → openFrom 4 bs ≡ ok o → Opens bs o
+unfolding openBlock
 opens bs o b h =
-    bind-elim _ _ h λ k p h₁.
+    bind-elim _ _ (sym (opened-is bs) ∙ h) λ k p h₁.
     bind-elim _ _ p λ x q p₁.
     bind-elim _ _ p₁ λ c r p₂.
     expect-elim _ _ r λ named.
@@ -160,7 +159,7 @@ opens-records k = record { values = k .block .records; reads = k .reads }
 -- ---- a record
 
 -- a block that is refused is not searched
-pub find-refused : (bs : List ℕ) (k n p : ℕ) → openedAt bs ≡ refused n p → findRecord bs k ≡ refused n p
+pub find-refused : (bs : List ℕ) (k n p : ℕ) → openFrom 4 bs ≡ refused n p → findRecord bs k ≡ refused n p
 unfolding findRecord
 find-refused bs k n p h = bind-out _ (open-refusal bs n p h)
 
@@ -205,7 +204,7 @@ lies-read layout v bs out start h l =
     let n : length (drop start bs) - length (l .after) ≡ length out = omega arith in
     bind-in _ (ap (readItem layout) d ∙ item-laws layout .back v out (l .after) h) (ap ok n)
 
-pub item-refused : (bs : List ℕ) (ref k n p : ℕ) → openedAt bs ≡ refused n p → findItem bs ref k ≡ refused n p
+pub item-refused : (bs : List ℕ) (ref k n p : ℕ) → openFrom 4 bs ≡ refused n p → findItem bs ref k ≡ refused n p
 unfolding findItem
 item-refused bs ref k n p h = bind-out _ (open-refusal bs n p h)
 
@@ -325,11 +324,11 @@ lies-inside {bs} {start} {out} l =
     omega (arith, l .starts)
 
 pub record-inside : (bs : List ℕ) (n : ℕ) (m : RecordMap) → Octets bs → findRecord bs n ≡ ok m → m .start + (m .end - m .start) ≤ length bs
-unfolding findRecord openedAt mapOf
+unfolding findRecord mapOf
 record-inside bs n m b h =
     bind-elim _ _ h λ x p h₁.
     let o : Opening = record { category = x .category; count = length (x .records) } in
-    let k : Opens bs o = opens bs o b (bind-in _ p refl) in
+    let k : Opens bs o = opens bs o b (opened-is bs ∙ bind-in _ p refl) in
     let s : Sought bs 0 n o k m = sought bs 0 n o k m (sym (find-record bs n o k) ∙ h) in
     let i : s .found .start + length (s .found .out) ≤ length bs = lies-inside (s .found .lies) in
     let e : s .found .start + length (s .found .out) ≡ m .end =
@@ -348,13 +347,13 @@ unfolding findRecord
 found-record bs n x r p q = bind-in _ p (bind-in _ q refl)
 
 pub item-inside : (bs : List ℕ) (ref n : ℕ) (l : Laid) → Octets bs → findItem bs ref n ≡ ok l → l .start + l .size ≤ length bs
-unfolding findItem openedAt
+unfolding findItem
 item-inside bs ref n l b h =
     bind-elim _ _ h λ x p h₁.
     need-elim _ _ _ h₁ λ is h₂.
     bind-elim _ _ h₂ λ r q h₃.
     let o : Opening = record { category = x .category; count = length (x .records) } in
-    let k : Opens bs o = opens bs o b (bind-in _ p refl) in
+    let k : Opens bs o = opens bs o b (opened-is bs ∙ bind-in _ p refl) in
     let e : x .records ≡ k .block .records = ap (λ z. z .records) (ok-inj (sym p ∙ k .opened)) in
     let s : seekAt (x .category) 3 (drop 3 bs) n ≡ ok (mapOf (x .category) r) =
     sym (find-record bs n o k) ∙ found-record bs n x r p q in

@@ -9,12 +9,12 @@ use mathlib.Core.List.{List, [], _∷_, _++_}
 use native.Mathlib.Omega.{arith}
 use native.Mathlib.Nat.{zero-add}
 use lib.Dec.{T, leb, ltb, eqb, leb→le, le→leb, lt→ltb, eqb→eq}
-use borrow.Author.Tests.{le-leb, lt-leb, lt-ltb, le-ltb, ltb-true, ltb-false, eq-eqb, ne-eqb}
+use borrow.Author.Tests.{le-leb, lt-leb, lt-ltb, le-ltb, ltb-true, ltb-false, leb-true, leb-false, eq-eqb, ne-eqb}
 use lib.ListN.{length, take, drop, getD, length-drop}
 use lib.Seq.{take-all}
 use Rattle.rules.specs.Answer.{Answer, ok, refused, _>>=_, need_or_then_, if_then_else_, expect_or_, later}
 use Rattle.rules.specs.Layout.{joined, readNum}
-use Rattle.rules.specs.Record.{Category, readRecord}
+use Rattle.rules.specs.Record.{Category, Record, readRecord}
 use Rattle.rules.specs.Block.{Block, Head, categoryOf, readAll, readHead, readBody, readBlock}
 use Rattle.rules.specs.Entry.{categories, checkBlock, Opened, openBlock, oldBlock}
 use Rattle.rules.specs.Category017.{category017}
@@ -26,7 +26,7 @@ use Rattle.blocks.specs.declared.check.BlockChecked.{BlockChecked}
 use Rattle.blocks.specs.declared.check.BlockChecked.the-variants as blockChecked
 use Rattle.blocks.specs.Answers.{checkedOf, openedBy}
 use Rattle.blocks.proofs.LoopLaws.{octets-at}
-use Rattle.blocks.specs.Read.{lenAt, headAt, headBy, countFrom, Opening, openedAt, bodyAt, Front, checkFront}
+use Rattle.blocks.specs.Read.{lenAt, headAt, headBy, countFrom, Opening, opening, openFrom, bodyAt, Front, checkFront}
 
 -- ---- the head
 
@@ -197,27 +197,16 @@ block-category fits bs rest b e =
     bind-elim _ _ (sym (head-by fits bs) ∙ p) λ h p₁ p₂.
     (h .category, ap (λ z. categoryOf (z .0 .cat) categories) (sym (ok-inj e₃)) ∙ ap (λ z. categoryOf (z .0 .category .cat) categories) (sym (ok-inj p₂)) ∙ headed fits bs h p₁ .named)
 
--- checking a block is opening it
-check-opened : (bs : List ℕ) → checkBlock bs ≡ (openedAt bs >>= λ o. ok (o .count))
-unfolding checkBlock openedAt openBlock
-check-opened bs = go (readBlock eqb categories bs) refl
-  where
-    go : (x : Answer (Block × List ℕ)) → readBlock eqb categories bs ≡ x → checkBlock bs ≡ (openedAt bs >>= λ o. ok (o .count))
-    go (refused n p) e = bind-out _ e ∙ sym (bind-out _ (bind-out _ (bind-out _ e)))
-    go (ok (b, rest)) e =
-        let (c, f) = block-category eqb bs rest b e in
-        bind-in _ e refl ∙ sym (bind-in _ (bind-in _ (bind-in _ e (bind-in _ (expect-in 2 f) refl)) refl) refl)
+count-opened : (c : Category) (x : Answer (List Record)) → ((x >>= λ rs. ok (0 + length rs)) >>= λ n. ok (opening c n))
+    ≡ (_>>=_ {B = Opened} x (λ rs. ok (record { category = c; records = rs })) >>= λ b. ok (opening (b .category) (length (b .records))))
+unfolding _>>=_
+count-opened c (ok rs) = ap (λ n. ok (opening c n)) (zero-add (length rs))
+count-opened c (refused n p) = refl
 
--- what was found of the records is what was found of the block
-pub opened-by : (i : ℕ) (x : BlockChecked) → openedBy i x ≡ (checkedOf x >>= λ n. ok (record { category = categoryAt i; count = n }))
+pub opened-by : (i : ℕ) (x : BlockChecked) → openedBy i x ≡ (checkedOf x >>= λ n. ok (opening (categoryAt i) n))
 unfolding _>>=_
 opened-by i (blockChecked.Accepted n) = refl
 opened-by i (blockChecked.Refused n p) = refl
-
-pub check-is : (bs : List ℕ) (i : ℕ) (x : BlockChecked) → openedBy i x ≡ openedAt bs → checkedOf x ≡ checkBlock bs
-unfolding _>>=_
-check-is bs i (blockChecked.Accepted n) h = sym (check-opened bs ∙ bind-in _ (sym h) refl)
-check-is bs i (blockChecked.Refused n p) h = sym (check-opened bs ∙ bind-out _ (sym h))
 
 module _ (bs : List ℕ) where
   -- LEN leaves all that is after the head
@@ -243,26 +232,6 @@ module _ (bs : List ℕ) where
       ∙ bind-cong (later 3 (readAll (readRecord (h .category)) (bodyAt h bs))) _ _ (λ rs. bind-in _ (expect-in 2 (headed eqb bs h e .named)) refl)
       ∙ ap (λ z. later 3 (readAll (readRecord (h .category)) z) >>= λ rs. ok (record { category = h .category; records = rs })) (body-all h e)
 
-  pub opened-refused : (n p : ℕ) → headBy eqb bs ≡ refused n p → openedAt bs ≡ refused n p
-  unfolding openedAt
-  opened-refused n p e = bind-out _ (open-refused n p e)
-
-  pub opened-empty : (h : Head) → headBy eqb bs ≡ ok h → h .len ≡ 3 → openedAt bs ≡ refused 4 0
-  unfolding openedAt
-  opened-empty h e l = bind-out _ (open-empty h e (omega arith))
-
-  -- by the part after the head
-  pub opened-body : (h : Head) (part : List ℕ) → headBy eqb bs ≡ ok h → (h .len ≡ 3 → ⊥) → part ≡ drop 3 bs
-      → openedAt bs ≡ (countFrom (h .category) 0 3 part >>= λ n. ok (record { category = h .category; count = n }))
-  unfolding openedAt countFrom _>>=_
-  opened-body h part e l q =
-      let m : 3 < h .len = omega (arith, headed eqb bs h e .least) in
-      ap (λ z. z >>= λ b. ok (record { category = b .category; count = length (b .records) })) (open-body h e m)
-      ∙ bind-assoc (later 3 (readAll (readRecord (h .category)) (drop 3 bs))) _ _
-      ∙ bind-cong (later 3 (readAll (readRecord (h .category)) (drop 3 bs))) _ _ (λ rs. ap (λ n. ok (record { category = h .category; count = n })) (sym (zero-add (length rs))))
-      ∙ sym (bind-assoc (later 3 (readAll (readRecord (h .category)) (drop 3 bs))) _ _)
-      ∙ ap (λ z. countFrom (h .category) 0 3 z >>= λ n. ok (record { category = h .category; count = n })) (sym q)
-
   -- a block that is opened has a head, and records after it
   pub record OpenHead (k : Opened) : Type 0 where
     pub head : Head
@@ -284,6 +253,52 @@ module _ (bs : List ℕ) where
       go : (x : Answer Head) → headBy eqb bs ≡ x → OpenHead k
       go (refused n p) q = refused-ok (sym (open-refused n p q) ∙ e)
       go (ok h) q = long h (ltb 3 (h .len)) q refl
+
+  -- ---- opening it, answer by answer
+
+  pub opened-refused : (least n p : ℕ) → headBy eqb bs ≡ refused n p → openFrom least bs ≡ refused n p
+  unfolding openFrom
+  opened-refused least n p e = bind-out _ e
+
+  pub opened-less : (least : ℕ) (h : Head) → headBy eqb bs ≡ ok h → h .len < least → openFrom least bs ≡ refused 4 0
+  unfolding openFrom
+  opened-less least h e l = bind-in _ e (need-out 4 _ (lt-leb least (h .len) l))
+
+  pub opened-body : (least : ℕ) (h : Head) (part : List ℕ) → headBy eqb bs ≡ ok h → least ≤ h .len → part ≡ drop 3 bs
+      → openFrom least bs ≡ (countFrom (h .category) 0 3 part >>= λ n. ok (opening (h .category) n))
+  unfolding openFrom
+  opened-body least h part e l q =
+      bind-in _ e (need-in _ 4 (le→leb least (h .len) l) (ap (λ z. countFrom (h .category) 0 3 z >>= λ n. ok (opening (h .category) n)) (sym q)))
+
+  -- a single block as the rules open it
+  pub opened-is : openFrom 4 bs ≡ (openBlock bs >>= λ b. ok (opening (b .category) (length (b .records))))
+  unfolding openFrom countFrom
+  opened-is = go (headBy eqb bs) refl
+    where
+      by-len : (h : Head) (t : Bool) → headBy eqb bs ≡ ok h → leb 4 (h .len) ≡ t
+          → openFrom 4 bs ≡ (openBlock bs >>= λ b. ok (opening (b .category) (length (b .records))))
+      by-len h false p q = bind-in _ p (need-out 4 _ q) ∙ sym (bind-out _ (open-empty h p (omega (arith, leb-false 4 (h .len) q))))
+      by-len h true p q =
+          bind-in _ p (need-in _ 4 (T-true q) (count-opened (h .category) (later 3 (readAll (readRecord (h .category)) (drop 3 bs)))))
+          ∙ sym (ap (λ z. z >>= λ b. ok (opening (b .category) (length (b .records)))) (open-body h p (leb-true 4 (h .len) q)))
+      go : (x : Answer Head) → headBy eqb bs ≡ x → openFrom 4 bs ≡ (openBlock bs >>= λ b. ok (opening (b .category) (length (b .records))))
+      go (refused n p) q = bind-out _ q ∙ sym (bind-out _ (open-refused n p q))
+      go (ok h) q = by-len h (leb 4 (h .len)) q refl
+
+  -- what was found of the records is what was found of the block
+  opened-checked : openFrom 4 bs ≡ (openBlock bs >>= λ b. ok (opening (b .category) (length (b .records)))) → checkBlock bs ≡ (openFrom 4 bs >>= λ o. ok (o .count))
+  unfolding checkBlock openBlock
+  opened-checked h = go (readBlock eqb categories bs) refl
+    where
+      go : (x : Answer (Block × List ℕ)) → readBlock eqb categories bs ≡ x → checkBlock bs ≡ (openFrom 4 bs >>= λ o. ok (o .count))
+      go (refused n p) e = bind-out _ e ∙ sym (bind-out _ (h ∙ bind-out _ (bind-out _ e)))
+      go (ok (b, rest)) e =
+          let (c, f) = block-category eqb bs rest b e in
+          bind-in _ e refl ∙ sym (bind-in _ (h ∙ bind-in _ (bind-in _ e (bind-in _ (expect-in 2 f) refl)) refl) refl)
+
+  pub check-is : (i : ℕ) (x : BlockChecked) → openedBy i x ≡ openFrom 4 bs → checkedOf x ≡ checkBlock bs
+  check-is i (blockChecked.Accepted n) h = sym (opened-checked opened-is ∙ bind-in _ (sym h) refl)
+  check-is i (blockChecked.Refused n p) h = sym (opened-checked opened-is ∙ bind-out _ (sym h))
 
   -- ---- the front of a recording
 
@@ -318,21 +333,26 @@ module _ (bs : List ℕ) where
 
 -- ---- the block that a record is added to: LEN 3 is allowed
 
+old-tests : (c : Category) (x : Answer (List Record)) (bs : List ℕ)
+    → (_>>=_ {B = List Record × List ℕ} x (λ rs. ok (rs, bs)) >>= λ y. ok c) ≡ (((x >>= λ rs. ok (0 + length rs)) >>= λ n. ok (opening c n)) >>= λ o. ok (o .category))
+unfolding _>>=_
+old-tests c (ok rs) bs = refl
+old-tests c (refused n p) bs = refl
+
 module _ (out : List ℕ) (used : ℕ) where
   pub old-none : length out < used → oldBlock out used ≡ refused 16 0
   unfolding oldBlock
   old-none l = need-out 16 _ (lt-leb used (length out) l)
 
-  pub old-refused : used ≤ length out → (n p : ℕ) → headBy eqb (take used out) ≡ refused n p → oldBlock out used ≡ refused n p
-  unfolding oldBlock
-  old-refused l n p e = need-in _ 16 (le→leb used (length out) l) (bind-out _ (head-by eqb (take used out) ∙ bind-out _ e))
-
-  pub old-body : used ≤ length out → (h : Head) → headBy eqb (take used out) ≡ ok h
-      → oldBlock out used ≡ (countFrom (h .category) 0 3 (drop 3 (take used out)) >>= λ n. ok (h .category))
-  unfolding oldBlock readBody countFrom _>>=_
-  old-body l h e =
-      need-in _ 16 (le→leb used (length out) l)
-      (bind-in _ (head-by eqb (take used out) ∙ bind-in _ e refl)
-      (bind-assoc (later 3 (readAll (readRecord (h .category)) (bodyAt h (take used out)))) _ _
-      ∙ ap (λ z. later 3 (readAll (readRecord (h .category)) z) >>= λ rs. ok (h .category)) (body-all (take used out) h e)
-      ∙ sym (bind-assoc (later 3 (readAll (readRecord (h .category)) (drop 3 (take used out)))) _ _)))
+  pub old-is : used ≤ length out → oldBlock out used ≡ (openFrom 3 (take used out) >>= λ o. ok (o .category))
+  unfolding oldBlock readBody openFrom countFrom
+  old-is l = need-in _ 16 (le→leb used (length out) l) (go (headBy eqb (take used out)) refl)
+    where
+      go : (x : Answer Head) → headBy eqb (take used out) ≡ x
+          → (readHead eqb categories (take used out) >>= λ x. readBody (x .0) (x .1) >>= λ y. ok (x .0 .category)) ≡ (openFrom 3 (take used out) >>= λ o. ok (o .category))
+      go (refused n p) e = bind-out _ (head-by eqb (take used out) ∙ bind-out _ e) ∙ sym (bind-out _ (bind-out _ e))
+      go (ok h) e =
+          bind-in _ (head-by eqb (take used out) ∙ bind-in _ e refl)
+          (ap (λ z. _>>=_ {B = List Record × List ℕ} (later 3 (readAll (readRecord (h .category)) z)) (λ rs. ok (rs, drop (h .len - 3) (drop 3 (take used out)))) >>= λ y. ok (h .category)) (body-all (take used out) h e)
+          ∙ old-tests (h .category) (later 3 (readAll (readRecord (h .category)) (drop 3 (take used out)))) (drop (h .len - 3) (drop 3 (take used out)))
+          ∙ sym (ap (λ z. z >>= λ o. ok (o .category)) (bind-in _ e (need-in _ 4 (le→leb 3 (h .len) (headed eqb (take used out) h e .least)) refl))))

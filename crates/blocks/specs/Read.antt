@@ -9,7 +9,7 @@ use lib.ListN.{length, take, drop, getD}
 use Rattle.rules.specs.Answer.{Answer, ok, _>>=_, need_or_then_, expect_or_, later}
 use Rattle.rules.specs.Record.{Category, Record, readRecord}
 use Rattle.rules.specs.Block.{Head, categoryOf, readAll, readBlock}
-use Rattle.rules.specs.Entry.{categories, RecordMap, mapOf, numbered, openBlock}
+use Rattle.rules.specs.Entry.{categories, RecordMap, mapOf, numbered}
 
 -- LEN: the second and the third octet, the higher first
 abbrev pub lenAt : List ℕ → ℕ
@@ -50,10 +50,16 @@ pub record Opening : Type 0 where
   pub category : Category
   pub count : ℕ
 
-unfoldable pub openedAt : List ℕ → Answer Opening
-openedAt bs = do
-  b ← openBlock bs
-  ok (record { category = b .category; count = length (b .records) })
+abbrev pub opening : Category → ℕ → Opening
+opening c n = record { category = c; count = n }
+
+-- with LEN of a least length: 1, 2, 3, 4, then record by record
+unfoldable pub openFrom : ℕ → List ℕ → Answer Opening
+openFrom least bs = do
+  h ← headBy eqb bs
+  need leb least (h .len) or 4 then do
+    n ← countFrom (h .category) 0 3 (drop 3 bs)
+    ok (opening (h .category) n)
 
 -- the octets that LEN leaves to the records
 abbrev pub bodyAt : Head → List ℕ → List ℕ

@@ -1,6 +1,7 @@
 // Checking: record by record, in one pass.
 use crate::head::HEAD;
 use crate::head::HeadRead;
+use crate::head::LEAST;
 use crate::head::front_head;
 use crate::head::single_head;
 use records::RecordChecked;
@@ -9,7 +10,7 @@ ghost use Prim.Native.Nat.{_+_, _<_};
 ghost use lib.ListN.{length};
 ghost use Rattle.rules.specs.Entry.{checkBlock};
 ghost use Rattle.records.specs.Sets.{categoryAt};
-ghost use Rattle.blocks.specs.Read.{countFrom, openedAt, checkFront};
+ghost use Rattle.blocks.specs.Read.{countFrom, openFrom, checkFront};
 ghost use Rattle.blocks.specs.Answers.{checkedOf, checkedBy, checkedNumber, checkedPlace, openedOf, frontOf};
 
 // A block's count of records, or a refusal's number and place, counted from the block's start.
@@ -78,8 +79,9 @@ pub struct BlockOpened {
     pub checked: BlockChecked,
 }
 
-pub fn open_block(block: &[u8]) -> BlockOpened
-    ensures { λ r. ⌜ openedOf r ≡ openedAt (now (block .entry)) ⌝ }
+// LEN is least at least: 4 where a record is asked for, 3 where a record is to be added.
+pub fn open_block(block: &[u8], least: usize) -> BlockOpened
+    ensures { λ r. ⌜ openedOf r ≡ openFrom least (now (block .entry)) ⌝ }
 {
     let head = single_head(block);
     let HeadRead::Head { profile, len } = head else {
@@ -91,7 +93,7 @@ pub fn open_block(block: &[u8]) -> BlockOpened
             },
         };
     };
-    if len == HEAD {
+    if len < least {
         return BlockOpened {
             profile: 0,
             checked: BlockChecked::Refused {
@@ -108,7 +110,7 @@ pub fn open_block(block: &[u8]) -> BlockOpened
 pub fn check_block(block: &[u8]) -> BlockChecked
     ensures { λ r. ⌜ checkedOf r ≡ checkBlock (now (block .entry)) ⌝ }
 {
-    let opened = open_block(block);
+    let opened = open_block(block, LEAST);
     opened.checked
 }
 

@@ -2,6 +2,7 @@
 use crate::check::BlockChecked;
 use crate::check::open_block;
 use crate::head::HEAD;
+use crate::head::LEAST;
 use items::FrnFound;
 use items::ItemCheck;
 use records::RecordChecked;
@@ -90,7 +91,7 @@ fn seek_record(profile: usize, part: &[u8], from: usize, n: usize) -> RecordLoca
 pub fn locate_record(block: &[u8], n: usize) -> RecordLocated
     ensures { λ r. ⌜ r ≡ recordLocated (findRecord (now (block .entry)) n) ⌝ }
 {
-    let opened = open_block(block);
+    let opened = open_block(block, LEAST);
     let checked = opened.checked;
     let BlockChecked::Accepted { records: _ } = checked else {
         return record_lost(checked.number(), checked.place());
@@ -120,7 +121,7 @@ pub enum ItemLocated {
 pub fn locate_item(block: &[u8], reference: u16, n: usize) -> ItemLocated
     ensures { λ r. ⌜ r ≡ locatedOf (findItem (now (block .entry)) reference n) ⌝ }
 {
-    let opened = open_block(block);
+    let opened = open_block(block, LEAST);
     let checked = opened.checked;
     let BlockChecked::Accepted { records: _ } = checked else {
         return ItemLocated::Refused {

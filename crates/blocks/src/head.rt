@@ -16,6 +16,9 @@ ghost use Rattle.blocks.specs.Answers.{profileOf, headOf, headNumber};
 
 pub const HEAD: usize = 3;
 
+// The least length of a block with a record.
+pub const LEAST: usize = 4;
+
 // The profile of a category.
 pub enum ProfileFound {
     Profile(usize),

@@ -8,10 +8,10 @@ use lib.ListN.{length}
 use Rattle.rules.specs.Answer.{ok, refused, _>>=_}
 use Rattle.rules.specs.Block.{Head}
 use Rattle.records.specs.Sets.{categoryAt}
-use Rattle.blocks.specs.Read.{headBy}
+use Rattle.blocks.specs.Read.{headBy, opening}
 use Rattle.blocks.specs.Answers.{headOf, headNumber}
 use Rattle.blocks.proofs.LoopLaws.{octets-each, to-end}
-use Rattle.blocks.proofs.HeadLaws.{headed, len-few, opened-refused, opened-empty, opened-body, opened-by}
+use Rattle.blocks.proofs.HeadLaws.{headed, len-few, opened-refused, opened-less, opened-body, opened-by}
 use Rattle.blocks.proofs.check.open_block.Statement.{statement}
 use Rattle.blocks.proofs.check.open_block.Tie as tie
 use Rattle.blocks.proofs.check.open_block.Reads as reads
@@ -59,11 +59,11 @@ number-requires c κs = search needs
 returns : tie.Need-returns
 returns c = 
     ap (λ n. refused n 0) (c .number .ensures ∙ ap headNumber (c .before .enum-told .given .1))
-    ∙ sym (opened-refused _ _ _ (sym (c .before .before .before .single-head .ensures) ∙ ap headOf (c .before .enum-told .given .1)))
+    ∙ sym (opened-refused _ _ _ _ (sym (c .before .before .before .single-head .ensures) ∙ ap headOf (c .before .enum-told .given .1)))
 
 -- src/check.rt:95:9
 returns-2 : tie.Need-returns-2
-returns-2 c = sym (opened-empty _ (record { category = categoryAt (c .before .before .head .given .0 .0); len = c .before .before .head .given .0 .1 .0 }) (sym (c .before .before .before .before .single-head .ensures) ∙ ap headOf (c .before .before .head .given .1)) (c .if1 .taken))
+returns-2 c = sym (opened-less _ _ (record { category = categoryAt (c .before .before .head .given .0 .0); len = c .before .before .head .given .0 .1 .0 }) (sym (c .before .before .before .before .single-head .ensures) ∙ ap headOf (c .before .before .head .given .1)) (c .if1 .taken))
 
 -- src/check.rt:103:42
 sub-check-records : tie.Need-sub-check-records
@@ -85,8 +85,8 @@ check-records-requires c κs = omega (arith, few (c .before), len-is (c .before)
 returns-3 : tie.Need-returns-3
 returns-3 c = 
     opened-by _ (c .check-records .result)
-    ∙ ap (λ z. z >>= λ n. ok (record { category = head-of (c .before .before) .category; count = n })) (c .check-records .ensures)
-    ∙ sym (opened-body _ (head-of (c .before .before)) _ (has-head (c .before .before)) (c .before .before .if1 .left) (to-end (c .before .before .before .before .before .before .before .before .args .block .now) 3))
+    ∙ ap (λ z. z >>= λ n. ok (opening (head-of (c .before .before) .category) n)) (c .check-records .ensures)
+    ∙ sym (opened-body _ _ (head-of (c .before .before)) _ (has-head (c .before .before)) (c .before .before .if1 .left) (to-end (c .before .before .before .before .before .before .before .before .args .block .now) 3))
 
 pub open-block-spec : {M : Type 1} → statement M
 open-block-spec =

@@ -5,7 +5,7 @@ use borrow.Author.Needs.{needs}
 use native.Mathlib.Omega.{arith}
 use Rattle.rules.specs.Answer.{ok, refused}
 use Rattle.records.specs.Sets.{categoryAt}
-use Rattle.blocks.specs.Read.{Records, seekAt, Opening, openedAt}
+use Rattle.blocks.specs.Read.{Records, seekAt, Opening}
 use Rattle.blocks.specs.Answers.{checkedNumber, checkedPlace, openedBy}
 use Rattle.blocks.specs.Found.{recordLocated}
 use Rattle.blocks.proofs.LoopLaws.{octets-each, to-end}
