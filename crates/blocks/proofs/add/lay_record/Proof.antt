@@ -1,4 +1,10 @@
+-- `add::lay_record` meets its contract: LEN, then the FSPEC, then the items. Assumes nothing.
+use Prim.Native.Nat.{_+_}
+use mathlib.Core.Path.{ap, ap₂, _∙_}
 use borrow.Author.Needs.{needs}
+use lib.ListN.{length}
+use lib.Seq.{paste}
+use Rattle.records.specs.Answers.{fspecOf}
 use Rattle.blocks.proofs.add.lay_record.Statement.{statement}
 use Rattle.blocks.proofs.add.lay_record.Tie as tie
 use Rattle.blocks.proofs.add.lay_record.Reads as reads
@@ -34,7 +40,10 @@ same-length c = search needs
 
 -- src/add.rt:79:1
 returns : tie.Need-returns
-returns c = ?
+returns c = 
+    c .before .before .lay-octets .ensures
+    ∙ ap₂ (λ z k. paste z (c .before .before .before .before .before .before .before .before .before .before .before .before .before .before .before .args .used + k) (c .before .before .before .before .before .before .before .before .before .before .before .before .before .before .before .args .items .now) (length (c .before .before .before .before .before .before .before .before .before .before .before .before .before .before .before .args .items .now)))
+    (c .before .before .before .before .before .before .lay-fspec .ensures ∙ ap (λ z. paste z (c .before .before .before .before .before .before .before .before .before .before .before .before .before .before .before .args .used) (fspecOf (c .before .before .before .before .before .before .before .before .before .before .before .before .before .before .before .args .profile) (c .before .before .before .before .before .before .before .before .before .before .before .before .before .before .before .args .set .bits)) (length (fspecOf (c .before .before .before .before .before .before .before .before .before .before .before .before .before .before .before .args .profile) (c .before .before .before .before .before .before .before .before .before .before .before .before .before .before .before .args .set .bits)))) (c .before .before .before .before .before .before .before .before .before .before .lay-len .ensures)) (c .before .before .before .before .before .before .before .before .before .before .before .before .fspec-octets .ensures)
 
 pub lay-record-spec : {M : Type 1} → statement M
 lay-record-spec =
