@@ -4,6 +4,7 @@ mod add;
 mod check;
 mod find;
 mod head;
+mod least;
 
 pub use add::RecordAdded;
 pub use add::add_record;
@@ -18,3 +19,4 @@ pub use find::find_item;
 pub use find::find_record;
 pub use find::locate_item;
 pub use find::locate_record;
+pub use least::least_length;

@@ -92,7 +92,7 @@ same-length c = search needs
 
 -- src/add.rt:103:9
 returns-2 : tie.Need-returns-2
-returns-2 c = 
+returns-2 c =
     old-both _
     (add-old _ _ _ _ (c .before .before .before .before .before .before .before .if1 .left) _ _
     (ap (λ k. openFrom 3 (take k (c .before .before .before .before .before .before .before .before .before .before .args .out .now))) (sym (sub-zero (c .before .before .before .before .before .before .before .before .before .before .args .used)))
@@ -126,7 +126,7 @@ same-length-2 c = search needs
 
 -- src/add.rt:111:9
 returns-3 : tie.Need-returns-3
-returns-3 c = 
+returns-3 c =
     new-both _
     (add-new _ _ _ _ (c .before .before .before .before .before .before .before .before .before .before .if1 .left) (opening (c .before .before .before .before .before)) _ _ (is-open (c .before .before .before .before .before))
     (new-refused _ _ _ _ _

@@ -40,7 +40,7 @@ same-length c = search needs
 
 -- src/add.rt:79:1
 returns : tie.Need-returns
-returns c = 
+returns c =
     c .before .before .lay-octets .ensures
     ∙ ap₂ (λ z k. paste z (c .before .before .before .before .before .before .before .before .before .before .before .before .before .before .before .args .used + k) (c .before .before .before .before .before .before .before .before .before .before .before .before .before .before .before .args .items .now) (length (c .before .before .before .before .before .before .before .before .before .before .before .before .before .before .before .args .items .now)))
     (c .before .before .before .before .before .before .lay-fspec .ensures ∙ ap (λ z. paste z (c .before .before .before .before .before .before .before .before .before .before .before .before .before .before .before .args .used) (fspecOf (c .before .before .before .before .before .before .before .before .before .before .before .before .before .before .before .args .profile) (c .before .before .before .before .before .before .before .before .before .before .before .before .before .before .before .args .set .bits)) (length (fspecOf (c .before .before .before .before .before .before .before .before .before .before .before .before .before .before .before .args .profile) (c .before .before .before .before .before .before .before .before .before .before .before .before .before .before .before .args .set .bits)))) (c .before .before .before .before .before .before .before .before .before .before .lay-len .ensures)) (c .before .before .before .before .before .before .before .before .before .before .before .before .fspec-octets .ensures)
