@@ -1,0 +1,10 @@
+pub mod FlagLaws
+pub mod ProfileLaws
+pub mod SetLaws
+pub mod JudgeLaws
+pub mod PlaceLaws
+pub mod WalkLaws
+pub mod CameLaws
+pub mod RowLaws
+pub mod ItemLaws
+pub mod RecordLaws
