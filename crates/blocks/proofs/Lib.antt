@@ -2,5 +2,4 @@ pub mod LoopLaws
 pub mod HeadLaws
 pub mod RecordLaws
 pub mod FindLaws
-pub mod AddLaws
 pub mod LeastLaws
