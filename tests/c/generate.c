@@ -76,7 +76,7 @@ size_t make_item(struct chance *c, unsigned row, bool barred, uint8_t *to)
         return item->octets;
     case LIST:
     case SOME:
-        parts = one_in(c, 50) ? between(c, 1, 255) : between(c, 1, 4);
+        parts = one_in(c, 20) ? between(c, 1, 255) : between(c, 1, 12);
         if (one_in(c, 6) && (barred || item->layout == LIST))
             parts = 0;
         to[0] = (uint8_t)parts;
@@ -84,7 +84,7 @@ size_t make_item(struct chance *c, unsigned row, bool barred, uint8_t *to)
             draw_part(c, item->first, item->octets, barred, to + 1 + i * item->octets);
         return 1 + parts * item->octets;
     case LED:
-        parts = one_in(c, 20) ? between(c, 3, 255) : between(c, 3, 9);
+        parts = one_in(c, 12) ? between(c, 3, 255) : between(c, 3, 9);
         to[0] = (uint8_t)parts;
         for (size_t i = 1; i < parts; i++)
             to[i] = (uint8_t)any(c);
