@@ -7,24 +7,27 @@
  *     rt staticlib asterix                                     writes target/staticlib/libasterix.a
  *     cc -Iinclude program.c target/staticlib/libasterix.a     x86-64 Linux; C99, C11 or C++
  *
- * In order: what holds of every call; refusals; checking; finding; one item; adding a record; lengths; the items and their fields.
+ * In order: what holds of every call; refusals; checking; finding; one item; adding a record; lengths; the
+ * items and their fields.
  *
  *
  * What holds of every call
  *
- * - Any bytes may be given. A call always ends; it either does its work or refuses. There is no state between calls,
- *   nothing is allocated, no file is touched and nothing is kept: what was lent is yours again when the call returns.
- * - A pointer is followed by how many elements it points to. It may not be NULL, even for none; for none any other pointer does.
- *   It must have the alignment of its type.
+ * - Any bytes may be given. A call always ends; it either does its work or refuses. There is no state between
+ *   calls, nothing is allocated, no file is touched and nothing is kept: what was lent is yours again when the
+ *   call returns.
+ * - A pointer is followed by how many elements it points to. It may not be NULL, even for none; for none any
+ *   other pointer does. It must have the alignment of its type.
  * - A buffer that is lent to be written to may not overlap another that is lent to the same call.
  * - A call reads and writes no byte outside of what is lent.
  * - A refused call changes no byte of anything that was lent to it.
  * - Calls from several threads at once are fine where none writes to what another reads or writes.
  *
- * Each answer is a struct by value. Its `number` is 0 where the work was done, and else the refusal's, 1 to 21; its `place` is that
- * of the refusal, and 0 where there is none. Its other members are 0 where it is a refusal.
+ * Each answer is a struct by value. Its `number` is 0 where the work was done, and else the refusal's, 1 to 21;
+ * its `place` is that of the refusal, and 0 where there is none. Its other members are 0 where it is a refusal.
  *
- * Octets are counted from 0, records of a block from 0, field reference numbers (FRN) from 1, as the documents do.
+ * Octets are counted from 0, records of a block from 0, field reference numbers (FRN) from 1, as the documents
+ * do.
  */
 #ifndef ASTERIX_H
 #define ASTERIX_H
@@ -38,36 +41,90 @@ extern "C" {
 
 /* ---- Refusals
  *
- * The numbers, when each is given, and what its place is. "Block", "record" and "item" places are where that block, record or
- * item starts, counted from the start of the block or recording that was lent (for one item alone, and for the new items of an
- * added record, from the start of those bytes).
+ *   No.  Given when                                                                    Place
+ *    1   fewer than 3 bytes where a block should start                                 block
+ *    2   CAT is neither 17 nor 18                                                      block
+ *    3   LEN is under 3, or is not the length lent (in a recording: is more than left)  block
+ *    4   LEN is 3: the block has no record                                             block
+ *    5   the FSPEC is cut by the block's end                                           record
+ *    6   FX is set in the last FSPEC octet that there may be (017: third, 018: fifth)  record
+ *    7   the last FSPEC octet has no presence bit                                      record
+ *    8   a presence bit for an FRN that has no item                                    record
+ *    9   an item is cut by the end, its count or length octet included                 item
+ *   10   a length octet under the least that its item allows                           item
+ *   11   a field outside its range, a spare bit set, an empty list that may not be     item
+ *   12   the record has no message type item                                           record
+ *   13   its message type is not one of the document's                                 record
+ *   14   an item is absent that this message type must have                            record
+ *   15   an item is present that this message type doesn't send                        record
+ *   16   the lent output is too short                                                  0
+ *   17   the block would pass 65,535 bytes                                             0
+ *   18   bytes are left after the last item named, or after the one item read          first of them
+ *   19   the block has no record with that number                                      0
+ *   20   the record does not have that item                                            record
+ *   21   the category has no item with that reference                                  0
  *
- * Blocks are taken in order, the records of a block in order, and the first fault ends the work. At a block's start 1, 2, 3, 4
- * are tried in that order; in a record 5 and 6 octet by octet, then 7, then 8, then each item in FRN order (9, 10, 9 for its body,
- * 11), then 12, 13, 14, 15. What other calls try, and when, is said at each. */
+ * "Block", "record" and "item": where that block, record or item starts. Places count from the start of the
+ * block or recording that was lent; of one item alone, and of the new items of an added record, from the start
+ * of those bytes (there "record" is 0).
+ *
+ * Blocks are taken in order, the records of a block in order, and the first fault ends the work. At a block's
+ * start 1, 2, 3, 4 are tried in that order; in a record 5 and 6 octet by octet, then 7, then 8, then each item
+ * in FRN order (9, 10, 9 for its body, 11), then 12, 13, 14, 15. What else a call tries, and when, is said at
+ * the call. */
 enum asterix_refusal {
-    ASTERIX_HEAD_CUT = 1,        /*  1  fewer than 3 bytes where a block should start                       block */
-    ASTERIX_CATEGORY = 2,        /*  2  CAT is neither 17 nor 18                                            block */
-    ASTERIX_LEN = 3,             /*  3  LEN is under 3, or not the length lent (in a recording: more than is left)  block */
-    ASTERIX_NO_RECORD = 4,       /*  4  LEN is 3: the block has no record                                   block */
-    ASTERIX_FSPEC_CUT = 5,       /*  5  the FSPEC is cut by the block's end                                 record */
-    ASTERIX_FSPEC_LONG = 6,      /*  6  FX is set in the last octet that the profile allows (017: third, 018: fifth)  record */
-    ASTERIX_FSPEC_EMPTY = 7,     /*  7  the last FSPEC octet has no presence bit                            record */
-    ASTERIX_FRN_UNUSABLE = 8,    /*  8  a presence bit for an FRN that has no item                          record */
-    ASTERIX_ITEM_CUT = 9,        /*  9  an item, its count or its length octet is cut by the end            item */
-    ASTERIX_LENGTH_OCTET = 10,   /* 10  a length octet under the least that its item allows                 item */
-    ASTERIX_FIELD = 11,          /* 11  a field outside its range, a spare bit set, a list empty that may not be  item */
-    ASTERIX_TYPE_ABSENT = 12,    /* 12  the record has no message type item                                 record */
-    ASTERIX_TYPE_UNKNOWN = 13,   /* 13  its message type is not one of the document's                       record */
-    ASTERIX_ITEM_MISSING = 14,   /* 14  an item is absent that this message type must have                  record */
-    ASTERIX_ITEM_UNSENT = 15,    /* 15  an item is present that this message type doesn't send              record */
-    ASTERIX_NO_ROOM = 16,        /* 16  the lent output is too short                                        0 */
-    ASTERIX_BLOCK_FULL = 17,     /* 17  the block would pass 65,535 bytes                                   0 */
-    ASTERIX_BYTES_LEFT = 18,     /* 18  bytes are left after the last item named, or the one item read      the first of them */
-    ASTERIX_NO_SUCH_RECORD = 19, /* 19  the block has no record with that number                            0 */
-    ASTERIX_ITEM_ABSENT = 20,    /* 20  the record does not have that item                                  record */
-    ASTERIX_NO_SUCH_ITEM = 21    /* 21  the category has no item with that reference                        0 */
+    ASTERIX_HEAD_CUT = 1,
+    ASTERIX_CATEGORY = 2,
+    ASTERIX_LEN = 3,
+    ASTERIX_NO_RECORD = 4,
+    ASTERIX_FSPEC_CUT = 5,
+    ASTERIX_FSPEC_LONG = 6,
+    ASTERIX_FSPEC_EMPTY = 7,
+    ASTERIX_FRN_UNUSABLE = 8,
+    ASTERIX_ITEM_CUT = 9,
+    ASTERIX_LENGTH_OCTET = 10,
+    ASTERIX_FIELD = 11,
+    ASTERIX_TYPE_ABSENT = 12,
+    ASTERIX_TYPE_UNKNOWN = 13,
+    ASTERIX_ITEM_MISSING = 14,
+    ASTERIX_ITEM_UNSENT = 15,
+    ASTERIX_NO_ROOM = 16,
+    ASTERIX_BLOCK_FULL = 17,
+    ASTERIX_BYTES_LEFT = 18,
+    ASTERIX_NO_SUCH_RECORD = 19,
+    ASTERIX_ITEM_ABSENT = 20,
+    ASTERIX_NO_SUCH_ITEM = 21
 };
+
+/* What a refusal number means, in a few words; "" for a number that is none. */
+static inline const char *asterix_refusal_text(unsigned number)
+{
+    static const char *const text[] = {
+        "",
+        "fewer than three bytes where a block should start",
+        "CAT is neither 17 nor 18",
+        "LEN is not the block's length",
+        "the block has no record",
+        "the FSPEC is cut",
+        "FX is set in the last FSPEC octet allowed",
+        "the last FSPEC octet has no presence bit",
+        "a presence bit for an FRN without an item",
+        "an item is cut",
+        "a length octet is too small",
+        "a field or spare bit is outside its rule",
+        "the record has no message type",
+        "the message type is unknown",
+        "a compulsory item is absent",
+        "an item is present that the message type doesn't send",
+        "the output is too short",
+        "the block would pass 65,535 bytes",
+        "bytes are left",
+        "there is no record with that number",
+        "the record does not have that item",
+        "the category has no item with that reference"
+    };
+    return text[number <= 21 ? number : 0];
+}
 
 /* ---- Checking */
 
@@ -86,8 +143,8 @@ struct asterix_recording_checked {
     size_t blocks, records;
 };
 
-/* Checks a recording: blocks end to end and nothing else. An empty one is accepted, with 0 blocks. Refuses by 1 to 15. One or two bytes
- * after the last whole block are 1 at their place. */
+/* Checks a recording: blocks end to end and nothing else. An empty one is accepted, with 0 blocks. Refuses by 1
+ * to 15. One or two bytes after the last whole block are 1 at their place. */
 struct asterix_recording_checked asterix_check_recording(const uint8_t *recording, size_t recording_len);
 
 /* ---- Finding */
@@ -97,12 +154,13 @@ enum { ASTERIX_FRNS = 35 };
 struct asterix_record_found {
     uint8_t number;
     size_t place;
-    size_t start;  /* the record's first octet, counted from the block's start: the record is block + start .. */
-    size_t length; /* .. and so many octets, its FSPEC among them. On refusal both are 0: the empty part at the block's start */
-    /* The record map. */
-    size_t end;                    /* start + length */
-    size_t count;                  /* how many items the record has */
-    uint16_t starts[ASTERIX_FRNS]; /* starts[FRN - 1]: where the item with that FRN starts, counted from the block's start; 0: it is absent */
+    /* The record is block + start and so many octets, its FSPEC first. On refusal both are 0. */
+    size_t start, length;
+    /* The record map: where the record ends, counted from the block's start; how many items it has; and in
+     * starts[FRN - 1] where the item with that FRN starts, counted from the block's start, 0 where it is
+     * absent. */
+    size_t end, count;
+    uint16_t starts[ASTERIX_FRNS];
 };
 
 /* Finds record `n` of a single block. The whole block is checked first: 1 to 15; then 19. */
@@ -111,21 +169,24 @@ struct asterix_record_found asterix_find_record(const uint8_t *block, size_t blo
 struct asterix_item_found {
     uint8_t number;
     size_t place;
-    size_t start;  /* the item's first octet, counted from the block's start: the item is block + start .. */
-    size_t length; /* .. and so many octets, its count or length octet among them. On refusal both are 0 */
+    /* The item is block + start and so many octets, its count or length octet among them. On refusal both are 0. */
+    size_t start, length;
 };
 
-/* Finds the item with `reference` (45 for I017/045) in record `n` of a single block. The whole block is checked first: 1 to 15; then 21, 19, 20. */
+/* Finds the item with `reference` (45 for I017/045) in record `n` of a single block. The whole block is checked
+ * first: 1 to 15; then 21, 19, 20. */
 struct asterix_item_found asterix_find_item(const uint8_t *block, size_t block_len, uint16_t reference, size_t n);
 
 /* ---- One item
  *
- * An item's fields are whole numbers, from its highest bit down, in the order of the table at this file's end. Signed fields come with
- * their sign. Spare bits, FX bits, a list's count and a led item's length octet are not among them: a list has its parts' fields, one part after
- * another, a led item its content octets, an extended item the fields of its first octet and, where the extent is present, those of the extent. So
- * how many fields there are says how many parts there are. */
+ * An item's fields are whole numbers, from its highest bit down, in the order of the table at this file's end.
+ * Signed fields come with their sign. Spare bits, FX bits, a list's count and a led item's length octet are not
+ * among them: a list has its parts' fields, one part after another, a led item its content octets, an extended
+ * item the fields of its first octet and, where the extent is present, those of the extent. So how many fields
+ * there are says how many parts there are. */
 
-enum { ASTERIX_FIELDS = 8192 }; /* what is lent for an item's fields. No item of these categories has more than 510 */
+/* How many numbers are lent for an item's fields. No item of these categories has more than 510. */
+enum { ASTERIX_FIELDS = 8192 };
 
 struct asterix_item_read {
     uint8_t number;
@@ -133,10 +194,11 @@ struct asterix_item_read {
     size_t count; /* how many fields the item has */
 };
 
-/* Reads the fields of one item that is all of `item`. Refuses by 21 (also where the category is neither 17 nor 18), 9, 10, 9 for the body,
- * 11, then 18. On success the first `count` of `fields` are the item's; the others stay as they were. Any message type is read. */
-struct asterix_item_read asterix_read_item(uint8_t category, uint16_t reference, const uint8_t *item, size_t item_len,
-                                        int64_t fields[ASTERIX_FIELDS]);
+/* Reads the fields of one item that is all of `item`. Refuses by 21 (also where the category is neither 17 nor
+ * 18), 9, 10, 9 for the body, 11, then 18. On success the first `count` of `fields` are the item's; the others
+ * stay as they were. Any message type is read. */
+struct asterix_item_read asterix_read_item(uint8_t category, uint16_t reference, const uint8_t *item,
+                                           size_t item_len, int64_t fields[ASTERIX_FIELDS]);
 
 struct asterix_item_written {
     uint8_t number;
@@ -144,10 +206,11 @@ struct asterix_item_written {
     size_t length; /* how many octets the item has */
 };
 
-/* Writes one item from its fields, at the start of `out`. Refuses by 21, then 11 (a value outside its range, or a number of fields that no
- * legal item has), then 16. On success the first `length` of `out` are the item; the others stay as they were. */
-struct asterix_item_written asterix_write_item(uint8_t category, uint16_t reference, const int64_t *fields, size_t fields_len,
-                                          uint8_t *out, size_t out_len);
+/* Writes one item from its fields, at the start of `out`. Refuses by 21, then 11 (a value outside its range, or
+ * a number of fields that no legal item has), then 16. On success the first `length` of `out` are the item; the
+ * others stay as they were. Any message type is written. */
+struct asterix_item_written asterix_write_item(uint8_t category, uint16_t reference, const int64_t *fields,
+                                               size_t fields_len, uint8_t *out, size_t out_len);
 
 /* ---- Adding a record */
 
@@ -158,18 +221,21 @@ struct asterix_record_added {
     size_t length; /* the block's new length, which is its new LEN */
 };
 
-/* Adds a record to the block that the first `used` octets of `out` are. A new block is begun as CAT, 00, 03 with `used` 3.
+/* Adds a record to the block that the first `used` octets of `out` are. A new block is begun as CAT, 00, 03
+ * with `used` 3.
  *
- * `frns` is the set of the new record's items: the sum of asterix_frn(FRN) of each. `items` has those items end to end in FRN order, without an
- * FSPEC, and nothing else.
+ * `frns` is the set of the new record's items: the sum of asterix_frn(FRN) of each. `items` has those items end
+ * to end in FRN order, without an FSPEC, and nothing else.
  *
- * Refusals in the old block (`in_new` 0): 16 at 0 where `used` is more than `out_len`; then the octets in use are checked as a single block, but a
- * LEN of 3 is allowed. In the new record (`in_new` 1): 7 for an empty set, 8 for an FRN without an item, 9 to 11 of the items, 18, 12 to 15, then 17,
- * then 16; their places count from the start of `items`, and are 0 but for 9, 10, 11 and 18.
+ * Refusals in the old block (`in_new` 0): 16 at 0 where `used` is more than `out_len`; then the octets in use
+ * are checked as a single block, but a LEN of 3 is allowed. In the new record (`in_new` 1): 7 for an empty set,
+ * 8 for an FRN without an item, 9 to 11 of the items, 18, 12 to 15, then 17, then 16; their places count from
+ * the start of `items`, and are 0 but for 9, 10, 11 and 18.
  *
- * On success the record, FSPEC first, follows the old ones, LEN is the new length, and no other octet of `out` changes. */
-struct asterix_record_added asterix_add_record(uint8_t *out, size_t out_len, size_t used, uint64_t frns, const uint8_t *items,
-                                        size_t items_len);
+ * On success the record, FSPEC first, follows the old ones, LEN is the new length, and no other octet of `out`
+ * changes. */
+struct asterix_record_added asterix_add_record(uint8_t *out, size_t out_len, size_t used, uint64_t frns,
+                                               const uint8_t *items, size_t items_len);
 
 /* The set with one FRN. FRNs above 63 count as 63, which no category has. */
 static inline uint64_t asterix_frn(unsigned frn)
@@ -179,8 +245,9 @@ static inline uint64_t asterix_frn(unsigned frn)
 
 /* ---- Lengths */
 
-/* The sum of the least lengths of the items that one FSPEC octet names: a fixed item its length, a list, a led or an extended item 1. `place` is the
- * octet's, the first is 0; its FX bit and the bits of FRNs without an item add nothing. 0 where the category has no such octet, or is neither 17 nor 18. */
+/* The sum of the least lengths of the items that one FSPEC octet names: a fixed item its length, a list, a led
+ * or an extended item 1. `place` is the octet's, the first is 0; its FX bit and the bits of FRNs without an item
+ * add nothing. 0 where the category has no such octet, or is neither 17 nor 18. */
 size_t asterix_least_length(uint8_t category, size_t place, uint8_t octet);
 
 /* ---- The items and their fields

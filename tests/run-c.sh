@@ -57,3 +57,7 @@ run $made/vectors $vectors
 link $made/differ $made/differ.o $made/generate.o $made/plain.o $library
 run $made/differ 1718 "$inputs"
 run $made/differ "${FRESH:-fresh}" "$inputs"
+
+echo "== the example"
+LIBRARY=$library examples/c/run.sh >$made/example.txt
+cmp $made/example.txt examples/c/expected.txt
