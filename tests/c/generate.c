@@ -88,6 +88,8 @@ size_t make_item(struct chance *c, unsigned row, bool barred, uint8_t *to)
         to[0] = (uint8_t)parts;
         for (size_t i = 1; i < parts; i++)
             to[i] = (uint8_t)any(c);
+        if (barred && one_in(c, 2))
+            to[0] = (uint8_t)below(c, 3);
         return parts;
     case EXTENDED:
         draw_part(c, item->first, 1, barred, to);

@@ -26,7 +26,8 @@ struct sketch {
     uint8_t items[MOST_RECORD_OCTETS];
 };
 
-/* A legal item of row `item` of the table of items; its length. `barred`: perhaps with a value just outside of a printed range, or an empty list. */
+/* A legal item of row `item` of the table of items; its length. `barred`: perhaps with a value just outside of a printed range, an empty list, or too
+ * small a length octet. */
 size_t make_item(struct chance *c, unsigned item, bool barred, uint8_t *to);
 
 /* A legal record of row `message` of the table of messages. `twist`: perhaps with an item dropped or put in, another type, or an
