@@ -1,11 +1,13 @@
 /* bench [ROUNDS]: how fast recordings are checked, and how long finding, reading and writing take.
  *
- * Each round lets every checker go once over the whole of the same recording in memory, one after another, so that what disturbs the machine disturbs
- * them all alike. Printed: the best round and the median; MB is 10^6 bytes. Before anything is timed the answers are compared.
+ * Each round lets every checker go once over the whole of the same recording in memory, one after another, so that
+ * what disturbs the machine disturbs them all alike. Printed: the best round and the median; MB is 10^6 bytes.
+ * Before anything is timed the answers are compared.
  *
- * State of the buffers: a recording is made and then gone over once by each checker before it is timed, so pages are mapped, and what fits the caches is
- * in them (what the largest does is said by its size). Single calls are timed over the same few thousand inputs again and again; they and the
- * outputs are in the nearest cache, and no output is cleared between calls.
+ * State of the buffers: a recording is made and then gone over once by each checker before it is timed, so pages
+ * are mapped, and what fits the caches is in them (what the largest does is said by its size). Single calls are
+ * timed over the same few thousand inputs again and again; they and the outputs are in the nearest cache, and no
+ * output is cleared between calls.
  *
  * Built with -DLIBRARY it times the functions of include/asterix.h too. */
 #include <stdbool.h>
@@ -85,7 +87,8 @@ static size_t time_checkers(const uint8_t *recording, size_t n, size_t rounds)
         same(&first[0], &first[i], checkers[i].name);
     }
     if (first[0].number) {
-        printf("bench: the recording is refused %lu at %lu\n", (unsigned long)first[0].number, (unsigned long)first[0].place);
+        printf("bench: the recording is refused %lu at %lu\n", (unsigned long)first[0].number,
+               (unsigned long)first[0].place);
         exit(1);
     }
     for (size_t r = 0; r < rounds; r++)
@@ -120,7 +123,8 @@ static void bench_recording(const uint8_t *recording, size_t n, size_t rounds)
 #endif
 }
 
-/* Of a refused recording the work ends at the fault. The answers are compared over many damaged recordings: nothing is timed. */
+/* Of a refused recording the work ends at the fault. The answers are compared over many damaged recordings:
+ * nothing is timed. */
 static void compare_damaged(struct chance *c)
 {
     static uint8_t bytes[4000 + 8];
@@ -194,7 +198,8 @@ static void take_samples(struct chance *c)
             struct asterix_item_found item = asterix_find_item(block, have, reference, 0);
             if (item.number)
                 continue;
-            struct asterix_item_read read = asterix_read_item((uint8_t)category, reference, block + item.start, item.length, fields);
+            struct asterix_item_read read =
+                asterix_read_item((uint8_t)category, reference, block + item.start, item.length, fields);
             struct sample *s = &samples[n++];
             s->category = (uint8_t)category;
             s->reference = reference;
@@ -226,7 +231,9 @@ static int64_t read_fields[ASTERIX_FIELDS];
 static size_t read_all(void)
 {
     for (size_t i = 0; i < ITEMS; i++)
-        sink += asterix_read_item(samples[i].category, samples[i].reference, samples[i].octets, samples[i].length, read_fields).count;
+        sink += asterix_read_item(samples[i].category, samples[i].reference, samples[i].octets, samples[i].length,
+                                  read_fields)
+                    .count;
     return ITEMS;
 }
 
@@ -234,7 +241,9 @@ static size_t write_all(void)
 {
     static uint8_t out[MOST];
     for (size_t i = 0; i < ITEMS; i++)
-        sink += asterix_write_item(samples[i].category, samples[i].reference, samples[i].fields, samples[i].count, out, sizeof out).length;
+        sink += asterix_write_item(samples[i].category, samples[i].reference, samples[i].fields, samples[i].count,
+                                   out, sizeof out)
+                    .length;
     return ITEMS;
 }
 
@@ -292,13 +301,15 @@ static void bench_calls(struct chance *c)
         fields += samples[i].count;
     }
     printf("single calls, best of 15 runs\n  %-14s %10s\n", "", "ns a call");
-    snprintf(of, sizeof of, "items as they come in records: %.1f octets, %.1f fields on average", (double)octets / ITEMS, (double)fields / ITEMS);
+    snprintf(of, sizeof of, "items as they come in records: %.1f octets, %.1f fields on average",
+             (double)octets / ITEMS, (double)fields / ITEMS);
     time_calls("read_item", read_all, of);
     time_calls("write_item", write_all, of);
     for (size_t records = 1; records <= 100; records *= 10) {
         found_len = make_block(c, 18, records, false, found_block, 65535);
         found_records = asterix_check_block(found_block, found_len).records;
-        snprintf(of, sizeof of, "in the last of %zu records, a block of %zu octets, which is checked whole first", found_records, found_len);
+        snprintf(of, sizeof of, "in the last of %zu records, a block of %zu octets, which is checked whole first",
+                 found_records, found_len);
         time_calls("find_item", find_all, of);
         time_calls("find_record", find_records, of);
     }

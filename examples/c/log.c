@@ -1,5 +1,5 @@
-/* log FILE: prints every record of a log of ASTERIX categories 017 and 018: its message type, and the fields of its items. Status 1 where the log is
- * refused: then one line says why and where, and nothing else is printed.
+/* log FILE: prints every record of a log of ASTERIX categories 017 and 018: its message type, and the fields of
+ * its items. Status 1 where the log is refused: then one line says why and where, and nothing else is printed.
  *
  * A worked example of include/asterix.h. It checks the whole log first; from then on no call can refuse. */
 #include <inttypes.h>
@@ -10,7 +10,8 @@
 
 /* ---- Names, as the documents have them */
 
-/* The items of a category in the order of their field reference numbers, with their fields. A list names the fields of one part. */
+/* The items of a category in the order of their field reference numbers, with their fields. A list names the
+ * fields of one part. */
 struct item {
     uint16_t reference;
     const char *fields[12];
@@ -179,12 +180,12 @@ static uint8_t *load(const char *name, size_t *length)
     FILE *file = fopen(name, "rb");
     size_t room = 1 << 16;
     uint8_t *bytes = malloc(room);
-    * length = 0;
+    *length = 0;
     while (file && bytes) {
         size_t got = fread(bytes + *length, 1, room - *length, file);
         if (got == 0)
             break;
-        * length += got;
+        *length += got;
         if (*length == room)
             bytes = realloc(bytes, room *= 2);
     }

@@ -1,11 +1,13 @@
-/* differ [SEED] [INPUTS]: asks the functions of include/asterix.h, whichever it is linked with, and the plain implementation the same, over legal
- * and damaged inputs, and compares. SEED is a number, or `fresh` for one from the clock; it is printed either way.
+/* differ [SEED] [INPUTS]: asks the functions of include/asterix.h, whichever it is linked with, and the plain
+ * implementation the same, over legal and damaged inputs, and compares. SEED is a number, or `fresh` for one from
+ * the clock; it is printed either way.
  *
- * Compared: every member of every answer, and every octet of every buffer lent, with guard octets on both sides of it and pages that may not
- * be touched beyond those. What a refused call was lent must be as before.
+ * Compared: every member of every answer, and every octet of every buffer lent, with guard octets on both sides of
+ * it and pages that may not be touched beyond those. What a refused call was lent must be as before.
  *
- * Status 1 where anything differs; where a refusal number was never met, or one that an entry point can give was not met there, or one that it
- * can't give was; where a message type was never accepted, or an item never found, read or written. */
+ * Status 1 where anything differs; where a refusal number was never met, or one that an entry point can give was
+ * not met there, or one that it can't give was; where a message type was never accepted, or an item never found,
+ * read or written. */
 #include <inttypes.h>
 #include <stdbool.h>
 #include <stdio.h>
@@ -80,7 +82,8 @@ static uint8_t *lend(struct lent *l, bool at_end, const void *content, size_t si
     return l->at;
 }
 
-/* Whether what was lent now holds this, and the guard octets beside it what they held. Puts the guards back over it. */
+/* Whether what was lent now holds this, and the guard octets beside it what they held. Puts the guards back over
+ * it. */
 static bool holds(struct lent *l, const void *content)
 {
     bool same = memcmp(l->at, content, l->size) == 0;
@@ -125,11 +128,12 @@ static void tally(enum call call, unsigned number)
     met[call][number < NUMBERS ? number : 0]++;
 }
 
-static char *answers(char *to, size_t room, struct plain_fault ours, size_t a, size_t b, unsigned number, size_t place, size_t c,
-                     size_t d, bool kept)
+static char *answers(char *to, size_t room, struct plain_fault ours, size_t a, size_t b, unsigned number,
+                     size_t place, size_t c, size_t d, bool kept)
 {
-    snprintf(to, room, "\n  plain   %u at %zu, %zu, %zu\n  library %u at %zu, %zu, %zu%s", ours.number, ours.place, a, b, number, place, c,
-             d, kept ? "" : "\n  a lent buffer, or an octet beside it, does not hold what it should");
+    snprintf(to, room, "\n  plain   %u at %zu, %zu, %zu\n  library %u at %zu, %zu, %zu%s", ours.number, ours.place, a,
+             b, number, place, c, d,
+             kept ? "" : "\n  a lent buffer, or an octet beside it, does not hold what it should");
     return to;
 }
 
@@ -144,9 +148,11 @@ static bool try_block(struct chance *c, const uint8_t *block, size_t have)
     struct asterix_block_checked theirs = asterix_check_block(lent, have);
     bool kept = unchanged(&input);
     tally(BLOCK, ours.fault.number);
-    if (!kept || theirs.number != ours.fault.number || theirs.place != ours.fault.place || theirs.records != ours.records)
+    if (!kept || theirs.number != ours.fault.number || theirs.place != ours.fault.place ||
+        theirs.records != ours.records)
         differs("block", block, have,
-                answers(text, sizeof text, ours.fault, ours.records, 0, theirs.number, theirs.place, theirs.records, 0, kept));
+                answers(text, sizeof text, ours.fault, ours.records, 0, theirs.number, theirs.place, theirs.records,
+                        0, kept));
     return ours.fault.number == 0;
 }
 
@@ -157,11 +163,11 @@ static void try_recording(struct chance *c, const uint8_t *recording, size_t hav
     struct asterix_recording_checked theirs = asterix_check_recording(lent, have);
     bool kept = unchanged(&input);
     tally(RECORDING, ours.fault.number);
-    if (!kept || theirs.number != ours.fault.number || theirs.place != ours.fault.place || theirs.blocks != ours.blocks ||
-        theirs.records != ours.records)
+    if (!kept || theirs.number != ours.fault.number || theirs.place != ours.fault.place ||
+        theirs.blocks != ours.blocks || theirs.records != ours.records)
         differs("recording", recording, have,
-                answers(text, sizeof text, ours.fault, ours.blocks, ours.records, theirs.number, theirs.place, theirs.blocks,
-                        theirs.records, kept));
+                answers(text, sizeof text, ours.fault, ours.blocks, ours.records, theirs.number, theirs.place,
+                        theirs.blocks, theirs.records, kept));
 }
 
 static void try_record(struct chance *c, const uint8_t *block, size_t have, size_t n)
@@ -174,11 +180,13 @@ static void try_record(struct chance *c, const uint8_t *block, size_t have, size
     for (unsigned frn = 1; frn <= ASTERIX_FRNS; frn++)
         same = same && theirs.starts[frn - 1] == ours.starts[frn - 1];
     if (!kept || !same || theirs.number != ours.fault.number || theirs.place != ours.fault.place ||
-        theirs.start != ours.start || theirs.length != ours.length || theirs.end != ours.end || theirs.count != ours.count) {
-        answers(text, sizeof text, ours.fault, ours.start, ours.length, theirs.number, theirs.place, theirs.start, theirs.length, kept);
+        theirs.start != ours.start || theirs.length != ours.length || theirs.end != ours.end ||
+        theirs.count != ours.count) {
+        answers(text, sizeof text, ours.fault, ours.start, ours.length, theirs.number, theirs.place, theirs.start,
+                theirs.length, kept);
         differs("record", block, have, text);
-        printf("  record %zu; end %zu and %zu, items %zu and %zu, maps %s\n", n, ours.end, theirs.end, ours.count, theirs.count,
-               same ? "alike" : "not alike");
+        printf("  record %zu; end %zu and %zu, items %zu and %zu, maps %s\n", n, ours.end, theirs.end, ours.count,
+               theirs.count, same ? "alike" : "not alike");
     }
 }
 
@@ -191,11 +199,11 @@ static void try_item(struct chance *c, const uint8_t *block, size_t have, unsign
     tally(ITEM, ours.fault.number);
     if (ours.fault.number == 0)
         found[find_layout(block[0], reference) - items]++;
-    if (!kept || theirs.number != ours.fault.number || theirs.place != ours.fault.place || theirs.start != ours.start ||
-        theirs.length != ours.length) {
+    if (!kept || theirs.number != ours.fault.number || theirs.place != ours.fault.place ||
+        theirs.start != ours.start || theirs.length != ours.length) {
         differs("find", block, have,
-                answers(text, sizeof text, ours.fault, ours.start, ours.length, theirs.number, theirs.place, theirs.start,
-                        theirs.length, kept));
+                answers(text, sizeof text, ours.fault, ours.start, ours.length, theirs.number, theirs.place,
+                        theirs.start, theirs.length, kept));
         printf("  item %03u of record %zu\n", reference, n);
     }
 }
@@ -217,11 +225,13 @@ static void try_read(struct chance *c, unsigned category, unsigned reference, co
     tally(READ, ours.fault.number);
     if (ours.fault.number == 0)
         read[find_layout(category, reference) - items]++;
-    if (!kept || theirs.number != ours.fault.number || theirs.place != ours.fault.place || theirs.count != ours.count) {
+    if (!kept || theirs.number != ours.fault.number || theirs.place != ours.fault.place ||
+        theirs.count != ours.count) {
         char question[40];
         snprintf(question, sizeof question, "read %u %03u", category, reference);
         differs(question, item, have,
-                answers(text, sizeof text, ours.fault, ours.count, 0, theirs.number, theirs.place, theirs.count, 0, kept));
+                answers(text, sizeof text, ours.fault, ours.count, 0, theirs.number, theirs.place, theirs.count, 0,
+                        kept));
     }
 }
 
@@ -233,22 +243,26 @@ static void try_write(struct chance *c, unsigned category, unsigned reference, c
     struct plain_length ours = plain_write_item(category, reference, fields, count, should, room);
     const int64_t *from = (int64_t *)(void *)lend(&input, one_in(c, 2), fields, count * sizeof *fields);
     uint8_t *out = lend(&output, one_in(c, 2), old, room);
-    struct asterix_item_written theirs = asterix_write_item((uint8_t)category, (uint16_t)reference, from, count, out, room);
+    struct asterix_item_written theirs =
+        asterix_write_item((uint8_t)category, (uint16_t)reference, from, count, out, room);
     bool kept = unchanged(&input);
     kept = (ours.fault.number ? unchanged(&output) : holds(&output, should)) && kept;
     tally(WRITE, ours.fault.number);
     if (ours.fault.number == 0)
         written[find_layout(category, reference) - items]++;
-    if (!kept || theirs.number != ours.fault.number || theirs.place != ours.fault.place || theirs.length != ours.length) {
+    if (!kept || theirs.number != ours.fault.number || theirs.place != ours.fault.place ||
+        theirs.length != ours.length) {
         char question[80];
-        snprintf(question, sizeof question, "write %u %03u %zu, %zu fields from %" PRId64 " on; plain writes", category, reference,
-                 room, count, count ? fields[0] : 0);
+        snprintf(question, sizeof question, "write %u %03u %zu, %zu fields from %" PRId64 " on; plain writes",
+                 category, reference, room, count, count ? fields[0] : 0);
         differs(question, should, ours.length,
-                answers(text, sizeof text, ours.fault, ours.length, 0, theirs.number, theirs.place, theirs.length, 0, kept));
+                answers(text, sizeof text, ours.fault, ours.length, 0, theirs.number, theirs.place, theirs.length, 0,
+                        kept));
     }
 }
 
-static void try_add(struct chance *c, const uint8_t *old, size_t room, size_t used, uint64_t frns, const uint8_t *new, size_t have)
+static void try_add(struct chance *c, const uint8_t *old, size_t room, size_t used, uint64_t frns, const uint8_t *new,
+                    size_t have)
 {
     static uint8_t should[REGION];
     memcpy(should, old, room);
@@ -262,7 +276,8 @@ static void try_add(struct chance *c, const uint8_t *old, size_t room, size_t us
     tally(ours.fault.number && !in_new ? ADD_OLD : ADD_NEW, ours.fault.number);
     if (!kept || theirs.number != ours.fault.number || theirs.place != ours.fault.place || theirs.in_new != in_new ||
         theirs.length != ours.length) {
-        answers(text, sizeof text, ours.fault, ours.length, in_new, theirs.number, theirs.place, theirs.length, theirs.in_new, kept);
+        answers(text, sizeof text, ours.fault, ours.length, in_new, theirs.number, theirs.place, theirs.length,
+                theirs.in_new, kept);
         differs("add", old, used < room ? used : room, text);
         printf("  room %zu, used %zu, set %016" PRIx64 ", items ", room, used, frns);
         print_octets(new, have);
@@ -318,14 +333,17 @@ static void input_block(struct chance *c)
     size_t n = one_in(c, 50) ? (size_t)any(c) : below(c, records + one_in(c, 4));
     try_record(c, block, have, n);
     unsigned category = have ? block[0] : 17;
-    int reference = is_category(category) && !one_in(c, 8) ? reference_at(category, (unsigned)between(c, 1, last_frn(category))) : NONE;
+    int reference = is_category(category) && !one_in(c, 8)
+                        ? reference_at(category, (unsigned)between(c, 1, last_frn(category)))
+                        : NONE;
     if (message < COUNT(messages) && one_in(c, 2))
         for (unsigned tries = 0; tries < 30; tries++) { /* an item that the record has */
             unsigned frn = (unsigned)between(c, 1, 35);
             if (sketch.frns >> (63 - frn) & 1)
                 reference = reference_at(sketch.category, frn);
         }
-    try_item(c, block, have, reference == NONE ? (unsigned)below(c, one_in(c, 2) ? 400 : 65536) : (unsigned)reference, n);
+    try_item(c, block, have, reference == NONE ? (unsigned)below(c, one_in(c, 2) ? 400 : 65536) : (unsigned)reference,
+             n);
 }
 
 static void input_recording(struct chance *c)
@@ -364,10 +382,10 @@ static void input_read(struct chance *c)
 
 static int64_t draw_near(struct chance *c, int64_t value)
 {
-    static const int64_t ends[] = { -4194305, -4194304, 4194303,   4194304, -8388609, -8388608, 8388607, 8388608, 11059199,
-                                    11059200, 32768,    32769,     -8193,   -8192,    8191,     8192,    -32769,  -32768,
-                                    32767,    65535,    65536,     255,     256,      -1,       0,       1,       16777215,
-                                    16777216, INT64_MIN, INT64_MAX };
+    static const int64_t ends[] = { -4194305, -4194304, 4194303,  4194304,  -8388609,  -8388608, 8388607, 8388608,
+                                    11059199, 11059200, 32768,    32769,    -8193,     -8192,    8191,    8192,
+                                    -32769,   -32768,   32767,    65535,    65536,     255,      256,     -1,
+                                    0,        1,        16777215, 16777216, INT64_MIN, INT64_MAX };
     switch (below(c, 5)) {
     case 0:
         return ends[below(c, COUNT(ends))];
@@ -458,7 +476,8 @@ static void input_large(struct chance *c)
         sketch.items[5] = (uint8_t)parts;
     } else { /* Downlink_packet: source, destination, type, address, packet */
         size_t led = n < 13 ? 3 : n - 10 < 255 ? n - 10 : 255;
-        sketch = (struct sketch){ .frns = (uint64_t)7 << 60 | (uint64_t)1 << 58 | (uint64_t)1 << 54, .length = 8 + led };
+        sketch =
+            (struct sketch){ .frns = (uint64_t)7 << 60 | (uint64_t)1 << 58 | (uint64_t)1 << 54, .length = 8 + led };
         sketch.items[4] = 0x23;
         sketch.items[8] = (uint8_t)led;
     }
@@ -599,6 +618,7 @@ int main(int argc, char **argv)
     }
     all_lengths();
     report();
-    printf("differ: seed %" PRIu64 ", %zu inputs, %zu calls and %zu lengths, %zu differences\n", seed, inputs, calls, lengths, differences);
+    printf("differ: seed %" PRIu64 ", %zu inputs, %zu calls and %zu lengths, %zu differences\n", seed, inputs, calls,
+           lengths, differences);
     return differences > 0 || !complete;
 }

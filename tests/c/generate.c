@@ -281,7 +281,9 @@ void damage_block(struct chance *c, uint8_t *block, size_t *have)
     switch (below(c, 12)) {
     case 0: /* LEN */
         if (*have >= 3)
-            set_len(block, one_in(c, 2) ? *have + between(c, 0, 8) - 4 : one_in(c, 3) ? below(c, 6) : below(c, 65536));
+            set_len(block, one_in(c, 2)   ? *have + between(c, 0, 8) - 4
+                           : one_in(c, 3) ? below(c, 6)
+                                          : below(c, 65536));
         mend = false;
         break;
     case 1: /* CAT */

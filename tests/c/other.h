@@ -1,4 +1,5 @@
-/* Other names for the plain implementation, so that a copy of it with a planted fault can be linked beside it: read first, by `-include`. */
+/* Other names for the plain implementation, so that a copy of it with a planted fault can be linked beside it:
+ * read first, by `-include`. */
 #define plain_check_block other_check_block
 #define plain_check_recording other_check_recording
 #define plain_find_record other_find_record

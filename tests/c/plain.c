@@ -288,7 +288,8 @@ static bool has_unusable(unsigned category, const struct set *set)
 }
 
 /* The FSPEC at the start of `have` octets: 5, 6, 7, 8, all at 0: the record's start. */
-static struct plain_fault get_fspec(unsigned category, const uint8_t *at, size_t have, struct set *set, size_t *octets)
+static struct plain_fault get_fspec(unsigned category, const uint8_t *at, size_t have, struct set *set,
+                                    size_t *octets)
 {
     size_t most = last_frn(category) / 7;
     *set = (struct set){ { false } };
@@ -309,8 +310,8 @@ static struct plain_fault get_fspec(unsigned category, const uint8_t *at, size_t
     return has_unusable(category, set) ? refused(8, 0) : fine;
 }
 
-/* The items of a set, end to end at the start of `have` octets: where each starts, and their whole length. A refusal, 9 to 11, is at the
- * item's start. */
+/* The items of a set, end to end at the start of `have` octets: where each starts, and their whole length. A
+ * refusal, 9 to 11, is at the item's start. */
 static struct plain_fault check_items(unsigned category, const struct set *set, const uint8_t *at, size_t have,
                                       size_t *starts, size_t *length)
 {

@@ -74,8 +74,8 @@ struct plain_length plain_write_item(unsigned category, unsigned reference, cons
 struct plain_length plain_add_record(uint8_t *out, size_t room, size_t used, uint64_t set, const uint8_t *items,
                                      size_t have);
 
-/* The fixed lengths, summed, of the items that an FSPEC octet names (`place` from 0): a list or a led item counts 1, an item
- * extended by FX its first part. 0 where the category or the octet is not there. */
+/* The fixed lengths, summed, of the items that an FSPEC octet names (`place` from 0): a list or a led item counts
+ * 1, an item extended by FX its first part. 0 where the category or the octet is not there. */
 size_t plain_least_length(unsigned category, size_t place, unsigned octet);
 
 #endif

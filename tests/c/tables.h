@@ -1,6 +1,6 @@
 /* The tables of both categories, for plain.c and generate.c: the items' layouts and fields (section 5.2 of each
- * document), the profiles (5.3.1) and the message types (5.3.2). Transcribed from category 017 edition 1.3 and category 018
- * edition 1.6, under docs/DECISIONS.md where those leave a choice or lost a figure. */
+ * document), the profiles (5.3.1) and the message types (5.3.2). Transcribed from category 017 edition 1.3 and
+ * category 018 edition 1.6, under docs/DECISIONS.md where those leave a choice or lost a figure. */
 #ifndef TABLES_H
 #define TABLES_H
 
@@ -32,6 +32,11 @@ struct item {
     struct field first[8], extent[8]; /* until a field with high 0; bit 1 of an extended octet is no field */
 };
 
+#define ITEM(category, reference, layout, octets, ...) \
+    { category, reference, layout, octets, { __VA_ARGS__ }, { { 0 } } }
+#define EXTENDABLE(category, reference, first, extent) { category, reference, EXTENDED, 1, first, extent }
+#define PARTS(...) { __VA_ARGS__ }
+
 #define BITS(high, low) { high, low, NUMBER, 0, 0 }
 #define BIT(at) { at, at, NUMBER, 0, 0 }
 #define UPTO(high, low, most) { high, low, NUMBER, 0, most }
@@ -44,61 +49,62 @@ struct item {
 
 static const struct item items[] = {
     /* category 017 */
-    { 17, 0, FIXED, 1, { BITS(8, 1) }, { { 0 } } },                                          /* 5.2.1  message type */
-    { 17, 10, FIXED, 2, { BITS(16, 9), BITS(8, 1) }, { { 0 } } },                            /* 5.2.2  SAC, SIC */
-    { 17, 12, FIXED, 2, { BITS(16, 9), BITS(8, 1) }, { { 0 } } },                            /* 5.2.3  SAC, SIC */
-    { 17, 45, FIXED, 6, { RANGE(48, 25, -4194304, 4194303), TWOS(24, 1) }, { { 0 } } },      /* 5.2.4  latitude, longitude */
-    { 17, 50, FIXED, 2, { BIT(16), BIT(15), TWOS(14, 1) }, { { 0 } } },                      /* 5.2.5  V, G, altitude */
-    { 17, 70, FIXED, 2, { BIT(16), BIT(15), BIT(14), ZERO(13, 13), BITS(12, 1) }, { { 0 } } }, /* 5.2.6  V, G, L, code */
-    { 17, 140, FIXED, 3, { UPTO(24, 1, LAST_TIME) }, { { 0 } } },                            /* 5.2.7  time of day */
-    { 17, 200, FIXED, 4, { BITS(32, 17), BITS(16, 1) }, { { 0 } } },                         /* 5.2.8  speed, heading */
-    { 17, 210, LIST, 3, { BITS(24, 1) }, { { 0 } } },                                        /* 5.2.9  addresses: REP = 0 is allowed */
-    { 17, 220, FIXED, 3, { BITS(24, 1) }, { { 0 } } },                                       /* 5.2.10 address */
-    { 17, 221, FIXED, 2, { BITS(16, 1) }, { { 0 } } },                                       /* 5.2.11 DRN */
-    { 17, 230, FIXED, 1, { BITS(8, 6), ZERO(5, 1) }, { { 0 } } },                            /* 5.2.12 CA, as the list has it */
-    { 17, 240, FIXED, 1, { BIT(8), BIT(7), ZERO(6, 1) }, { { 0 } } },                        /* 5.2.13 CST, FLT */
-    { 17, 350, SOME, 2, { BITS(16, 9), BITS(8, 1) }, { { 0 } } },                            /* 5.2.14 SAC, SIC each */
-    { 17, 360, FIXED, 1, { BITS(8, 1) }, { { 0 } } },                                        /* 5.2.15 state */
+    ITEM(17, 0, FIXED, 1, BITS(8, 1)),                                                   /* 5.2.1  message type */
+    ITEM(17, 10, FIXED, 2, BITS(16, 9), BITS(8, 1)),                                     /* 5.2.2  SAC, SIC */
+    ITEM(17, 12, FIXED, 2, BITS(16, 9), BITS(8, 1)),                                     /* 5.2.3  SAC, SIC */
+    ITEM(17, 45, FIXED, 6, RANGE(48, 25, -4194304, 4194303), TWOS(24, 1)),               /* 5.2.4  latitude, longitude */
+    ITEM(17, 50, FIXED, 2, BIT(16), BIT(15), TWOS(14, 1)),                               /* 5.2.5  V, G, altitude */
+    ITEM(17, 70, FIXED, 2, BIT(16), BIT(15), BIT(14), ZERO(13, 13), BITS(12, 1)),        /* 5.2.6  V, G, L, code */
+    ITEM(17, 140, FIXED, 3, UPTO(24, 1, LAST_TIME)),                                     /* 5.2.7  time of day */
+    ITEM(17, 200, FIXED, 4, BITS(32, 17), BITS(16, 1)),                                  /* 5.2.8  speed, heading */
+    ITEM(17, 210, LIST, 3, BITS(24, 1)),                                                 /* 5.2.9  addresses: REP = 0 is allowed */
+    ITEM(17, 220, FIXED, 3, BITS(24, 1)),                                                /* 5.2.10 address */
+    ITEM(17, 221, FIXED, 2, BITS(16, 1)),                                                /* 5.2.11 DRN */
+    ITEM(17, 230, FIXED, 1, BITS(8, 6), ZERO(5, 1)),                                     /* 5.2.12 CA, as the list has it */
+    ITEM(17, 240, FIXED, 1, BIT(8), BIT(7), ZERO(6, 1)),                                 /* 5.2.13 CST, FLT */
+    ITEM(17, 350, SOME, 2, BITS(16, 9), BITS(8, 1)),                                     /* 5.2.14 SAC, SIC each */
+    ITEM(17, 360, FIXED, 1, BITS(8, 1)),                                                 /* 5.2.15 state */
 
     /* category 018 */
-    { 18, 0, FIXED, 1, { BITS(8, 1) }, { { 0 } } },                                          /* 5.2.1  message type */
-    { 18, 1, FIXED, 1, { BITS(8, 5), BITS(4, 1) }, { { 0 } } },                              /* 5.2.2  CAUSE, DIAG */
-    { 18, 2, FIXED, 3, { UPTO(24, 1, LAST_TIME) }, { { 0 } } },                              /* 5.2.3  time of day */
-    { 18, 4, FIXED, 1, { BITS(8, 5), BITS(4, 1) }, { { 0 } } },                              /* 5.2.4  former, current II */
-    { 18, 5, FIXED, 3, { BITS(24, 1) }, { { 0 } } },                                         /* 5.2.5  address */
-    { 18, 6, SOME, 3, { BITS(24, 1) }, { { 0 } } },                                          /* 5.2.6  addresses */
-    { 18, 7, FIXED, 1, { BIT(8), BIT(7), BIT(6), BIT(5), ZERO(4, 1) }, { { 0 } } },          /* 5.2.7  UM, DM, UC, DC */
-    { 18, 8, EXTENDED, 1, { BIT(8), BIT(7), BIT(6), BIT(5), ZERO(4, 3), BIT(2) },            /* 5.2.8  UDS, DDS, UCS, DCS, EI */
-      { BIT(8), ZERO(7, 2) } },                                                              /*        IC */
-    { 18, 9, EXTENDED, 1, { BIT(8), BIT(7), BIT(6), BIT(5), BIT(4), BIT(3), BIT(2) },        /* 5.2.9  SR, AR, ER, FR, MR, PR, CR */
-      { BIT(8), BIT(7), BIT(6), BIT(5), BIT(4), ZERO(3, 2) } },                              /*        ID, MA, SP, HG, HD */
-    { 18, 10, FIXED, 1, { ZERO(8, 4), BITS(3, 1) }, { { 0 } } },                             /* 5.2.10 COM */
-    { 18, 11, FIXED, 7, { BITS(56, 1) }, { { 0 } } },                                        /* 5.2.11 capability report */
-    { 18, 12, FIXED, 1, { BIT(8), BITS(7, 1) }, { { 0 } } },                                 /* 5.2.12 FS, CQF */
-    { 18, 13, FIXED, 1, { BITS(8, 1) }, { { 0 } } },                                         /* 5.2.13 CQF method */
-    { 18, 14, FIXED, 4, { BITS(32, 17), BITS(16, 1) }, { { 0 } } },                          /* 5.2.14 RHO, THETA */
-    { 18, 15, FIXED, 4, { TWOS(32, 17), TWOS(16, 1) }, { { 0 } } },                          /* 5.2.15 X, Y */
-    { 18, 16, FIXED, 4, { BITS(32, 1) }, { { 0 } } },                                        /* 5.2.16 packet number */
-    { 18, 17, SOME, 4, { BITS(32, 1) }, { { 0 } } },                                         /* 5.2.17 packet numbers */
-    { 18, 18, FIXED, 1, { ZERO(8, 8), BITS(7, 3), BITS(2, 1) }, { { 0 } } },                 /* 5.2.18 PR, PT */
-    { 18, 19, LED, 0, { { 0 } }, { { 0 } } },                                                /* 5.2.19 packet: "3+" in table 9 */
-    { 18, 20, FIXED, 4, { BITS(32, 1) }, { { 0 } } },                                        /* 5.2.20 broadcast number */
-    { 18, 21, FIXED, 6, { BITS(48, 45), BITS(44, 41), BITS(40, 33), BITS(32, 1) }, { { 0 } } }, /* 5.2.21 priority, power, duration, coverage */
-    { 18, 22, FIXED, 4, { ZERO(32, 28), BITS(27, 1) }, { { 0 } } },                          /* 5.2.22 prefix */
-    { 18, 23, FIXED, 7, { BITS(56, 1) }, { { 0 } } },                                        /* 5.2.23 broadcast */
-    { 18, 25, FIXED, 4, { BITS(32, 1) }, { { 0 } } },                                        /* 5.2.24 GICB number */
-    { 18, 27, FIXED, 1, { BITS(8, 1) }, { { 0 } } },                                         /* 5.2.25 BDS code */
-    { 18, 28, FIXED, 2, { BITS(16, 1) }, { { 0 } } },                                        /* 5.2.26 periodicity */
-    { 18, 29, FIXED, 7, { BITS(56, 1) }, { { 0 } } },                                        /* 5.2.27 GICB extracted */
-    { 18, 30, FIXED, 2,                                                                      /* 5.2.28 priority, PC, AU, NE, RD */
-      { BITS(16, 12), ZERO(11, 9), BIT(8), BIT(7), BIT(6), BITS(5, 4), ZERO(3, 1) }, { { 0 } } },
-    { 18, 31, FIXED, 6, { BITS(48, 1) }, { { 0 } } },                                        /* 5.2.29 identity */
-    { 18, 32, FIXED, 2, { BIT(16), BIT(15), BIT(14), ZERO(13, 13), BITS(12, 1) }, { { 0 } } }, /* 5.2.30 V, G, L, code */
-    { 18, 33, FIXED, 2, { BIT(16), BIT(15), TWOS(14, 1) }, { { 0 } } },                      /* 5.2.31 V, G, level */
-    { 18, 34, FIXED, 2, { UPTO(16, 1, 2 * 16384) }, { { 0 } } },                             /* 5.2.32 speed, at most 2 NM/s */
-    { 18, 35, FIXED, 2, { BITS(16, 1) }, { { 0 } } },                                        /* 5.2.33 heading */
-    { 18, 36, FIXED, 2, { BITS(16, 9), BITS(8, 1) }, { { 0 } } },                            /* 5.2.34 SAC, SIC */
-    { 18, 37, FIXED, 2, { BITS(16, 9), BITS(8, 1) }, { { 0 } } },                            /* 5.2.35 SAC, SIC */
+    ITEM(18, 0, FIXED, 1, BITS(8, 1)),                                                   /* 5.2.1  message type */
+    ITEM(18, 1, FIXED, 1, BITS(8, 5), BITS(4, 1)),                                       /* 5.2.2  CAUSE, DIAG */
+    ITEM(18, 2, FIXED, 3, UPTO(24, 1, LAST_TIME)),                                       /* 5.2.3  time of day */
+    ITEM(18, 4, FIXED, 1, BITS(8, 5), BITS(4, 1)),                                       /* 5.2.4  former, current II */
+    ITEM(18, 5, FIXED, 3, BITS(24, 1)),                                                  /* 5.2.5  address */
+    ITEM(18, 6, SOME, 3, BITS(24, 1)),                                                   /* 5.2.6  addresses */
+    ITEM(18, 7, FIXED, 1, BIT(8), BIT(7), BIT(6), BIT(5), ZERO(4, 1)),                   /* 5.2.7  UM, DM, UC, DC */
+    /* 5.2.8  UDS, DDS, UCS, DCS, EI; extent: IC */
+    EXTENDABLE(18, 8, PARTS(BIT(8), BIT(7), BIT(6), BIT(5), ZERO(4, 3), BIT(2)), PARTS(BIT(8), ZERO(7, 2))),
+    /* 5.2.9  SR, AR, ER, FR, MR, PR, CR; extent: ID, MA, SP, HG, HD */
+    EXTENDABLE(18, 9, PARTS(BIT(8), BIT(7), BIT(6), BIT(5), BIT(4), BIT(3), BIT(2)),
+               PARTS(BIT(8), BIT(7), BIT(6), BIT(5), BIT(4), ZERO(3, 2))),
+    ITEM(18, 10, FIXED, 1, ZERO(8, 4), BITS(3, 1)),                                      /* 5.2.10 COM */
+    ITEM(18, 11, FIXED, 7, BITS(56, 1)),                                                 /* 5.2.11 capability report */
+    ITEM(18, 12, FIXED, 1, BIT(8), BITS(7, 1)),                                          /* 5.2.12 FS, CQF */
+    ITEM(18, 13, FIXED, 1, BITS(8, 1)),                                                  /* 5.2.13 CQF method */
+    ITEM(18, 14, FIXED, 4, BITS(32, 17), BITS(16, 1)),                                   /* 5.2.14 RHO, THETA */
+    ITEM(18, 15, FIXED, 4, TWOS(32, 17), TWOS(16, 1)),                                   /* 5.2.15 X, Y */
+    ITEM(18, 16, FIXED, 4, BITS(32, 1)),                                                 /* 5.2.16 packet number */
+    ITEM(18, 17, SOME, 4, BITS(32, 1)),                                                  /* 5.2.17 packet numbers */
+    ITEM(18, 18, FIXED, 1, ZERO(8, 8), BITS(7, 3), BITS(2, 1)),                          /* 5.2.18 PR, PT */
+    ITEM(18, 19, LED, 0, { 0 }),                                                         /* 5.2.19 packet: "3+" in table 9 */
+    ITEM(18, 20, FIXED, 4, BITS(32, 1)),                                                 /* 5.2.20 broadcast number */
+    ITEM(18, 21, FIXED, 6, BITS(48, 45), BITS(44, 41), BITS(40, 33), BITS(32, 1)),       /* 5.2.21 priority, power, duration, coverage */
+    ITEM(18, 22, FIXED, 4, ZERO(32, 28), BITS(27, 1)),                                   /* 5.2.22 prefix */
+    ITEM(18, 23, FIXED, 7, BITS(56, 1)),                                                 /* 5.2.23 broadcast */
+    ITEM(18, 25, FIXED, 4, BITS(32, 1)),                                                 /* 5.2.24 GICB number */
+    ITEM(18, 27, FIXED, 1, BITS(8, 1)),                                                  /* 5.2.25 BDS code */
+    ITEM(18, 28, FIXED, 2, BITS(16, 1)),                                                 /* 5.2.26 periodicity */
+    ITEM(18, 29, FIXED, 7, BITS(56, 1)),                                                 /* 5.2.27 GICB extracted */
+    /* 5.2.28 priority, PC, AU, NE, RD */
+    ITEM(18, 30, FIXED, 2, BITS(16, 12), ZERO(11, 9), BIT(8), BIT(7), BIT(6), BITS(5, 4), ZERO(3, 1)),
+    ITEM(18, 31, FIXED, 6, BITS(48, 1)),                                                 /* 5.2.29 identity */
+    ITEM(18, 32, FIXED, 2, BIT(16), BIT(15), BIT(14), ZERO(13, 13), BITS(12, 1)),        /* 5.2.30 V, G, L, code */
+    ITEM(18, 33, FIXED, 2, BIT(16), BIT(15), TWOS(14, 1)),                               /* 5.2.31 V, G, level */
+    ITEM(18, 34, FIXED, 2, UPTO(16, 1, 2 * 16384)),                                      /* 5.2.32 speed, at most 2 NM/s */
+    ITEM(18, 35, FIXED, 2, BITS(16, 1)),                                                 /* 5.2.33 heading */
+    ITEM(18, 36, FIXED, 2, BITS(16, 9), BITS(8, 1)),                                     /* 5.2.34 SAC, SIC */
+    ITEM(18, 37, FIXED, 2, BITS(16, 9), BITS(8, 1)),                                     /* 5.2.35 SAC, SIC */
 };
 
 /* ---- The profiles and the message types: section 5.3 of each document */

@@ -1,5 +1,6 @@
-/* vectors QUESTIONS ANSWERS ..: asks each question of the functions of include/asterix.h, whichever it is linked with, and compares with the
- * answer on the same line. tests/vectors/README.md says what questions and answers look like. Ends with status 1 where one differs. */
+/* vectors QUESTIONS ANSWERS ..: asks each question of the functions of include/asterix.h, whichever it is linked
+ * with, and compares with the answer on the same line. tests/vectors/README.md says what questions and answers
+ * look like. Ends with status 1 where one differs. */
 #include <inttypes.h>
 #include <stdbool.h>
 #include <stdio.h>
@@ -71,7 +72,10 @@ static bool take_number(const char *word, uint64_t *n)
 
 static int digit(char c)
 {
-    return c >= '0' && c <= '9' ? c - '0' : c >= 'A' && c <= 'F' ? c - 'A' + 10 : c >= 'a' && c <= 'f' ? c - 'a' + 10 : -1;
+    return c >= '0' && c <= '9'   ? c - '0'
+           : c >= 'A' && c <= 'F' ? c - 'A' + 10
+           : c >= 'a' && c <= 'f' ? c - 'a' + 10
+                                  : -1;
 }
 
 static bool take_octets(const char *word, uint8_t *to, size_t *n)
@@ -130,7 +134,8 @@ static void ask_block(const uint8_t *block, size_t have)
                 continue;
             uint16_t reference = (uint16_t)reference_at(block[0], frn);
             struct asterix_item_found item = asterix_find_item(block, have, reference, n);
-            struct asterix_item_read read = asterix_read_item(block[0], reference, block + item.start, item.length, fields);
+            struct asterix_item_read read =
+                asterix_read_item(block[0], reference, block + item.start, item.length, fields);
             char text[8];
             snprintf(text, sizeof text, " %03u=", reference);
             say(text);
@@ -179,8 +184,8 @@ static void ask_write(uint64_t category, uint64_t reference, size_t room, const 
     say_octets(second, written.length);
 }
 
-static void ask_add(const uint8_t *old, size_t used, size_t room, const int64_t *frns, size_t count, const uint8_t *items,
-                    size_t have)
+static void ask_add(const uint8_t *old, size_t used, size_t room, const int64_t *frns, size_t count,
+                    const uint8_t *items, size_t have)
 {
     static uint8_t out[1 << 20];
     uint64_t set = 0;
@@ -254,19 +259,22 @@ static bool ask(char *line)
         ask_block(first, n);
     else if (strcmp(word[0], "recording") == 0 && words == 2 && take_octets(word[1], first, &n))
         ask_recording(first, n);
-    else if (strcmp(word[0], "read") == 0 && words == 4 && take_number(word[1], &a) && a < 256 && take_number(word[2], &b) &&
-             b < 65536 && take_octets(word[3], first, &n))
+    else if (strcmp(word[0], "read") == 0 && words == 4 && take_number(word[1], &a) && a < 256 &&
+             take_number(word[2], &b) && b < 65536 && take_octets(word[3], first, &n))
         ask_read(a, b, first, n);
-    else if (strcmp(word[0], "write") == 0 && words == 5 && take_number(word[1], &a) && a < 256 && take_number(word[2], &b) &&
-             b < 65536 && take_number(word[3], &c) && c <= sizeof second && take_list(word[4], given, &count))
+    else if (strcmp(word[0], "write") == 0 && words == 5 && take_number(word[1], &a) && a < 256 &&
+             take_number(word[2], &b) && b < 65536 && take_number(word[3], &c) && c <= sizeof second &&
+             take_list(word[4], given, &count))
         ask_write(a, b, c, given, count);
-    else if (strcmp(word[0], "add") == 0 && words == 5 && take_octets(word[1], first, &n) && take_number(word[2], &a) &&
-             a <= sizeof second && take_list(word[3], given, &count) && take_octets(word[4], second, &m))
+    else if (strcmp(word[0], "add") == 0 && words == 5 && take_octets(word[1], first, &n) &&
+             take_number(word[2], &a) && a <= sizeof second && take_list(word[3], given, &count) &&
+             take_octets(word[4], second, &m))
         ask_add(first, n, a, given, count, second, m);
-    else if (strcmp(word[0], "find") == 0 && words == 4 && take_octets(word[1], first, &n) && take_number(word[2], &a) &&
-             a < 65536 && take_number(word[3], &b))
+    else if (strcmp(word[0], "find") == 0 && words == 4 && take_octets(word[1], first, &n) &&
+             take_number(word[2], &a) && a < 65536 && take_number(word[3], &b))
         ask_find(first, n, a, b);
-    else if (strcmp(word[0], "record") == 0 && words == 3 && take_octets(word[1], first, &n) && take_number(word[2], &a))
+    else if (strcmp(word[0], "record") == 0 && words == 3 && take_octets(word[1], first, &n) &&
+             take_number(word[2], &a))
         ask_record(first, n, a);
     else
         return false;
