@@ -1,12 +1,12 @@
 -- One item read alone: which layout a category and a reference name, and what is answered of the octets lent.
 --
 -- In order: the index of a category; the layout by the tables; an item that is all of the octets. Assumes nothing.
-use Prim.Native.Nat.{ℕ, zero, suc, _+_, _-_, _<_, _≤_}
-use mathlib.Core.Path.{_≡_, refl, sym, ap, _∙_, subst}
+use Prim.Native.Nat.{ℕ, suc, _-_, _<_, _≤_}
+use mathlib.Core.Path.{_≡_, refl, sym, ap, _∙_}
 use mathlib.Core.Bool.{Bool, true, false}
 use mathlib.Core.Logic.{⊎-elim}
 use mathlib.Core.Option.{Option, none, some}
-use mathlib.Core.List.{List, [], _∷_, map}
+use mathlib.Core.List.{List, [], _∷_}
 use native.Mathlib.Omega.{arith}
 use native.Mathlib.Nat.{add-zero}
 use lib.Dec.{eqb, leb}
@@ -15,23 +15,23 @@ use lib.ListN.{length, drop, length-drop}
 use lib.Seq.{sets}
 use borrow.Author.Tests.{eq-eqb, ne-eqb, le-leb, lt-leb}
 use Rattle.rules.specs.Answer.{Answer, ok, refused, _>>=_, need_or_then_, if_then_else_, expect_or_, later}
-use Rattle.rules.specs.Layout.{Layout, Values, concat, readItem, readFields}
+use Rattle.rules.specs.Layout.{Layout, Values, concat, readFields}
 use Rattle.rules.specs.Presence.{placeAt}
 use Rattle.rules.specs.Record.{Place, Category, places}
 use Rattle.rules.specs.Block.{categoryOf}
 use Rattle.rules.specs.Category017.{category017}
 use Rattle.rules.specs.Category018.{category018}
-use Rattle.rules.specs.Entry.{categories, profileAt, layoutAs, layoutOf, readOne, leaves, over}
+use Rattle.rules.specs.Entry.{categories, profileAt, layoutAs, layoutOf, readOne, leaves}
 use Rattle.rules.proofs.AnswerLaws.{Octets, none-some, bind-elim, need-elim}
 use Rattle.items.specs.declared.tables.LayoutRow.{LayoutRow}
 use Rattle.items.specs.declared.tables.PlaceRow.{PlaceRow}
 use Rattle.items.specs.Tables.{layoutIs, layoutAt, with, placeIs}
-use Rattle.items.specs.Read.{holds, span, partsSound, partsLegal, partValues, Shaped, headOf, stepOf, shapeOf, wholeOf, readBy, rowSound}
+use Rattle.items.specs.Read.{holds, partsLegal, partValues, Shaped, headOf, stepOf, shapeOf, wholeOf, readBy, rowSound}
 use Rattle.items.specs.Answers.{frnAs, profileIn, countOf}
 use Rattle.items.proofs.CheckLaws.{no-item}
 use Rattle.items.proofs.ReadLaws.{Fitting, fitting, reads, le-or-lt}
 use Rattle.items.proofs.StoreLaws.{sets-over, length-held}
-use Rattle.items.proofs.TableLaws.{Found, found, found-place, Missed, missed, layout-none}
+use Rattle.items.proofs.TableLaws.{Found, found, found-place, missed, layout-none}
 
 -- ---- the index of a category
 

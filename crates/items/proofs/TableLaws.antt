@@ -3,7 +3,7 @@
 --
 -- In order: places; groups; fields. Assumes nothing.
 use Prim.Native.Nat.{ℕ, zero, suc, _+_, _-_, _*_, _/_, _%_, _≤_, _<_}
-use mathlib.Core.Path.{_≡_, refl, sym, ap, _∙_, subst}
+use mathlib.Core.Path.{_≡_, refl, sym, ap, _∙_}
 use mathlib.Core.Bool.{Bool, true, false, _&&_, not, false≢true}
 use mathlib.Core.Logic.{⊎-elim}
 use mathlib.Core.Option.{Option, none, some}
@@ -12,11 +12,11 @@ use native.Mathlib.Omega.{arith}
 use native.Mathlib.Nat.{le-of-suc-le-suc, not-suc-le-zero, le-trans}
 use lib.Dec.{leb, ltb, eqb, lit≤}
 use lib.IntN.{pos}
-use lib.ListN.{length, getD, drop, replicate, drop-of-length-le, List·getD-map, List·getD-append, List·getD-eq-default, getD-replicate}
+use lib.ListN.{length, getD, drop, replicate, drop-of-length-le, List·getD-map, List·getD-append, List·getD-eq-default}
 use lib.Seq.{slice, getD-append-add}
-use borrow.Author.Tests.{ltb-true, leb-true, eqb-true, ne-eqb}
+use borrow.Author.Tests.{ltb-true, leb-true, ne-eqb}
 use Rattle.rules.specs.Answer.{if_then_else_}
-use Rattle.rules.specs.Layout.{Group, Layout, concat}
+use Rattle.rules.specs.Layout.{Layout, concat}
 use Rattle.rules.proofs.AnswerLaws.{both-left, both-right, if-inv, if-true, if-false, some-inj, none-some}
 use Rattle.rules.specs.Presence.{present, placeAt}
 use Rattle.rules.specs.Record.{Place, Category, places}
@@ -27,7 +27,7 @@ use Rattle.items.specs.declared.tables.GroupRow.{GroupRow}
 use Rattle.items.specs.declared.tables.LayoutRow.{LayoutRow}
 use Rattle.items.specs.declared.tables.PlaceRow.{PlaceRow}
 use Rattle.items.specs.declared.tables.FieldRow.{FieldRow}
-use Rattle.items.specs.Tables.{fields, fieldRow, fieldAt, ranges, least, greatest, fieldWord, fieldWords, groupWord, groupWords, layoutWord, layoutWords, layoutsIn, referencesIn, isFree, groups, layouts, groupIs, groupRows, groupAt, layoutRows, layoutBy, layoutIs, layoutAt, nowhere, profileRows, placeRowAt, with, placeIs}
+use Rattle.items.specs.Tables.{fields, fieldRow, fieldAt, ranges, least, greatest, fieldWord, fieldWords, groupWord, groupWords, layoutWord, layoutWords, layoutsIn, referencesIn, isFree, groups, layouts, groupRows, groupAt, layoutRows, layoutBy, layoutIs, layoutAt, nowhere, profileRows, placeRowAt, with, placeIs}
 use Rattle.items.specs.Answers.{isNamed, frnAs}
 use Rattle.items.specs.Read.{rows, isSpare, holds, partsSound, rowSound}
 

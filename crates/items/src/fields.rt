@@ -8,7 +8,7 @@ ghost use Prim.Native.Nat.{_+_, _≤_, _<_, _^_};
 ghost use mathlib.Core.List.{[]};
 ghost use lib.Seq.{sets};
 ghost use lib.IntN.{pos, negsuc};
-ghost use Rattle.items.specs.Read.{rows, valueOf, within, width, legal, shown, takes, values, count};
+ghost use Rattle.items.specs.Read.{rows, valueOf, width, shown, takes, values, count};
 
 // The power of two.
 pub fn pow2(k: u64) -> u64

@@ -5,9 +5,6 @@ use Rattle.items.proofs.TableLaws.{place-present}
 use borrow.Author.Needs.{needs}
 use Rattle.items.proofs.is_usable.Statement.{statement}
 use Rattle.items.proofs.is_usable.Tie as tie
-use Rattle.items.proofs.is_usable.Reads as reads
-use Rattle.items.proofs.is_usable.Lts as lts
-use Rattle.items.proofs.place_of.Reads as place-of-reads
 
 place-of-requires : tie.Need-place-of-requires
 place-of-requires c κs = search needs
