@@ -9,3 +9,4 @@ pub mod CheckLaws
 pub mod StoreLaws
 pub mod OneLaws
 pub mod RuleLaws
+pub mod Unique

@@ -250,6 +250,14 @@ pub place-present : (r : PlaceRow) → r .0 < 51 → present (placeIs r) ≡ not
 unfolding placeIs
 place-present r h = present-with (r .1) (layoutIs (layoutAt (r .0))) ∙ present-layout (r .0) h
 
+-- of an FRN of a profile
+pub usable-at : (p f : ℕ) {j : ℕ} → p < 2 → f < 36 → j ≡ placeRowAt (p * 36 + f) .0 → not (eqb j 0) ≡ present (placeAt (profileAt categories p) f)
+usable-at p f h k e =
+    rw e (sym (place-present (placeRowAt (p * 36 + f)) (place-row (p * 36 + f))) ∙ ap present (place-is p f h k))
+
+pub not-usable : (p f : ℕ) → placeIs nowhere ≡ placeAt (profileAt categories p) f → false ≡ present (placeAt (profileAt categories p) f)
+not-usable p f e = rw (← e, place-none)
+
 named-with : (ref n : ℕ) (x : Option Layout) → isNamed ref (with n x) ≡ (present x && eqb ref n)
 named-with ref n none = refl
 named-with ref n (some l) = refl

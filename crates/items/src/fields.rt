@@ -77,7 +77,8 @@ pub fn fields_store(n: u64, w: u64, a: usize, e: usize, out: &mut [i64; 8192], a
     while i < e {
         let f = field_at(i);
         left = left - f.0;
-        k = put(f, value_of(f, rest >> left), out, k);
+        let v = value_of(f, rest >> left);
+        k = put(f, v, out, k);
         rest = rest % pow2(left);
         i = i + 1;
     }

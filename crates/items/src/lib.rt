@@ -46,8 +46,12 @@ fn place_of(profile: usize, frn: usize) -> PlaceRow
 pub fn is_usable(profile: usize, frn: usize) -> bool
     ensures { λ r. ⌜ r ≡ present (placeAt (profileAt categories profile) frn) ⌝ }
 {
-    let p = place_of(profile, frn);
-    p.0 != 0
+    if profile < PROFILES {
+        if frn < FRNS {
+            return layout_row(profile * FRNS + frn) != 0;
+        }
+    }
+    false
 }
 
 // Whether the item of a profile at an FRN has a reference.
