@@ -8,31 +8,27 @@ use mathlib.Core.Logic.{⊎-elim}
 use mathlib.Core.Option.{Option, none, some}
 use mathlib.Core.List.{List, [], _∷_, map}
 use native.Mathlib.Omega.{arith}
-use native.Mathlib.Nat.{add-zero, mod-lt, pow-suc, not-suc-le-zero}
-use lib.Dec.{leb, ltb, eqb, leb·zero, lit<}
-use lib.IntN.{ℤ, pos, negsuc}
+use native.Mathlib.Nat.{add-zero, mod-lt}
+use lib.Dec.{ltb, eqb, leb·zero, lit<}
+use lib.IntN.{pos}
 use lib.Signed.{leZ}
-use lib.ListN.{length, getD, take, drop, length-drop, List·getD-map}
+use lib.ListN.{length, getD, drop, length-drop, List·getD-map}
 use lib.Seq.{slice}
 use lib.Pow.{pow-pos, shr-lt}
 use borrow.Author.Tests.{le-leb, lt-leb, lt-ltb, ltb-true, ltb-false, eqb-true, ne-eqb}
 use Rattle.rules.specs.Answer.{Answer, ok, refused, _>>=_, need_or_then_, expect_or_}
 use Rattle.rules.specs.Field.{Field, spare, value, unsigned, signed, bits, half}
-use Rattle.rules.specs.Layout.{Layout, Values, readItem}
+use Rattle.rules.specs.Layout.{Layout, Values}
 use Rattle.rules.specs.Presence.{placeAt}
-use Rattle.rules.specs.Record.{Place}
-use Rattle.rules.specs.Category017.{category017}
-use Rattle.rules.specs.Category018.{category018}
 use Rattle.rules.specs.Entry.{categories, profileAt}
 use Rattle.rules.proofs.AnswerLaws.{Octets, both-left, both-right, none-some, refused-ok}
-use Rattle.items.specs.declared.tables.GroupRow.{GroupRow}
 use Rattle.items.specs.declared.tables.LayoutRow.{LayoutRow}
 use Rattle.items.specs.declared.tables.PlaceRow.{PlaceRow}
-use Rattle.items.specs.Tables.{fields, groups, layouts, fieldRow, minus, isFree, groupIs, groupRows, groupAt, layoutBy, layoutIs, layoutAt, nowhere, profileRows, placeRowAt, with, placeIs}
-use Rattle.items.specs.Read.{rowsAt, partAt, twosOf, valueOf, within, width, legal, span, partSound, partsSound, partsLegal, Shaped, headOf, stepOf, shapeBy, shapeOf, wholeOf, wholeSize, readBy, rowSound}
+use Rattle.items.specs.Tables.{groups, fieldRow, minus, isFree, groupIs, groupRows, groupAt, layoutBy, layoutIs, layoutAt, nowhere, profileRows, placeRowAt, placeIs}
+use Rattle.items.specs.Read.{rowsAt, partAt, twosOf, valueOf, within, legal, span, partSound, partsSound, partsLegal, Shaped, headOf, stepOf, shapeBy, shapeOf, wholeOf, wholeSize, readBy, rowSound}
 use Rattle.items.specs.Answers.{sizeOf, checkAt}
 use Rattle.items.specs.FieldRules.{singleOf, singles, singleSize}
-use Rattle.items.proofs.FieldCodes.{Wide, width-bits, and-true, low-minus, low-neg, twice}
+use Rattle.items.proofs.FieldCodes.{Wide, width-bits, low-minus, low-neg, twice}
 use Rattle.items.proofs.PartLaws.{PartSound, part-sound, First, first-part}
 use Rattle.items.proofs.ReadLaws.{fieldsAt, rows-map, wide-slice, part-small, octets-drop, Fitting, fitting, reads, le-or-lt}
 use Rattle.items.proofs.ShapeLaws.{Rowed, rowed, Grouped, fixed-one, fixed-group, list-group, led-group, few-kinds, no-shape, fixed-cut, fixed-there}

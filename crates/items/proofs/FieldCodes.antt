@@ -1,7 +1,7 @@
 -- Codes of fields and the values they stand for, as the code works them out; and that the fields of a number are the rules' own.
 --
--- In order: signed numbers; ranges; values; one field; all fields of a number. Assumes nothing.
-use Prim.Native.Nat.{ℕ, zero, suc, _+_, _-_, _*_, _/_, _%_, _<_, _≤_, _^_, zero-le}
+-- In order: signed numbers; tests; values; one field; all fields of a number. Assumes nothing.
+use Prim.Native.Nat.{ℕ, zero, suc, _+_, _-_, _/_, _%_, _<_, _≤_, _^_, zero-le}
 use mathlib.Core.Path.{_≡_, refl, sym, ap, _∙_, subst}
 use mathlib.Core.Bool.{Bool, true, false, cond, _&&_}
 use mathlib.Core.List.{List, [], _∷_, map}
@@ -11,11 +11,11 @@ use lib.Dec.{leb, ltb, eqb, lit≤, leb·zero, leb·suc-zero, leb·suc-suc, eqb�
 use lib.Pow.{pow-pos, pow-mono, shr-lt}
 use lib.IntN.{ℤ, pos, negsuc, _-ℤ_}
 use lib.Signed.{leZ}
-use borrow.Author.Tests.{lt-ltb, le-ltb, eq-eqb, ne-eqb, ltb-true, ltb-false, eqb-true, eqb-false}
+use borrow.Author.Tests.{lt-ltb, le-ltb}
 use mir.Syntax.{w64}
 use mir.Val.{toZ, ofZ, SFits}
 use mir.ValLaws.{toZ-pos, toZ-ofZ}
-use Rattle.rules.specs.Answer.{Answer, ok, refused, _>>=_, need_or_then_, if_then_else_}
+use Rattle.rules.specs.Answer.{Answer, ok, _>>=_, need_or_then_, if_then_else_}
 use Rattle.rules.specs.Field.{Field, Kind, spare, value, unsigned, signed, bits, half, get, unpack}
 use Rattle.items.specs.declared.tables.FieldRow.{FieldRow}
 use Rattle.items.specs.Tables.{minus, fieldRow}
@@ -42,25 +42,13 @@ module _ (k : ℕ) (h : k < 2 ^ 63) where
 abbrev pub again : ℤ → ℤ
 again z = toZ w64 (ofZ w64 z)
 
--- ---- ranges
+-- ---- tests
 
 pub and-true : {a : Bool} (b : Bool) → a ≡ true → a && b ≡ b
 and-true b e = ap (λ (x : Bool). x && b) e
 
 pub and-false : {a : Bool} (b : Bool) → a ≡ false → a && b ≡ false
 and-false b e = ap (λ (x : Bool). x && b) e
-
-le-again : (a b : ℤ) → SFits w64 a → SFits w64 b → leZ (again a) (again b) ≡ leZ a b
-le-again a b fa fb = ap (λ (x : ℤ). leZ x (again b)) (toZ-ofZ w64 a fa) ∙ ap (leZ a) (toZ-ofZ w64 b fb)
-
-module _ (f : FieldRow) (v : ℤ) (fl : SFits w64 (f .2)) (fv : SFits w64 v) where
-  pub within-yes : SFits w64 (f .3) → leZ (again (f .2)) (again v) ≡ true → leZ (again v) (again (f .3)) ≡ within f v
-  unfolding within
-  within-yes fh e = le-again v (f .3) fv fh ∙ sym (and-true (leZ v (f .3)) (sym (le-again (f .2) v fl fv) ∙ e))
-
-  pub within-no : leZ (again (f .2)) (again v) ≡ false → false ≡ within f v
-  unfolding within
-  within-no e = sym (and-false (leZ v (f .3)) (sym (le-again (f .2) v fl fv) ∙ e))
 
 -- ---- values
 

@@ -1,12 +1,12 @@
 -- One item read alone: which layout a category and a reference name, and what is answered of the octets lent.
 --
 -- In order: the index of a category; the layout by the tables; an item that is all of the octets. Assumes nothing.
-use Prim.Native.Nat.{ℕ, zero, suc, _+_, _-_, _<_, _≤_}
-use mathlib.Core.Path.{_≡_, refl, sym, ap, _∙_, subst}
+use Prim.Native.Nat.{ℕ, suc, _-_, _<_, _≤_}
+use mathlib.Core.Path.{_≡_, refl, sym, ap, _∙_}
 use mathlib.Core.Bool.{Bool, true, false}
 use mathlib.Core.Logic.{⊎-elim}
 use mathlib.Core.Option.{Option, none, some}
-use mathlib.Core.List.{List, [], _∷_, map}
+use mathlib.Core.List.{List, [], _∷_}
 use native.Mathlib.Omega.{arith}
 use native.Mathlib.Nat.{add-zero}
 use lib.Dec.{eqb, leb}
@@ -15,23 +15,23 @@ use lib.ListN.{length, drop, length-drop}
 use lib.Seq.{sets}
 use borrow.Author.Tests.{eq-eqb, ne-eqb, le-leb, lt-leb}
 use Rattle.rules.specs.Answer.{Answer, ok, refused, _>>=_, need_or_then_, if_then_else_, expect_or_, later}
-use Rattle.rules.specs.Layout.{Layout, Values, concat, readItem, readFields}
+use Rattle.rules.specs.Layout.{Layout, Values, concat, readFields}
 use Rattle.rules.specs.Presence.{placeAt}
 use Rattle.rules.specs.Record.{Place, Category, places}
 use Rattle.rules.specs.Block.{categoryOf}
 use Rattle.rules.specs.Category017.{category017}
 use Rattle.rules.specs.Category018.{category018}
-use Rattle.rules.specs.Entry.{categories, profileAt, layoutAs, layoutOf, readOne, leaves, over}
-use Rattle.rules.proofs.AnswerLaws.{Octets, none-some, bind-elim, need-elim}
+use Rattle.rules.specs.Entry.{categories, profileAt, layoutAs, layoutOf, readOne, leaves}
+use Rattle.rules.proofs.AnswerLaws.{Octets, none-some, some-inj, bind-elim, need-elim, if-inv, if-true, if-false}
 use Rattle.items.specs.declared.tables.LayoutRow.{LayoutRow}
 use Rattle.items.specs.declared.tables.PlaceRow.{PlaceRow}
 use Rattle.items.specs.Tables.{layoutIs, layoutAt, with, placeIs}
-use Rattle.items.specs.Read.{holds, span, partsSound, partsLegal, partValues, Shaped, headOf, stepOf, shapeOf, wholeOf, readBy, rowSound}
+use Rattle.items.specs.Read.{holds, partsLegal, partValues, Shaped, headOf, stepOf, shapeOf, wholeOf, readBy, rowSound}
 use Rattle.items.specs.Answers.{frnAs, profileIn, countOf}
 use Rattle.items.proofs.CheckLaws.{no-item}
 use Rattle.items.proofs.ReadLaws.{Fitting, fitting, reads, le-or-lt}
 use Rattle.items.proofs.StoreLaws.{sets-over, length-held}
-use Rattle.items.proofs.TableLaws.{Found, found, found-place, Missed, missed, layout-none}
+use Rattle.items.proofs.TableLaws.{Found, found, found-place, missed, layout-none}
 
 -- ---- the index of a category
 
@@ -46,6 +46,22 @@ profile-second n a e = rw (ne-eqb n 17 a, eq-eqb n 18 e)
 pub profile-none : (n : ℕ) → ¬ (n ≡ 17) → ¬ (n ≡ 18) → 2 ≡ profileIn n categories
 unfolding profileIn categories category017 category018 if_then_else_
 profile-none n a b = rw (ne-eqb n 17 a, ne-eqb n 18 b)
+
+-- the category at its index
+pub profile-category : (n : ℕ) (cs : List Category) (c : Category) → categoryOf n cs ≡ some c → (profileIn n cs < length cs) × (profileAt cs (profileIn n cs) ≡ c .profile)
+unfolding categoryOf profileIn
+profile-category n [] c e = none-some e
+profile-category n (d ∷ cs) c e =
+    ⊎-elim
+    (λ (t, u). rw (if-true {x = 0} (suc (profileIn n cs)) t refl) (omega arith, ap (λ x. x .profile) (some-inj u)))
+    (λ (t, u). let (h, k) = profile-category n cs c u in rw (if-false 0 {y = suc (profileIn n cs)} t refl) (omega arith, k))
+    (if-inv (eqb n (d .cat)) (some d) (categoryOf n cs) e)
+
+pub profile-other : (n : ℕ) (cs : List Category) → categoryOf n cs ≡ none → profileIn n cs ≡ length cs
+unfolding categoryOf profileIn
+profile-other n [] e = refl
+profile-other n (d ∷ cs) e =
+    ⊎-elim (λ (t, u). none-some (sym u)) (λ (t, u). if-false 0 t (ap suc (profile-other n cs u))) (if-inv (eqb n (d .cat)) (some d) (categoryOf n cs) e)
 
 -- the places of the category are those at its index
 profile-layout : (n ref : ℕ) (cs : List Category)

@@ -1,20 +1,18 @@
 -- What a turn of a loop over the parts of an item does.
 --
 -- In order: a sound group; one part; parts checked. Assumes nothing.
-use Prim.Native.Nat.{ℕ, zero, suc, _+_, _-_, _*_, _/_, _%_, _<_, _≤_, _^_}
+use Prim.Native.Nat.{ℕ, zero, suc, _+_, _-_, _*_, _/_, _<_, _≤_, _^_}
 use mathlib.Core.Path.{_≡_, refl, sym, ap, _∙_, subst}
 use mathlib.Core.Bool.{Bool, true, false, _&&_}
-use mathlib.Core.List.{List, [], _∷_, map}
+use mathlib.Core.List.{List}
 use native.Mathlib.Omega.{arith}
 use native.Mathlib.Nat.{not-suc-le-zero}
 use lib.Dec.{leb, ltb, eqb}
-use lib.ListN.{length, take, drop}
+use lib.ListN.{drop}
 use lib.Seq.{drop-drop}
 use lib.Pow.{shr-lt}
 use borrow.Author.Tests.{ltb-true, leb-true, eqb-true}
-use Rattle.rules.specs.Layout.{joined}
 use Rattle.rules.proofs.AnswerLaws.{both-left, both-right}
-use Rattle.items.specs.declared.tables.FieldRow.{FieldRow}
 use Rattle.items.specs.declared.tables.GroupRow.{GroupRow}
 use Rattle.items.specs.Tables.{groupAt}
 use Rattle.items.specs.Read.{rows, rowsAt, partAt, width, legal, span, partSound, partsSound, partsLegal}

@@ -2,11 +2,11 @@
 --
 -- In order: the fields of a group; the parts of an item unpacked; lists and other equal parts; parts with an FX bit; an item read, by how its
 -- parts lie. Assumes nothing.
-use Prim.Native.Nat.{ℕ, zero, suc, _+_, _-_, _*_, _/_, _%_, _<_, _≤_, _^_, zero-le}
+use Prim.Native.Nat.{ℕ, zero, suc, _+_, _-_, _*_, _%_, _<_, _≤_, _^_, zero-le}
 use mathlib.Core.Path.{_≡_, refl, sym, ap, _∙_, subst}
 use mathlib.Core.Bool.{Bool, true, false, _&&_, false≢true}
 use mathlib.Core.Logic.{⊎-elim, _⊎_, inl, inr}
-use mathlib.Core.Option.{Option, none, some}
+use mathlib.Core.Option.{some}
 use mathlib.Core.List.{List, [], _∷_, map}
 use native.Mathlib.Omega.{arith}
 use native.Mathlib.Numerals.{add-one}
@@ -25,12 +25,10 @@ use Rattle.rules.proofs.LayoutLaws.{octets-take}
 use Rattle.rules.specs.Category017.{category017}
 use Rattle.rules.specs.Category018.{category018}
 use Rattle.rules.specs.Entry.{categories}
-use Rattle.items.specs.declared.tables.FieldRow.{FieldRow}
-use Rattle.items.specs.declared.tables.GroupRow.{GroupRow}
 use Rattle.items.specs.declared.tables.LayoutRow.{LayoutRow}
 use Rattle.items.specs.Tables as t
 use Rattle.items.specs.Tables.{fields, fieldRow, groupIs, groupRows, groupAt, layoutIs, layoutBy}
-use Rattle.items.specs.Read.{rows, rowsAt, partAt, width, legal, values, count, span, holds, partSound, partsSound, partsLegal, partValues, Shaped, chain, headOf, stepOf, listShape, shapeBy, shapeOf, readKind, readBy, isOctet, rowSound}
+use Rattle.items.specs.Read.{rows, rowsAt, partAt, width, legal, values, span, holds, partSound, partsSound, partsLegal, partValues, Shaped, chain, headOf, stepOf, listShape, shapeBy, shapeOf, readKind, readBy, isOctet, rowSound}
 use Rattle.items.proofs.FieldCodes.{Wide, width-bits, unpack-is}
 use Rattle.items.proofs.OctetLaws.{joined-lt}
 use Rattle.items.proofs.PartLaws.{PartSound, part-sound}
@@ -482,9 +480,6 @@ module _ (lo hi a e : ℕ) (bs : List ℕ) (o : Octets bs) where
     where
       l : Layout
       l = extended (slice a e allGroups)
-
-      n-is : e - a ≡ hi
-      n-is = omega arith
 
       parts-are : readParts l bs ≡ (chain a (e - a) bs >>= chainParts a bs)
       parts-are = chain-is (e - a) a e bs (omega arith) k

@@ -1,7 +1,7 @@
 -- The rules of fields as the check asks them are the rules' own: a number obeys the rules of a group where its fields are legal.
 --
 -- In order: the tables; a turn of the loop over rules; one field; the fields of a group; the groups of the tables. Assumes nothing.
-use Prim.Native.Nat.{ℕ, zero, suc, _+_, _-_, _*_, _/_, _%_, _<_, _≤_, _^_, zero-le}
+use Prim.Native.Nat.{ℕ, zero, suc, _+_, _-_, _*_, _/_, _%_, _<_, _≤_, _^_}
 use mathlib.Core.Path.{_≡_, refl, sym, ap, _∙_, subst}
 use mathlib.Core.Bool.{Bool, true, false, cond, _&&_, false≢true}
 use mathlib.Core.List.{List, [], _∷_, map}
@@ -14,18 +14,17 @@ use lib.IntN.{pos, negsuc}
 use lib.ListN.{length, getD, take, drop, List·getD-map, drop-of-length-le, length-drop}
 use lib.Seq.{slice, slice-cons, length-take-le}
 use lib.Pow.{pow-pos, pow-mono, shr-le, field, mod-mod-pow}
-use borrow.Author.Tests.{le-leb, lt-leb, lt-ltb, le-ltb, leb-true, ltb-true, ltb-false, eqb-true}
+use borrow.Author.Tests.{le-leb, lt-leb, lt-ltb, le-ltb, leb-true, ltb-true, eqb-true}
 use Rattle.rules.specs.Field.{Field, spare, value, unsigned, signed, bits, half}
 use Rattle.rules.specs.Category017.{category017}
 use Rattle.rules.specs.Category018.{category018}
 use Rattle.rules.specs.Entry.{categories}
 use Rattle.rules.specs.Layout.{joined}
 use Rattle.rules.proofs.AnswerLaws.{Octets, both-left, both-right}
-use Rattle.items.specs.declared.tables.GroupRow.{GroupRow}
 use Rattle.items.specs.Tables.{fields, groups, layouts, fieldRow, minus, isFree, groupRows, groupAt}
 use Rattle.items.specs.Read.{rowsAt, partAt, valueOf, within, width, legal, partSound}
-use Rattle.items.specs.FieldRules.{Rule, ruleOf, rulesOf, obeys, allObeyed, rules, firstRules, firstRule, ruleAt, ruleWords, addedTo, limits, sizes}
-use Rattle.items.proofs.FieldCodes.{and-true, and-false, and-last, width-bits, low-minus, low-neg, spare-is, twice, value-plain, value-low, value-high}
+use Rattle.items.specs.FieldRules.{Rule, ruleOf, rulesOf, obeys, allObeyed, rules, firstRule, ruleAt, ruleWords, addedTo, limits, sizes}
+use Rattle.items.proofs.FieldCodes.{and-true, and-false, and-last, width-bits, low-minus, low-neg, spare-is, twice, value-low, value-high}
 use Rattle.items.proofs.ReadLaws.{fieldsAt, rows-map, part-small, octets-drop, le-or-lt, same-leb}
 use Rattle.items.proofs.PartLaws.{part-sound}
 use Rattle.items.proofs.CheckLaws.{free-unsigned, free-signed}

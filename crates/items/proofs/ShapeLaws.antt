@@ -1,10 +1,10 @@
 -- Shapes of items: parts that follow each other as far as the FX bits say; and what the shape says of the parts.
 --
 -- In order: the FX bit; a turn of the loop over the parts; sound rows; the shape by how the parts lie. Assumes nothing.
-use Prim.Native.Nat.{ℕ, zero, suc, _+_, _-_, _*_, _/_, _%_, _<_, _≤_, _^_}
-use mathlib.Core.Path.{_≡_, refl, sym, ap, ap₂, _∙_, subst}
-use mathlib.Core.Bool.{Bool, true, false, _&&_}
-use mathlib.Core.List.{List, [], _∷_, map}
+use Prim.Native.Nat.{ℕ, zero, suc, _+_, _-_, _*_, _%_, _<_, _≤_}
+use mathlib.Core.Path.{_≡_, refl, sym, ap, _∙_, subst}
+use mathlib.Core.Bool.{true, false, _&&_}
+use mathlib.Core.List.{List, []}
 use native.Mathlib.Omega.{arith}
 use native.Mathlib.Nat.{not-suc-le-zero, add-zero}
 use lib.Dec.{leb, ltb, eqb, lit≤}
@@ -14,7 +14,6 @@ use borrow.Author.Tests.{le-leb, lt-leb, le-ltb, lt-ltb, leb-true, eqb-true}
 use Rattle.rules.specs.Answer.{Answer, ok, refused, _>>=_, need_or_then_, if_then_else_}
 use Rattle.rules.specs.Layout.{joined}
 use Rattle.rules.proofs.AnswerLaws.{both-left, both-right}
-use Rattle.items.specs.declared.tables.GroupRow.{GroupRow}
 use Rattle.items.specs.declared.tables.LayoutRow.{LayoutRow}
 use Rattle.items.specs.Tables.{fields, groupAt}
 use Rattle.items.specs.Read.{holds, partsSound, Shaped, chain, stepOf, listShape, shapeBy, shapeOf, isOctet, rowSoundBy, rowSound}

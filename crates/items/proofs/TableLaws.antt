@@ -3,7 +3,7 @@
 --
 -- In order: places; groups; fields. Assumes nothing.
 use Prim.Native.Nat.{ℕ, zero, suc, _+_, _-_, _*_, _/_, _%_, _≤_, _<_}
-use mathlib.Core.Path.{_≡_, refl, sym, ap, _∙_, subst}
+use mathlib.Core.Path.{_≡_, refl, sym, ap, _∙_}
 use mathlib.Core.Bool.{Bool, true, false, _&&_, not, false≢true}
 use mathlib.Core.Logic.{⊎-elim}
 use mathlib.Core.Option.{Option, none, some}
@@ -12,11 +12,11 @@ use native.Mathlib.Omega.{arith}
 use native.Mathlib.Nat.{le-of-suc-le-suc, not-suc-le-zero, le-trans}
 use lib.Dec.{leb, ltb, eqb, lit≤}
 use lib.IntN.{pos}
-use lib.ListN.{length, getD, drop, replicate, drop-of-length-le, List·getD-map, List·getD-append, List·getD-eq-default, getD-replicate}
+use lib.ListN.{length, getD, drop, replicate, drop-of-length-le, List·getD-map, List·getD-append, List·getD-eq-default}
 use lib.Seq.{slice, getD-append-add}
-use borrow.Author.Tests.{ltb-true, leb-true, eqb-true, ne-eqb}
+use borrow.Author.Tests.{ltb-true, leb-true, ne-eqb}
 use Rattle.rules.specs.Answer.{if_then_else_}
-use Rattle.rules.specs.Layout.{Group, Layout, concat}
+use Rattle.rules.specs.Layout.{Layout, concat}
 use Rattle.rules.proofs.AnswerLaws.{both-left, both-right, if-inv, if-true, if-false, some-inj, none-some}
 use Rattle.rules.specs.Presence.{present, placeAt}
 use Rattle.rules.specs.Record.{Place, Category, places}
@@ -27,7 +27,7 @@ use Rattle.items.specs.declared.tables.GroupRow.{GroupRow}
 use Rattle.items.specs.declared.tables.LayoutRow.{LayoutRow}
 use Rattle.items.specs.declared.tables.PlaceRow.{PlaceRow}
 use Rattle.items.specs.declared.tables.FieldRow.{FieldRow}
-use Rattle.items.specs.Tables.{fields, fieldRow, fieldAt, ranges, least, greatest, fieldWord, fieldWords, groupWord, groupWords, layoutWord, layoutWords, layoutsIn, referencesIn, isFree, groups, layouts, groupIs, groupRows, groupAt, layoutRows, layoutBy, layoutIs, layoutAt, nowhere, profileRows, placeRowAt, with, placeIs}
+use Rattle.items.specs.Tables.{fields, fieldRow, fieldAt, ranges, least, greatest, fieldWord, fieldWords, groupWord, groupWords, layoutWord, layoutWords, layoutsIn, referencesIn, isFree, groups, layouts, groupRows, groupAt, layoutRows, layoutBy, layoutIs, layoutAt, nowhere, profileRows, placeRowAt, with, placeIs}
 use Rattle.items.specs.Answers.{isNamed, frnAs}
 use Rattle.items.specs.Read.{rows, isSpare, holds, partsSound, rowSound}
 
@@ -249,6 +249,14 @@ present-layout (suc j) h = layout-some j (le-of-suc-le-suc h) ∙ ap not (sym (n
 pub place-present : (r : PlaceRow) → r .0 < 51 → present (placeIs r) ≡ not (eqb (r .0) 0)
 unfolding placeIs
 place-present r h = present-with (r .1) (layoutIs (layoutAt (r .0))) ∙ present-layout (r .0) h
+
+-- of an FRN of a profile
+pub usable-at : (p f : ℕ) {j : ℕ} → p < 2 → f < 36 → j ≡ placeRowAt (p * 36 + f) .0 → not (eqb j 0) ≡ present (placeAt (profileAt categories p) f)
+usable-at p f h k e =
+    rw e (sym (place-present (placeRowAt (p * 36 + f)) (place-row (p * 36 + f))) ∙ ap present (place-is p f h k))
+
+pub not-usable : (p f : ℕ) → placeIs nowhere ≡ placeAt (profileAt categories p) f → false ≡ present (placeAt (profileAt categories p) f)
+not-usable p f e = rw (← e, place-none)
 
 named-with : (ref n : ℕ) (x : Option Layout) → isNamed ref (with n x) ≡ (present x && eqb ref n)
 named-with ref n none = refl

@@ -1,21 +1,19 @@
 -- What a turn of a loop over the fields of a part does.
 --
--- In order: the row of a field; a field cut off; the fields checked. Assumes nothing.
-use Prim.Native.Nat.{ℕ, zero, suc, _+_, _-_, _*_, _/_, _%_, _<_, _≤_, _^_}
-use mathlib.Core.Path.{_≡_, refl, sym, ap, _∙_, subst}
-use mathlib.Core.Bool.{Bool, true, false, _&&_}
+-- In order: the row of a field; a field cut off. Assumes nothing.
+use Prim.Native.Nat.{ℕ, _+_, _-_, _/_, _%_, _<_, _≤_, _^_}
+use mathlib.Core.Path.{_≡_, sym, ap, _∙_, subst}
 use mathlib.Core.List.{List, [], _∷_, map}
 use native.Mathlib.Omega.{arith}
 use native.Mathlib.Nat.{mod-lt}
 use native.Mathlib.Numerals.{add-one}
-use lib.IntN.{ℤ, pos}
-use lib.ListN.{length, take, drop, drop-of-length-le, length-map}
+use lib.IntN.{pos}
+use lib.ListN.{take, drop-of-length-le}
 use lib.Seq.{slice-cons, length-take-le}
 use lib.Pow.{pow-pos, shr-lt}
 use Rattle.items.specs.declared.tables.FieldRow.{FieldRow}
 use Rattle.items.specs.Tables.{fields, fieldRow, fieldAt}
-use Rattle.items.specs.Read.{rows, valueOf, within, width, legal, shown, takes, values, count}
-use Rattle.items.proofs.FieldCodes.{and-true}
+use Rattle.items.specs.Read.{rows, valueOf, width, shown, takes, values, count}
 use Rattle.items.proofs.TableLaws.{field-few, field-wide, fields-long}
 
 -- ---- the row of a field
@@ -40,7 +38,6 @@ pub record Cut (i e rest left : ℕ) (f : FieldRow) : Type 0 where
   pub code : rest / 2 ^ (left - f .0) < 2 ^ f .0
   pub low : rest % 2 ^ (left - f .0) < 2 ^ (left - f .0)
   pub pow : 0 < 2 ^ (left - f .0)
-  pub ok : legal (rows i e) rest ≡ (within f (valueOf f (rest / 2 ^ (left - f .0))) && legal (rows (i + 1) e) (rest % 2 ^ (left - f .0)))
   pub vals : values (rows i e) rest ≡ shown f (valueOf f (rest / 2 ^ (left - f .0))) (values (rows (i + 1) e) (rest % 2 ^ (left - f .0)))
   pub counts : count (rows i e) ≡ takes f + count (rows (i + 1) e)
 
@@ -62,25 +59,6 @@ cut i e rest left f ef h k el few small =
       code = shr-lt (f .0) (left - f .0) (subst (λ (x : ℕ). rest < 2 ^ x) s small);
       low = mod-lt rest (pow-pos (left - f .0));
       pow = pow-pos (left - f .0);
-      ok = ap (λ (l : List FieldRow). legal l rest) r ∙ ap (λ (x : ℕ). within f (valueOf f (rest / 2 ^ x)) && legal fs (rest % 2 ^ x)) (sym n);
       vals = ap (λ (l : List FieldRow). values l rest) r ∙ ap (λ (x : ℕ). shown f (valueOf f (rest / 2 ^ x)) (values fs (rest % 2 ^ x))) (sym n);
       counts = ap count r;
-    }
-
--- ---- the fields checked: what is left to check says what all says
-
-pub record Checking (a e n i rest left : ℕ) : Type 0 where
-  pub left-is : left ≡ width (rows i e)
-  pub few : left ≤ 64
-  pub small : rest < 2 ^ left
-  pub same : legal (rows i e) rest ≡ legal (rows a e) n
-
-pub checked : (a e n i rest left p : ℕ) (f : FieldRow) {t : Bool} → Checking a e n i rest left → Cut i e rest left f → p ≡ 2 ^ (left - f .0)
-    → t ≡ within f (valueOf f (rest / 2 ^ (left - f .0))) → t ≡ true → Checking a e n (i + 1) (rest % p) (left - f .0)
-checked a e n i rest left p f s k ep et e₁ =
-    record {
-      left-is = k .next;
-      few = omega (arith, k .less);
-      small = subst (λ (x : ℕ). rest % x < 2 ^ (left - f .0)) (sym ep) (k .low);
-      same = ap (λ (x : ℕ). legal (rows (i + 1) e) (rest % x)) ep ∙ sym (k .ok ∙ and-true _ (sym et ∙ e₁)) ∙ s .same;
     }

@@ -1,11 +1,11 @@
 -- What each function of this crate answers, in the words of the rules. Assumes nothing.
 use Prim.Native.Nat.{ℕ, suc, _+_, _-_}
-use mathlib.Core.Bool.{Bool, true, false}
+use mathlib.Core.Bool.{Bool, false}
 use mathlib.Core.Option.{Option, none, some}
 use mathlib.Core.List.{List, [], _∷_}
 use lib.Dec.{eqb}
 use lib.ListN.{length}
-use Rattle.rules.specs.Answer.{Answer, ok, refused, _>>=_, if_then_else_, expect_or_}
+use Rattle.rules.specs.Answer.{Answer, ok, refused, if_then_else_, expect_or_, _>>=_}
 use Rattle.rules.specs.Layout.{Layout, readItem}
 use Rattle.rules.specs.Presence.{placeAt}
 use Rattle.rules.specs.Record.{Place, Category}

@@ -1,17 +1,15 @@
 -- The fields that have a rule, spare or with a range, as the check of an item asks them: the field's code, moved so that what is legal
 -- starts at 0, is at most a limit. A field without a rule is free and is not asked. Assumes nothing.
-use Prim.Native.Nat.{ℕ, zero, suc, _+_, _-_, _*_, _/_, _%_, _^_}
-use mathlib.Core.Bool.{Bool, true, false, cond, _&&_}
-use mathlib.Core.List.{List, [], _∷_, _++_, map}
+use Prim.Native.Nat.{ℕ, _+_, _-_, _*_, _/_, _%_, _^_}
+use mathlib.Core.Bool.{Bool, true, cond, _&&_}
+use mathlib.Core.List.{List, [], _∷_, map}
 use lib.Dec.{leb, eqb}
 use lib.ListN.{length, getD}
-use lib.Seq.{slice}
 use Rattle.rules.specs.Answer.{Answer, ok, need_or_then_}
 use Rattle.rules.specs.Field.{Field, spare, value, unsigned, signed, bits}
 use Rattle.rules.specs.Layout.{Group, concat}
 use Rattle.rules.specs.Entry.{categories}
 use Rattle.items.specs.declared.tables.LayoutRow.{LayoutRow}
-use Rattle.items.specs.declared.tables.PlaceRow.{PlaceRow}
 use Rattle.items.specs.Tables.{groups, groupRows, groupAt, layoutAt, profileRows, isFree}
 use Rattle.items.specs.Read.{legal, rowsAt, partAt}
 

@@ -8,7 +8,7 @@ use lib.Dec.{eqb}
 use lib.IntN.{ℤ, pos, negsuc}
 use lib.ListN.{length, getD, replicate}
 use lib.Seq.{slice}
-use Rattle.rules.specs.Field.{Field, Kind, spare, value, unsigned, signed, any, half, arity}
+use Rattle.rules.specs.Field.{Field, spare, value, unsigned, signed, any, half, arity}
 use Rattle.rules.specs.Layout.{Group, Layout, fixed, repeated, led, extended, group, concat}
 use Rattle.rules.specs.Record.{Place, Category, places, at}
 use Rattle.rules.specs.Entry.{categories, over}

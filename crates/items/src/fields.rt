@@ -8,7 +8,7 @@ ghost use Prim.Native.Nat.{_+_, _≤_, _<_, _^_};
 ghost use mathlib.Core.List.{[]};
 ghost use lib.Seq.{sets};
 ghost use lib.IntN.{pos, negsuc};
-ghost use Rattle.items.specs.Read.{rows, valueOf, within, width, legal, shown, takes, values, count};
+ghost use Rattle.items.specs.Read.{rows, valueOf, width, shown, takes, values, count};
 
 // The power of two.
 pub fn pow2(k: u64) -> u64
@@ -77,7 +77,8 @@ pub fn fields_store(n: u64, w: u64, a: usize, e: usize, out: &mut [i64; 8192], a
     while i < e {
         let f = field_at(i);
         left = left - f.0;
-        k = put(f, value_of(f, rest >> left), out, k);
+        let v = value_of(f, rest >> left);
+        k = put(f, v, out, k);
         rest = rest % pow2(left);
         i = i + 1;
     }

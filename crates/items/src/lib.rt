@@ -20,9 +20,8 @@ use tables::place_at;
 pub use write::ItemWritten;
 pub use write::write_item;
 ghost use mathlib.Core.Path.{_≡_};
-ghost use mathlib.Core.List.{List};
 ghost use mathlib.Core.Bool.{true};
-ghost use Prim.Native.Nat.{_<_, _≤_, _+_};
+ghost use Prim.Native.Nat.{_<_, _+_};
 ghost use Rattle.rules.specs.Layout.{concat};
 ghost use Rattle.rules.specs.Presence.{present, placeAt};
 ghost use Rattle.rules.specs.Answer.{expect_or_};
@@ -50,8 +49,12 @@ fn place_of(profile: usize, frn: usize) -> PlaceRow
 pub fn is_usable(profile: usize, frn: usize) -> bool
     ensures { λ r. ⌜ r ≡ present (placeAt (profileAt categories profile) frn) ⌝ }
 {
-    let p = place_of(profile, frn);
-    p.0 != 0
+    if profile < PROFILES {
+        if frn < FRNS {
+            return layout_row(profile * FRNS + frn) != 0;
+        }
+    }
+    false
 }
 
 // Whether the item of a profile at an FRN has a reference.

@@ -6,7 +6,6 @@ use super::field_rules::size_at;
 use super::fields::fields_store;
 use super::tables::EXTENDED;
 use super::tables::FIXED;
-use super::tables::GroupRow;
 use super::tables::LED;
 use super::tables::LayoutRow;
 use super::tables::NONE;

@@ -44,7 +44,7 @@ pub const PROFILES: usize = 2;
 
 pub const FRNS: usize = 36;
 
-// ---- the tables: a row is one number, its columns set apart by `_`
+// ---- the tables: a row is one number, its columns set apart by `_`. (A constant is written out where it is read, so a row is small.)
 
 // Fields: bits _ what it holds _ the place of its range.
 const FIELDS: [u16; 113] = [

@@ -13,13 +13,6 @@ use Rattle.items.proofs.TableLaws.{layout-sound, place-row}
 use borrow.Author.Needs.{needs}
 use Rattle.items.proofs.check_at.Statement.{statement}
 use Rattle.items.proofs.check_at.Tie as tie
-use Rattle.items.proofs.check_at.Reads as reads
-use Rattle.items.proofs.check_at.Lts as lts
-use Rattle.items.proofs.check_single.Reads as check-single-reads
-use Rattle.items.proofs.field_rules.single_at.Reads as single-at-reads
-use Rattle.items.proofs.parts.whole_of.Reads as whole-of-reads
-use Rattle.items.proofs.tables.layout_at.Reads as layout-at-reads
-use Rattle.items.proofs.tables.layout_row.Reads as layout-row-reads
 
 -- the octets of the item
 octets-at : (c : tie.After-shared-slice-known) → Octets (c .before .args .part .now)

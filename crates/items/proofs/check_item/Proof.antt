@@ -1,15 +1,11 @@
 -- `items::check_item` meets its contract: the row of the place says what the profile has there. Assumes nothing.
 use mathlib.Core.Path.{_∙_}
 use native.Mathlib.Omega.{arith}
-use Rattle.rules.proofs.AnswerLaws.{Octets}
 use Rattle.items.proofs.CheckLaws.{octets-known, check-place, no-place}
 use Rattle.items.proofs.TableLaws.{none-past, none-other}
 use borrow.Author.Needs.{needs}
 use Rattle.items.proofs.check_item.Statement.{statement}
 use Rattle.items.proofs.check_item.Tie as tie
-use Rattle.items.proofs.check_item.Reads as reads
-use Rattle.items.proofs.check_item.Lts as lts
-use Rattle.items.proofs.check_at.Reads as check-at-reads
 
 mul-check-at : tie.Need-mul-check-at
 mul-check-at c = search needs

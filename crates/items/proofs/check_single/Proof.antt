@@ -1,17 +1,8 @@
 -- `items::check_single` meets its contract. Assumes nothing.
-use Prim.Native.Nat.{_+_, _≤_}
-use mathlib.Core.Path.{_≡_, sym, subst}
-use lib.Dec.{lit≤}
-use lib.ListN.{length}
-use native.Mathlib.Omega.{arith}
 use Rattle.items.proofs.CheckLaws.{single-cut, single-legal, single-barred}
 use borrow.Author.Needs.{needs}
 use Rattle.items.proofs.check_single.Statement.{statement}
 use Rattle.items.proofs.check_single.Tie as tie
-use Rattle.items.proofs.check_single.Reads as reads
-use Rattle.items.proofs.check_single.Lts as lts
-use Rattle.items.proofs.field_rules.size_at.Reads as size-at-reads
-use Rattle.items.proofs.parts.part_legal.Reads as part-legal-reads
 
 size-at-requires : tie.Need-size-at-requires
 size-at-requires c κs = search needs

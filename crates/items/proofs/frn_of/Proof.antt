@@ -6,9 +6,6 @@ use borrow.Author.Needs.{needs}
 use Rattle.items.proofs.TableLaws.{Seeking, seek-first, seek-found, seek-next, seek-end}
 use Rattle.items.proofs.frn_of.Statement.{statement}
 use Rattle.items.proofs.frn_of.Tie as tie
-use Rattle.items.proofs.frn_of.Reads as reads
-use Rattle.items.proofs.frn_of.Lts as lts
-use Rattle.items.proofs.is_named.Reads as is-named-reads
 
 abbrev Inv-loop : tie.InvT-loop
 Inv-loop profile reference frn₀ frn = Seeking reference profile frn

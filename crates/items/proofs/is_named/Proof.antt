@@ -1,16 +1,11 @@
 -- `items::is_named` meets its contract. Assumes nothing.
-use mathlib.Core.Path.{_≡_, ap, _∙_, sym}
-use mathlib.Core.Bool.{not, _&&_}
-use lib.Dec.{eqb}
+use mathlib.Core.Path.{ap, _∙_, sym}
 use borrow.Author.Tests.{eq-eqb, ne-eqb}
 use Rattle.items.specs.Answers.{isNamed}
 use Rattle.items.proofs.TableLaws.{place-named}
 use borrow.Author.Needs.{needs}
 use Rattle.items.proofs.is_named.Statement.{statement}
 use Rattle.items.proofs.is_named.Tie as tie
-use Rattle.items.proofs.is_named.Reads as reads
-use Rattle.items.proofs.is_named.Lts as lts
-use Rattle.items.proofs.place_of.Reads as place-of-reads
 
 place-of-requires : tie.Need-place-of-requires
 place-of-requires c κs = search needs

@@ -1,19 +1,31 @@
--- `items::is_usable` meets its contract. Assumes nothing.
-use mathlib.Core.Path.{ap, _∙_, sym}
-use Rattle.rules.specs.Presence.{present}
-use Rattle.items.proofs.TableLaws.{place-present}
+-- `items::is_usable` meets its contract: a place has an item where its layout is not that of no item. Assumes nothing.
+use Rattle.items.proofs.TableLaws.{usable-at, not-usable, none-past, none-other}
 use borrow.Author.Needs.{needs}
 use Rattle.items.proofs.is_usable.Statement.{statement}
 use Rattle.items.proofs.is_usable.Tie as tie
 use Rattle.items.proofs.is_usable.Reads as reads
 use Rattle.items.proofs.is_usable.Lts as lts
-use Rattle.items.proofs.place_of.Reads as place-of-reads
+use Rattle.items.proofs.tables.layout_row.Reads as layout-row-reads
 
-place-of-requires : tie.Need-place-of-requires
-place-of-requires c κs = search needs
+mul-layout-row : tie.Need-mul-layout-row
+mul-layout-row c = search needs
+
+add-layout-row : tie.Need-add-layout-row
+add-layout-row c = search needs
+
+layout-row-requires : tie.Need-layout-row-requires
+layout-row-requires c κs = search needs
 
 returns : tie.Need-returns
-returns c = sym (place-present (c .before .place-of .result) (c .before .place-of .ensures .1)) ∙ ap present (c .before .place-of .ensures .0)
+returns c = usable-at (c .before .before .before .args .profile) (c .before .before .before .args .frn) (c .before .before .if1 .taken) (c .before .if2 .taken) (c .layout-row .ensures)
+
+returns-2 : tie.Need-returns-2
+returns-2 c = not-usable (c .before .before .args .profile) (c .before .before .args .frn) (none-past (c .before .before .args .profile) (c .before .before .args .frn) (c .if2 .left))
+
+returns-3 : tie.Need-returns-3
+returns-3 c = not-usable (c .before .args .profile) (c .before .args .frn) (none-other (c .before .args .profile) (c .before .args .frn) (c .if1 .left))
 
 pub is-usable-spec : {M : Type 1} → statement M
-is-usable-spec = tie.close (tie.spec place-of-requires returns)
+is-usable-spec =
+    tie.close
+    (tie.spec mul-layout-row add-layout-row layout-row-requires returns returns-2 returns-3)

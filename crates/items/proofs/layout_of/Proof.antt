@@ -1,16 +1,11 @@
 -- `items::layout_of` meets its contract: the search finds what the rules find. Assumes nothing.
-use mathlib.Core.Path.{_≡_, sym, ap, _∙_}
+use mathlib.Core.Path.{sym, ap, _∙_}
 use lib.Dec.{lit<}
 use Rattle.items.specs.Answers.{frnOf}
 use Rattle.items.proofs.OneLaws.{layout-found, layout-missed}
 use borrow.Author.Needs.{needs}
 use Rattle.items.proofs.layout_of.Statement.{statement}
 use Rattle.items.proofs.layout_of.Tie as tie
-use Rattle.items.proofs.layout_of.Reads as reads
-use Rattle.items.proofs.layout_of.Lts as lts
-use Rattle.items.proofs.frn_of.Reads as frn-of-reads
-use Rattle.items.proofs.place_of.Reads as place-of-reads
-use Rattle.items.proofs.profile_of.Reads as profile-of-reads
 
 profile-of-requires : tie.Need-profile-of-requires
 profile-of-requires c κs = search needs

@@ -1,15 +1,12 @@
 -- `items::place_of` meets its contract: the row of the table stands for what the profile has there. Assumes nothing.
 use Prim.Native.Nat.{_<_, _*_, _+_}
-use mathlib.Core.Path.{_≡_, ap, _∙_, sym, subst}
+use mathlib.Core.Path.{ap, _∙_, sym, subst}
 use lib.Dec.{lit<}
 use Rattle.items.specs.Tables.{placeIs}
-use Rattle.items.proofs.TableLaws.{place-is, place-row, place-none, none-past, none-other}
+use Rattle.items.proofs.TableLaws.{place-is, place-row, none-past, none-other}
 use borrow.Author.Needs.{needs}
 use Rattle.items.proofs.place_of.Statement.{statement}
 use Rattle.items.proofs.place_of.Tie as tie
-use Rattle.items.proofs.place_of.Reads as reads
-use Rattle.items.proofs.place_of.Lts as lts
-use Rattle.items.proofs.tables.place_at.Reads as place-at-reads
 
 mul-place-at : tie.Need-mul-place-at
 mul-place-at c = search needs

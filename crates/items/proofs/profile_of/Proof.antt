@@ -2,8 +2,6 @@
 use Rattle.items.proofs.OneLaws.{profile-first, profile-second, profile-none}
 use Rattle.items.proofs.profile_of.Statement.{statement}
 use Rattle.items.proofs.profile_of.Tie as tie
-use Rattle.items.proofs.profile_of.Reads as reads
-use Rattle.items.proofs.profile_of.Lts as lts
 
 returns : tie.Need-returns
 returns c = profile-first _ (c .if1 .taken)

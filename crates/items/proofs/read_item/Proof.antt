@@ -3,23 +3,15 @@ use mathlib.Core.Path.{_≡_, sym, ap, _∙_, subst}
 use mathlib.Core.Bool.{true}
 use native.Mathlib.Omega.{arith}
 use denote.Ref.{now}
-use lib.IntN.{ℤ}
-use mathlib.Core.List.{List}
 use Rattle.rules.proofs.AnswerLaws.{Octets}
 use Rattle.items.specs.declared.tables.LayoutRow.{LayoutRow}
 use Rattle.items.specs.Read.{shapeIs, rowSound}
 use Rattle.items.proofs.CheckLaws.{octets-known}
-use Rattle.items.proofs.OneLaws.{Answered, one-refused, one-longer, one-fits, one-whole}
+use Rattle.items.proofs.OneLaws.{one-refused, one-longer, one-fits, one-whole}
 use Rattle.items.proofs.TableLaws.{layout-sound}
 use borrow.Author.Needs.{needs}
 use Rattle.items.proofs.read_item.Statement.{statement}
 use Rattle.items.proofs.read_item.Tie as tie
-use Rattle.items.proofs.read_item.Reads as reads
-use Rattle.items.proofs.read_item.Lts as lts
-use Rattle.items.proofs.layout_of.Reads as layout-of-reads
-use Rattle.items.proofs.parts.item_store.Reads as item-store-reads
-use Rattle.items.proofs.parts.whole_of.Reads as whole-of-reads
-use Rattle.items.proofs.tables.layout_at.Reads as layout-at-reads
 
 -- the octets of the item
 octets-at : (c : tie.After-shared-slice-known) → Octets (c .before .args .item .now)

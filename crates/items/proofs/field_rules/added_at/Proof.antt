@@ -8,8 +8,6 @@ use Rattle.items.specs.Tables.{groups, layouts}
 use borrow.Author.Needs.{needs}
 use Rattle.items.proofs.field_rules.added_at.Statement.{statement}
 use Rattle.items.proofs.field_rules.added_at.Tie as tie
-use Rattle.items.proofs.field_rules.added_at.Reads as reads
-use Rattle.items.proofs.field_rules.added_at.Lts as lts
 
 mul-result : tie.Need-mul-result
 mul-result c = search needs

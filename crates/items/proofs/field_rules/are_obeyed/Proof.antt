@@ -6,9 +6,6 @@ use borrow.Author.Tests.{not-true, not-false}
 use Rattle.items.proofs.RuleLaws.{Asking, asked-bad, asked-good, asked-none}
 use Rattle.items.proofs.field_rules.are_obeyed.Statement.{statement}
 use Rattle.items.proofs.field_rules.are_obeyed.Tie as tie
-use Rattle.items.proofs.field_rules.are_obeyed.Reads as reads
-use Rattle.items.proofs.field_rules.are_obeyed.Lts as lts
-use Rattle.items.proofs.field_rules.is_obeyed.Reads as is-obeyed-reads
 
 abbrev Inv-loop : tie.InvT-loop
 Inv-loop n a e i₀ i = Asking a e n i

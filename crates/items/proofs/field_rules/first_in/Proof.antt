@@ -8,8 +8,6 @@ use Rattle.items.specs.Tables.{groups, layouts}
 use borrow.Author.Needs.{needs}
 use Rattle.items.proofs.field_rules.first_in.Statement.{statement}
 use Rattle.items.proofs.field_rules.first_in.Tie as tie
-use Rattle.items.proofs.field_rules.first_in.Reads as reads
-use Rattle.items.proofs.field_rules.first_in.Lts as lts
 
 array-read-result : tie.Need-array-read-result
 array-read-result c = search needs

@@ -1,12 +1,8 @@
 -- `items::field_rules::is_free` meets its contract. Assumes nothing.
-use mathlib.Core.Path.{_∙_}
 use Rattle.items.proofs.RuleLaws.{group-said}
 use borrow.Author.Needs.{needs}
 use Rattle.items.proofs.field_rules.is_free.Statement.{statement}
 use Rattle.items.proofs.field_rules.is_free.Tie as tie
-use Rattle.items.proofs.field_rules.is_free.Reads as reads
-use Rattle.items.proofs.field_rules.is_free.Lts as lts
-use Rattle.items.proofs.field_rules.first_rule.Reads as first-rule-reads
 
 add-first-rule : tie.Need-add-first-rule
 add-first-rule c = search needs

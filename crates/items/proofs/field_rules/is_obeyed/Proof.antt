@@ -4,12 +4,6 @@ use Rattle.items.proofs.RuleLaws.{sum-fits, shift-fits, width-fits, obe
 use borrow.Author.Needs.{needs}
 use Rattle.items.proofs.field_rules.is_obeyed.Statement.{statement}
 use Rattle.items.proofs.field_rules.is_obeyed.Tie as tie
-use Rattle.items.proofs.field_rules.is_obeyed.Reads as reads
-use Rattle.items.proofs.field_rules.is_obeyed.Lts as lts
-use Rattle.items.proofs.field_rules.added_at.Reads as added-at-reads
-use Rattle.items.proofs.field_rules.limit_at.Reads as limit-at-reads
-use Rattle.items.proofs.field_rules.rule_word.Reads as rule-word-reads
-use Rattle.items.proofs.fields.pow2.Reads as pow2-reads
 
 rule-word-requires : tie.Need-rule-word-requires
 rule-word-requires c κs = search needs

@@ -8,8 +8,6 @@ use Rattle.items.specs.Tables.{groups, layouts}
 use borrow.Author.Needs.{needs}
 use Rattle.items.proofs.field_rules.rule_word.Statement.{statement}
 use Rattle.items.proofs.field_rules.rule_word.Tie as tie
-use Rattle.items.proofs.field_rules.rule_word.Reads as reads
-use Rattle.items.proofs.field_rules.rule_word.Lts as lts
 
 mul-result : tie.Need-mul-result
 mul-result c = search needs

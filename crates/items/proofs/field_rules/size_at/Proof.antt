@@ -4,9 +4,6 @@ use Rattle.items.proofs.RuleLaws.{size-of}
 use borrow.Author.Needs.{needs}
 use Rattle.items.proofs.field_rules.size_at.Statement.{statement}
 use Rattle.items.proofs.field_rules.size_at.Tie as tie
-use Rattle.items.proofs.field_rules.size_at.Reads as reads
-use Rattle.items.proofs.field_rules.size_at.Lts as lts
-use Rattle.items.proofs.field_rules.size_in.Reads as size-in-reads
 
 size-in-requires : tie.Need-size-in-requires
 size-in-requires c κs = search needs

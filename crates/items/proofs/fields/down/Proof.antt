@@ -3,8 +3,6 @@ use Rattle.items.proofs.FieldCodes.{down-fits, down-back}
 use borrow.Author.Needs.{needs}
 use Rattle.items.proofs.fields.down.Statement.{statement}
 use Rattle.items.proofs.fields.down.Tie as tie
-use Rattle.items.proofs.fields.down.Reads as reads
-use Rattle.items.proofs.fields.down.Lts as lts
 
 cast-result : tie.Need-cast-result
 cast-result c = search needs

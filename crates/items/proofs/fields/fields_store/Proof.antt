@@ -1,6 +1,6 @@
 -- `items::fields::fields_store` meets its contract: what is left to store makes of the output what all makes. Assumes nothing.
 use Prim.Native.Nat.{_-_}
-use mathlib.Core.Path.{_≡_, refl, _∙_}
+use mathlib.Core.Path.{refl, _∙_}
 use native.Mathlib.Omega.{arith}
 use mir.Syntax.{w64}
 use mir.ValLaws.{toZ-ofZ}
@@ -8,12 +8,6 @@ use Rattle.items.proofs.StoreLaws.{Storing, stored, stored-all}
 use Rattle.items.proofs.Turns.{Cut, cut}
 use Rattle.items.proofs.fields.fields_store.Statement.{statement}
 use Rattle.items.proofs.fields.fields_store.Tie as tie
-use Rattle.items.proofs.fields.fields_store.Reads as reads
-use Rattle.items.proofs.fields.fields_store.Lts as lts
-use Rattle.items.proofs.fields.pow2.Reads as pow2-reads
-use Rattle.items.proofs.fields.put.Reads as put-reads
-use Rattle.items.proofs.fields.value_of.Reads as value-of-reads
-use Rattle.items.proofs.tables.field_at.Reads as field-at-reads
 
 abbrev Inv-loop : tie.InvT-loop
 Inv-loop n w a e out₀ at rest₀ left₀ i₀ k₀ out rest left i k = Storing a e n at out₀ i rest left k out

@@ -4,8 +4,6 @@ use lib.Pow.{pow-lt}
 use borrow.Author.Needs.{needs}
 use Rattle.items.proofs.fields.pow2.Statement.{statement}
 use Rattle.items.proofs.fields.pow2.Tie as tie
-use Rattle.items.proofs.fields.pow2.Reads as reads
-use Rattle.items.proofs.fields.pow2.Lts as lts
 
 shl-result : tie.Need-shl-result
 shl-result c = search needs

@@ -5,8 +5,6 @@ use Rattle.items.proofs.StoreLaws.{spare-yes, spare-no, put-spare, put-
 use borrow.Author.Needs.{needs}
 use Rattle.items.proofs.fields.put.Statement.{statement}
 use Rattle.items.proofs.fields.put.Tie as tie
-use Rattle.items.proofs.fields.put.Reads as reads
-use Rattle.items.proofs.fields.put.Lts as lts
 
 returns : tie.Need-returns
 returns c =

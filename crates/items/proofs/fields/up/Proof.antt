@@ -4,8 +4,6 @@ use mir.ValLaws.{toZ-pos}
 use borrow.Author.Needs.{needs}
 use Rattle.items.proofs.fields.up.Statement.{statement}
 use Rattle.items.proofs.fields.up.Tie as tie
-use Rattle.items.proofs.fields.up.Reads as reads
-use Rattle.items.proofs.fields.up.Lts as lts
 
 cast-result : tie.Need-cast-result
 cast-result c = search needs

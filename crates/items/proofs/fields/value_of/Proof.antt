@@ -1,6 +1,6 @@
 -- `items::fields::value_of` meets its contract: each `return` is a case of `valueOf`. Assumes nothing.
-use mathlib.Core.Path.{_≡_, sym, _∙_, ap}
-use Prim.Native.Nat.{ℕ, _-_, _^_, _≤_}
+use mathlib.Core.Path.{sym, _∙_, ap}
+use Prim.Native.Nat.{_-_, _^_}
 use native.Mathlib.Omega.{arith}
 use mir.Syntax.{w64}
 use mir.ValLaws.{toZ-ofZ}
@@ -11,11 +11,6 @@ use Rattle.items.proofs.FieldCodes.{below63, value-plain, value-low, va
 use borrow.Author.Needs.{needs}
 use Rattle.items.proofs.fields.value_of.Statement.{statement}
 use Rattle.items.proofs.fields.value_of.Tie as tie
-use Rattle.items.proofs.fields.value_of.Reads as reads
-use Rattle.items.proofs.fields.value_of.Lts as lts
-use Rattle.items.proofs.fields.down.Reads as down-reads
-use Rattle.items.proofs.fields.pow2.Reads as pow2-reads
-use Rattle.items.proofs.fields.up.Reads as up-reads
 
 up-requires : tie.Need-up-requires
 up-requires c κs =

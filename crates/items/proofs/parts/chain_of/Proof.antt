@@ -6,10 +6,6 @@ use borrow.Author.Needs.{needs}
 use Rattle.items.proofs.ShapeLaws.{Chaining, chain-begun, chain-some, chain-short, chain-last, chain-more, chain-past}
 use Rattle.items.proofs.parts.chain_of.Statement.{statement}
 use Rattle.items.proofs.parts.chain_of.Tie as tie
-use Rattle.items.proofs.parts.chain_of.Reads as reads
-use Rattle.items.proofs.parts.chain_of.Lts as lts
-use Rattle.items.proofs.parts.is_last.Reads as is-last-reads
-use Rattle.items.proofs.field_rules.size_at.Reads as size-at-reads
 
 abbrev Inv-loop : tie.InvT-loop
 Inv-loop s first last g₀ at₀ count₀ g at count = Chaining first last s g at count

@@ -2,8 +2,6 @@
 use borrow.Author.Tests.{eq-eqb, ne-eqb}
 use Rattle.items.proofs.parts.head_of.Statement.{statement}
 use Rattle.items.proofs.parts.head_of.Tie as tie
-use Rattle.items.proofs.parts.head_of.Reads as reads
-use Rattle.items.proofs.parts.head_of.Lts as lts
 
 returns : tie.Need-returns
 returns c = rw (eq-eqb _ 2 (c .if1 .taken))

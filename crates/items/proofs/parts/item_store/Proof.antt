@@ -3,11 +3,6 @@ use borrow.Author.Needs.{needs}
 use Rattle.items.proofs.StoreLaws.{store-asks, store-gives}
 use Rattle.items.proofs.parts.item_store.Statement.{statement}
 use Rattle.items.proofs.parts.item_store.Tie as tie
-use Rattle.items.proofs.parts.item_store.Reads as reads
-use Rattle.items.proofs.parts.item_store.Lts as lts
-use Rattle.items.proofs.parts.head_of.Reads as head-of-reads
-use Rattle.items.proofs.parts.parts_store.Reads as parts-store-reads
-use Rattle.items.proofs.parts.step_of.Reads as step-of-reads
 
 head-of-requires : tie.Need-head-of-requires
 head-of-requires c κs = search needs

@@ -6,9 +6,6 @@ use native.Mathlib.Nat.{mul-le-mul}
 use Rattle.items.proofs.ShapeLaws.{rowed, list-group, list-cut, list-few, list-many, list-there}
 use Rattle.items.proofs.parts.list_of.Statement.{statement}
 use Rattle.items.proofs.parts.list_of.Tie as tie
-use Rattle.items.proofs.parts.list_of.Reads as reads
-use Rattle.items.proofs.parts.list_of.Lts as lts
-use Rattle.items.proofs.field_rules.size_at.Reads as size-at-reads
 
 -- the parts are few octets
 small : (c : tie.After-size-at) → c .before .args .n * c .size-at .result ≤ 255 * 7

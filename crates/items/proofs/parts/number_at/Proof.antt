@@ -4,9 +4,6 @@ use native.Mathlib.Omega.{arith}
 use Rattle.items.proofs.OctetLaws.{Gathering, begun, gathered, more-fits, times-fits, all-read}
 use Rattle.items.proofs.parts.number_at.Statement.{statement}
 use Rattle.items.proofs.parts.number_at.Tie as tie
-use Rattle.items.proofs.parts.number_at.Reads as reads
-use Rattle.items.proofs.parts.number_at.Lts as lts
-use Rattle.items.proofs.parts.wide.Reads as wide-reads
 
 abbrev Inv-loop : tie.InvT-loop
 Inv-loop s at size n₀ i₀ n i = Gathering s at size n i

@@ -2,19 +2,13 @@
 use native.Mathlib.Omega.{arith}
 use lib.ListN.{length}
 use Prim.Native.Nat.{_+_, _≤_}
-use mathlib.Core.Path.{_≡_, sym, subst}
+use mathlib.Core.Path.{sym, subst}
 use Rattle.rules.proofs.AnswerLaws.{Octets}
 use Rattle.items.proofs.CheckLaws.{octets-known}
 use Rattle.items.proofs.RuleLaws.{size-few, part-below, rules-few, part-free, part-ruled}
 use borrow.Author.Needs.{needs}
 use Rattle.items.proofs.parts.part_legal.Statement.{statement}
 use Rattle.items.proofs.parts.part_legal.Tie as tie
-use Rattle.items.proofs.parts.part_legal.Reads as reads
-use Rattle.items.proofs.parts.part_legal.Lts as lts
-use Rattle.items.proofs.field_rules.are_obeyed.Reads as are-obeyed-reads
-use Rattle.items.proofs.field_rules.first_rule.Reads as first-rule-reads
-use Rattle.items.proofs.field_rules.size_at.Reads as size-at-reads
-use Rattle.items.proofs.parts.number_at.Reads as number-at-reads
 
 -- the octets that the part lies in
 octets-at : (c : tie.After-shared-slice-known) → Octets (c .before .args .s .now)

@@ -1,6 +1,6 @@
 -- `items::parts::part_store` meets its contract. Assumes nothing.
-use Prim.Native.Nat.{ℕ, _≤_, _+_, _*_, _-_, _/_, _^_}
-use mathlib.Core.Path.{_≡_, sym, ap, _∙_, subst}
+use Prim.Native.Nat.{_≤_, _+_, _/_, _^_}
+use mathlib.Core.Path.{sym, ap, _∙_, subst}
 use native.Mathlib.Omega.{arith}
 use denote.Ref.{now}
 use lib.ListN.{length, drop, take}
@@ -13,11 +13,6 @@ use Rattle.items.proofs.PartLaws.{PartSound, part-sound, one-part}
 use borrow.Author.Needs.{needs}
 use Rattle.items.proofs.parts.part_store.Statement.{statement}
 use Rattle.items.proofs.parts.part_store.Tie as tie
-use Rattle.items.proofs.parts.part_store.Reads as reads
-use Rattle.items.proofs.parts.part_store.Lts as lts
-use Rattle.items.proofs.fields.fields_store.Reads as fields-store-reads
-use Rattle.items.proofs.parts.number_at.Reads as number-at-reads
-use Rattle.items.proofs.tables.group_at.Reads as group-at-reads
 
 -- the group's row is sound
 sound-at : (c : tie.After-group-at) → PartSound (c .before .before .args .step) (c .group-at .result)

@@ -1,14 +1,10 @@
 -- `items::parts::parts_legal` meets its contract: what is left to check says what all says. Assumes nothing.
-use mathlib.Core.Path.{_≡_, refl, sym, ap, _∙_}
+use mathlib.Core.Path.{refl}
 use native.Mathlib.Omega.{arith}
 use borrow.Author.Tests.{not-true, not-false}
 use Rattle.items.proofs.PartLaws.{CheckParts, First, first-part, part-bad, part-good, parts-good}
 use Rattle.items.proofs.parts.parts_legal.Statement.{statement}
 use Rattle.items.proofs.parts.parts_legal.Tie as tie
-use Rattle.items.proofs.parts.parts_legal.Reads as reads
-use Rattle.items.proofs.parts.parts_legal.Lts as lts
-use Rattle.items.proofs.parts.part_legal.Reads as part-legal-reads
-use Rattle.items.proofs.field_rules.size_at.Reads as size-at-reads
 
 abbrev Inv-loop : tie.InvT-loop
 Inv-loop s at count group step p₀ g₀ k₀ p g k = CheckParts step group count s at p g k

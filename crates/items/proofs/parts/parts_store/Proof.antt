@@ -7,10 +7,6 @@ use Rattle.items.proofs.PartLaws.{First, first-part}
 use Rattle.items.proofs.StoreLaws.{StoreParts, store-begun, holds-cons, part-stored, parts-stored}
 use Rattle.items.proofs.parts.parts_store.Statement.{statement}
 use Rattle.items.proofs.parts.parts_store.Tie as tie
-use Rattle.items.proofs.parts.parts_store.Reads as reads
-use Rattle.items.proofs.parts.parts_store.Lts as lts
-use Rattle.items.proofs.parts.part_store.Reads as part-store-reads
-use Rattle.items.proofs.tables.group_at.Reads as group-at-reads
 
 abbrev Inv-loop : tie.InvT-loop
 Inv-loop s at parts group step out₀ p₀ g₀ k₀ q₀ out p g k q = StoreParts step group parts s at out₀ p g k q out

@@ -1,16 +1,9 @@
 -- `items::parts::shape_of` meets its contract: each `return` is a case of `shapeOf`. Assumes nothing.
-use mathlib.Core.Path.{_≡_, ap, sym, _∙_}
-use native.Mathlib.Omega.{arith}
+use mathlib.Core.Path.{_≡_, _∙_}
 use Rattle.items.proofs.ShapeLaws.{rowed, few-kinds, a-list, fixed-group, chain-inside, chain-parts, no-shape, fixed-cut, fixed-there, chain-shape, no-head, led-short, led-cut, led-there, list-shape}
 use borrow.Author.Needs.{needs}
 use Rattle.items.proofs.parts.shape_of.Statement.{statement}
 use Rattle.items.proofs.parts.shape_of.Tie as tie
-use Rattle.items.proofs.parts.shape_of.Reads as reads
-use Rattle.items.proofs.parts.shape_of.Lts as lts
-use Rattle.items.proofs.parts.chain_of.Reads as chain-of-reads
-use Rattle.items.proofs.parts.list_of.Reads as list-of-reads
-use Rattle.items.proofs.parts.octet.Reads as octet-reads
-use Rattle.items.proofs.field_rules.size_at.Reads as size-at-reads
 
 list-at : (c : tie.Else6) → c .before .before .before .before .before .before .before .before .args .l .0 ≡ 2
 list-at c = a-list _ (rowed _ (c .before .before .before .before .before .before .before .before .pre)) (c .before .before .before .before .before .before .if1 .left) (c .before .before .before .before .before .if2 .left) (c .before .before .before .before .if4 .left) (c .if6 .left)

@@ -4,8 +4,6 @@ use lib.Dec.{lit≤}
 use borrow.Author.Tests.{eq-eqb, ne-eqb}
 use Rattle.items.proofs.parts.step_of.Statement.{statement}
 use Rattle.items.proofs.parts.step_of.Tie as tie
-use Rattle.items.proofs.parts.step_of.Reads as reads
-use Rattle.items.proofs.parts.step_of.Lts as lts
 
 returns : tie.Need-returns
 returns c = rw (eq-eqb _ 4 (c .if1 .taken)) (refl, lit≤ tt)

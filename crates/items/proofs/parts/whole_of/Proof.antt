@@ -9,12 +9,6 @@ use Rattle.items.proofs.CheckLaws.{octets-known, whole-stopped, walk-ch
 use borrow.Author.Needs.{needs}
 use Rattle.items.proofs.parts.whole_of.Statement.{statement}
 use Rattle.items.proofs.parts.whole_of.Tie as tie
-use Rattle.items.proofs.parts.whole_of.Reads as reads
-use Rattle.items.proofs.parts.whole_of.Lts as lts
-use Rattle.items.proofs.parts.head_of.Reads as head-of-reads
-use Rattle.items.proofs.parts.parts_legal.Reads as parts-legal-reads
-use Rattle.items.proofs.parts.shape_of.Reads as shape-of-reads
-use Rattle.items.proofs.field_rules.is_free.Reads as is-free-reads
 
 -- the octets of the item
 octets-at : (c : tie.After-shared-slice-known) → Octets (c .before .args .s .now)

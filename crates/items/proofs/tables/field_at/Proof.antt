@@ -1,5 +1,5 @@
 -- `items::tables::field_at` meets its contract: the row is read from its digits, and its range from the ranges. Assumes nothing.
-use mathlib.Core.Path.{_≡_, ap, sym, _∙_, subst}
+use mathlib.Core.Path.{ap, sym, _∙_, subst}
 use Prim.Native.Nat.{_<_, _%_}
 use mir.Syntax.{w64}
 use mir.ValLaws.{toZ-ofZ}
@@ -7,11 +7,6 @@ use Rattle.items.proofs.TableLaws.{fieldDigits, field-digits, field-ran
 use borrow.Author.Needs.{needs}
 use Rattle.items.proofs.tables.field_at.Statement.{statement}
 use Rattle.items.proofs.tables.field_at.Tie as tie
-use Rattle.items.proofs.tables.field_at.Reads as reads
-use Rattle.items.proofs.tables.field_at.Lts as lts
-use Rattle.items.proofs.tables.field_word.Reads as field-word-reads
-use Rattle.items.proofs.tables.greatest_at.Reads as greatest-at-reads
-use Rattle.items.proofs.tables.least_at.Reads as least-at-reads
 
 field-word-requires : tie.Need-field-word-requires
 field-word-requires c κs = search needs

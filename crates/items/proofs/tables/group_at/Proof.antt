@@ -4,9 +4,6 @@ use Rattle.items.proofs.TableLaws.{groupDigits, group-digits}
 use borrow.Author.Needs.{needs}
 use Rattle.items.proofs.tables.group_at.Statement.{statement}
 use Rattle.items.proofs.tables.group_at.Tie as tie
-use Rattle.items.proofs.tables.group_at.Reads as reads
-use Rattle.items.proofs.tables.group_at.Lts as lts
-use Rattle.items.proofs.tables.group_word.Reads as group-word-reads
 
 group-word-requires : tie.Need-group-word-requires
 group-word-requires c κs = search needs

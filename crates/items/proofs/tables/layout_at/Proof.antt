@@ -4,9 +4,6 @@ use Rattle.items.proofs.TableLaws.{layoutDigits, layout-digits}
 use borrow.Author.Needs.{needs}
 use Rattle.items.proofs.tables.layout_at.Statement.{statement}
 use Rattle.items.proofs.tables.layout_at.Tie as tie
-use Rattle.items.proofs.tables.layout_at.Reads as reads
-use Rattle.items.proofs.tables.layout_at.Lts as lts
-use Rattle.items.proofs.tables.layout_word.Reads as layout-word-reads
 
 layout-word-requires : tie.Need-layout-word-requires
 layout-word-requires c κs = search needs

@@ -4,9 +4,6 @@ use Rattle.items.proofs.TableLaws.{layout-in}
 use borrow.Author.Needs.{needs}
 use Rattle.items.proofs.tables.layout_row.Statement.{statement}
 use Rattle.items.proofs.tables.layout_row.Tie as tie
-use Rattle.items.proofs.tables.layout_row.Reads as reads
-use Rattle.items.proofs.tables.layout_row.Lts as lts
-use Rattle.items.proofs.tables.layout_in.Reads as layout-in-reads
 
 layout-in-requires : tie.Need-layout-in-requires
 layout-in-requires c κs = search needs

@@ -8,8 +8,6 @@ use mir.ValLaws.{toZ-ofZ}
 use borrow.Author.Needs.{needs}
 use Rattle.items.proofs.tables.least_at.Statement.{statement}
 use Rattle.items.proofs.tables.least_at.Tie as tie
-use Rattle.items.proofs.tables.least_at.Reads as reads
-use Rattle.items.proofs.tables.least_at.Lts as lts
 
 mul-result : tie.Need-mul-result
 mul-result c = search needs
