@@ -1,20 +1,20 @@
 -- A new record checked as the code checks it, by its set and its items, is the rules' new record.
 --
 -- In order: the items; the law, and the octets of a new record; the steps of the code. Assumes nothing.
-use Prim.Native.Nat.{ℕ, zero, suc, _+_, _-_, _*_, _%_, _^_, _≤_, _<_}
-use mathlib.Core.Path.{_≡_, refl, sym, ap, ap₂, _∙_, subst}
+use Prim.Native.Nat.{ℕ, _+_, _-_, _^_, _<_}
+use mathlib.Core.Path.{_≡_, refl, sym, ap, _∙_}
 use mathlib.Core.Logic.{⊎-elim}
 use mathlib.Core.Bool.{Bool, true, false, not}
-use mathlib.Core.List.{List, [], _∷_, _++_}
+use mathlib.Core.List.{List, _++_}
 use native.Mathlib.Omega.{arith}
 use native.Mathlib.Nat.{zero-add, add-zero}
 use lib.Dec.{ltb, eqb}
-use borrow.Author.Tests.{ltb-true, lt-ltb, eq-eqb, ne-eqb, eqb-true, eqb-false, not-true, not-false}
+use borrow.Author.Tests.{ltb-true, lt-ltb, eq-eqb, ne-eqb, eqb-true, eqb-false}
 use lib.ListN.{length, getD, length-append}
 use mir.Syntax.{w8}
 use mir.Val.{Fits}
-use Rattle.rules.specs.Answer.{Answer, ok, refused, _>>=_, need_or_then_, if_then_else_, later, octetsOf}
-use Rattle.rules.specs.Layout.{concat, readChain}
+use Rattle.rules.specs.Answer.{Answer, ok, refused, _>>=_, need_or_then_, later, octetsOf}
+use Rattle.rules.specs.Layout.{concat}
 use Rattle.rules.specs.Presence.{flags, writePresence, readRows, allUsable, setFlags}
 use Rattle.rules.specs.Record.{Record, judge, readPlace}
 use Rattle.rules.specs.Entry.{newRecord}

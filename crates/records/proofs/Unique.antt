@@ -7,7 +7,6 @@ use mathlib.Core.Bool.{Bool, true, false}
 use mathlib.Core.List.{List}
 use native.Mathlib.Omega.{arith}
 use lib.ListN.{length, getD, set}
-use Rattle.rules.specs.Answer.{Answer, ok, refused}
 use Rattle.rules.specs.Presence.{flags}
 use Rattle.rules.proofs.AnswerLaws.{ok-inj}
 use Rattle.records.specs.declared.ItemSet.{ItemSet}
