@@ -3,18 +3,19 @@
 -- In order: octets of a slice; free groups; shapes with legal fields; how many octets an item takes. Assumes nothing.
 use Prim.Native.Nat.{ℕ, zero, suc, _+_, _-_, _*_, _/_, _%_, _<_, _≤_, _^_}
 use mathlib.Core.Path.{_≡_, refl, sym, ap, _∙_, subst}
-use mathlib.Core.Bool.{Bool, true, false, _&&_}
+use mathlib.Core.Bool.{Bool, true, false, cond, _&&_}
+use mathlib.Core.Logic.{⊎-elim}
 use mathlib.Core.Option.{Option, none, some}
 use mathlib.Core.List.{List, [], _∷_, map}
 use native.Mathlib.Omega.{arith}
 use native.Mathlib.Nat.{add-zero, mod-lt, pow-suc, not-suc-le-zero}
-use lib.Dec.{leb, ltb, eqb, leb·zero}
+use lib.Dec.{leb, ltb, eqb, leb·zero, lit<}
 use lib.IntN.{ℤ, pos, negsuc}
 use lib.Signed.{leZ}
-use lib.ListN.{length, getD, take, drop, length-drop}
+use lib.ListN.{length, getD, take, drop, length-drop, List·getD-map}
 use lib.Seq.{slice}
 use lib.Pow.{pow-pos, shr-lt}
-use borrow.Author.Tests.{le-leb, lt-ltb, ltb-true, ltb-false, eqb-true, ne-eqb}
+use borrow.Author.Tests.{le-leb, lt-leb, lt-ltb, ltb-true, ltb-false, eqb-true, ne-eqb}
 use Rattle.rules.specs.Answer.{Answer, ok, refused, _>>=_, need_or_then_, expect_or_}
 use Rattle.rules.specs.Field.{Field, spare, value, unsigned, signed, bits, half}
 use Rattle.rules.specs.Layout.{Layout, Values, readItem}
@@ -27,14 +28,15 @@ use Rattle.rules.proofs.AnswerLaws.{Octets, both-left, both-right, none-some, r
 use Rattle.items.specs.declared.tables.GroupRow.{GroupRow}
 use Rattle.items.specs.declared.tables.LayoutRow.{LayoutRow}
 use Rattle.items.specs.declared.tables.PlaceRow.{PlaceRow}
-use Rattle.items.specs.Tables.{fields, groups, layouts, fieldRow, minus, isFree, groupIs, groupRows, groupAt, layoutBy, layoutIs, layoutAt, with, placeIs}
-use Rattle.items.specs.Read.{rowsAt, partAt, twosOf, valueOf, within, width, legal, span, partSound, partsSound, partsLegal, Shaped, headOf, stepOf, shapeBy, shapeOf, wholeOf, readBy, rowSound}
+use Rattle.items.specs.Tables.{fields, groups, layouts, fieldRow, minus, isFree, groupIs, groupRows, groupAt, layoutBy, layoutIs, layoutAt, nowhere, profileRows, placeRowAt, with, placeIs}
+use Rattle.items.specs.Read.{rowsAt, partAt, twosOf, valueOf, within, width, legal, span, partSound, partsSound, partsLegal, Shaped, headOf, stepOf, shapeBy, shapeOf, wholeOf, wholeSize, readBy, rowSound}
 use Rattle.items.specs.Answers.{sizeOf, checkAt}
+use Rattle.items.specs.FieldRules.{singleOf, singles, singleSize}
 use Rattle.items.proofs.FieldCodes.{Wide, width-bits, and-true, low-minus, low-neg, twice}
-use Rattle.items.proofs.PartLaws.{PartSound, part-sound}
-use Rattle.items.proofs.ReadLaws.{fieldsAt, rows-map, wide-slice, part-small, octets-drop, Fitting, fitting, reads}
-use Rattle.items.proofs.ShapeLaws.{Rowed, rowed, Grouped, fixed-group, list-group, led-group, few-kinds, no-shape}
-use Rattle.items.proofs.TableLaws.{group-free}
+use Rattle.items.proofs.PartLaws.{PartSound, part-sound, First, first-part}
+use Rattle.items.proofs.ReadLaws.{fieldsAt, rows-map, wide-slice, part-small, octets-drop, Fitting, fitting, reads, le-or-lt}
+use Rattle.items.proofs.ShapeLaws.{Rowed, rowed, Grouped, fixed-one, fixed-group, list-group, led-group, few-kinds, no-shape, fixed-cut, fixed-there}
+use Rattle.items.proofs.TableLaws.{group-free, layout-sound, place-is, place-row, place-none}
 
 -- ---- octets of a slice
 
@@ -45,11 +47,11 @@ octets-known (b ∷ bs) h = (h 0, octets-known bs (λ i. h (suc i)))
 -- ---- free groups
 
 -- any code is within the range of a free field
-free-unsigned : (w lo hi c : ℕ) → lo ≡ 0 → suc hi ≡ 2 ^ w → c < 2 ^ w → within (w, 0, pos lo, pos hi) (valueOf (w, 0, pos lo, pos hi) c) ≡ true
+pub free-unsigned : (w lo hi c : ℕ) → lo ≡ 0 → suc hi ≡ 2 ^ w → c < 2 ^ w → within (w, 0, pos lo, pos hi) (valueOf (w, 0, pos lo, pos hi) c) ≡ true
 unfolding within valueOf
 free-unsigned w lo hi c a b h = rw (a, leb·zero c) (le-leb c hi (omega arith))
 
-free-signed : (w lo hi c : ℕ) → 1 ≤ w → lo ≡ half w → suc hi ≡ half w → c < 2 ^ w → within (w, 1, minus lo, pos hi) (valueOf (w, 1, minus lo, pos hi) c) ≡ true
+pub free-signed : (w lo hi c : ℕ) → 1 ≤ w → lo ≡ half w → suc hi ≡ half w → c < 2 ^ w → within (w, 1, minus lo, pos hi) (valueOf (w, 1, minus lo, pos hi) c) ≡ true
 unfolding within valueOf twosOf
 free-signed w lo hi c o a b h = go (ltb c (half w)) refl
   where
@@ -149,13 +151,13 @@ module _ (l : LayoutRow) (bs : List ℕ) where
         pub walk-equal : {h : ℕ} → h ≡ headOf (l .0) → Walk 0 h
         walk-equal eh = subst (Walk 0) (sym eh) (subst (λ x. Walk x (headOf (l .0))) no-step walk)
 
-        pub equal-free : {r : GroupRow} → r ≡ groupAt (l .3) → r .4 ≡ true → ok (c, long) ≡ wholeOf l bs
-        equal-free er f =
+        pub equal-free : {t : Bool} → t ≡ groupAt (l .3) .4 → t ≡ true → ok (c, long) ≡ wholeOf l bs
+        equal-free et f =
             let w : Walk 0 (headOf (l .0)) = walk-equal refl in
             whole-legal
             (ap (λ x. partsLegal x (l .3) c (drop (headOf (l .0)) bs)) no-step
             ∙ free-parts (l .3) c (drop (headOf (l .0)) bs) (octets-drop (headOf (l .0)) bs o) (w .sound) (omega (arith, w .there, length-drop (headOf (l .0)) bs))
-            (sym (group-free (l .3) (group-at .inside)) ∙ ap (λ (x : GroupRow). x .4) (sym er) ∙ f))
+            (sym (group-free (l .3) (group-at .inside)) ∙ sym et ∙ f))
 
         module _ {t : Bool} {h : ℕ} (eh : h ≡ headOf (l .0)) (et : t ≡ partsLegal 0 (l .3) c (drop h bs)) where
           legal-equal : partsLegal (stepOf (l .0)) (l .3) c (drop (headOf (l .0)) bs) ≡ t
@@ -169,30 +171,27 @@ module _ (l : LayoutRow) (bs : List ℕ) where
 
 -- ---- how many octets an item takes
 
-unfoldable pub long-of : Shaped → Answer ℕ
-long-of s = ok (s .1)
-
 -- what is left says how many octets were taken
 size-legal : (t : Bool) (vs : Values) (c long : ℕ) (bs : List ℕ) → long ≤ length bs
-    → _>>=_ {A = Values × List ℕ} (need t or 11 then ok (vs, drop long bs)) (λ x. ok (length bs - length (x .1))) ≡ (_>>=_ {A = Shaped} (need t or 11 then ok (c, long)) long-of)
-unfolding need_or_then_ _>>=_ long-of
+    → _>>=_ {A = Values × List ℕ} (need t or 11 then ok (vs, drop long bs)) (λ x. ok (length bs - length (x .1))) ≡ (_>>=_ {A = Shaped} (need t or 11 then ok (c, long)) (λ s. ok (s .1)))
+unfolding need_or_then_ _>>=_
 size-legal true vs c long bs h = ap ok (omega (arith, length-drop long bs))
 size-legal false vs c long bs h = refl
 
-size-read : (l : LayoutRow) (bs : List ℕ) → rowSound l ≡ true → Octets bs → (readBy l bs >>= (λ x. ok (length bs - length (x .1)))) ≡ (wholeOf l bs >>= long-of)
-unfolding readBy wholeOf shapeOf _>>=_
+size-read : (l : LayoutRow) (bs : List ℕ) → rowSound l ≡ true → Octets bs → (readBy l bs >>= (λ x. ok (length bs - length (x .1)))) ≡ wholeSize l bs
+unfolding readBy wholeSize wholeOf shapeOf _>>=_
 size-read l bs s o = go (shapeOf l bs) refl
   where
-    go : (m : Answer Shaped) → shapeOf l bs ≡ m → (readBy l bs >>= (λ x. ok (length bs - length (x .1)))) ≡ (wholeOf l bs >>= long-of)
+    go : (m : Answer Shaped) → shapeOf l bs ≡ m → (readBy l bs >>= (λ x. ok (length bs - length (x .1)))) ≡ wholeSize l bs
     go (ok x) e = rw e (size-legal (partsLegal (stepOf (l .0)) (l .3) (x .0) (drop (headOf (l .0)) bs)) _ (x .0) (x .1) bs (fitting l bs x s o e .there))
     go (refused n p) e = rw e
 
-size-is : (l : LayoutRow) (i : Layout) (bs : List ℕ) → rowSound l ≡ true → layoutIs l ≡ some i → Octets bs → sizeOf i bs ≡ (wholeOf l bs >>= long-of)
+size-is : (l : LayoutRow) (i : Layout) (bs : List ℕ) → rowSound l ≡ true → layoutIs l ≡ some i → Octets bs → sizeOf i bs ≡ wholeSize l bs
 unfolding sizeOf
 size-is l i bs s h o = ap (λ m. m >>= (λ x. ok (length bs - length (x .1)))) (reads l i bs s h o) ∙ size-read l bs s o
 
 -- a row that is no item's
-no-item : (l : LayoutRow) (bs : List ℕ) → layoutIs l ≡ none → wholeOf l bs ≡ refused 21 0
+pub no-item : (l : LayoutRow) (bs : List ℕ) → layoutIs l ≡ none → wholeOf l bs ≡ refused 21 0
 unfolding layoutIs layoutBy wholeOf shapeOf shapeBy _>>=_
 no-item l bs h = go (l .0) refl
   where
@@ -207,19 +206,111 @@ no-item l bs h = go (l .0) refl
     go (suc (suc (suc (suc k)))) e = none-some (sym (by (suc (suc (suc (suc k)))) e))
 
 pub check-is : (r : PlaceRow) (profile frn : ℕ) (bs : List ℕ) → placeIs r ≡ placeAt (profileAt categories profile) frn → rowSound (layoutAt (r .0)) ≡ true → Octets bs
-    → checkAt profile frn bs ≡ (wholeOf (layoutAt (r .0)) bs >>= long-of)
-unfolding placeIs checkAt expect_or_ _>>=_
+    → checkAt profile frn bs ≡ wholeSize (layoutAt (r .0)) bs
+unfolding placeIs checkAt wholeSize expect_or_ _>>=_
 check-is r profile frn bs h s o = go (layoutIs (layoutAt (r .0))) refl
   where
-    go : (x : Option Layout) → layoutIs (layoutAt (r .0)) ≡ x → checkAt profile frn bs ≡ (wholeOf (layoutAt (r .0)) bs >>= long-of)
+    go : (x : Option Layout) → layoutIs (layoutAt (r .0)) ≡ x → checkAt profile frn bs ≡ wholeSize (layoutAt (r .0)) bs
     go none e = rw (← h, e, no-item (layoutAt (r .0)) bs e)
     go (some i) e = rw (← h, e) (size-is (layoutAt (r .0)) i bs s e o)
 
 -- the two answers
-pub check-whole : {m : Answer Shaped} (c long : ℕ) → ok (c, long) ≡ m → ok long ≡ (m >>= long-of)
-unfolding _>>=_ long-of
-check-whole c long e = rw (← e)
+module _ (l : LayoutRow) (bs : List ℕ) where
+  pub check-whole : (c long : ℕ) → ok (c, long) ≡ wholeOf l bs → ok long ≡ wholeSize l bs
+  unfolding wholeSize _>>=_
+  check-whole c long e = rw (← e)
 
-pub check-refused : {m : Answer Shaped} (n p : ℕ) → refused n p ≡ m → refused n p ≡ (m >>= long-of)
-unfolding _>>=_ long-of
-check-refused n p e = rw (← e)
+  pub check-refused : (n p : ℕ) → refused n p ≡ wholeOf l bs → refused n p ≡ wholeSize l bs
+  unfolding wholeSize _>>=_
+  check-refused n p e = rw (← e)
+
+-- ---- an item with one part
+
+-- its place in the table says so
+pub single-is : (i : ℕ) → getD singles i 0 ≡ singleOf (layoutAt (placeRowAt i .0))
+unfolding singles placeRowAt layoutAt
+single-is i = List·getD-map (λ r. singleOf (layoutAt (r .0))) (profileRows 1 categories) i nowhere
+
+pub record Single (l : LayoutRow) (g : ℕ) : Type 0 where
+  pub kind : l .0 ≡ 1
+  pub group : l .3 ≡ g
+
+-- a free one, of so many octets
+pub record Free (l : LayoutRow) (n : ℕ) : Type 0 where
+  pub kind : l .0 ≡ 1
+  pub free : groupAt (l .3) .4 ≡ true
+  pub size : groupAt (l .3) .0 ≡ n
+
+-- the number in the table says which
+pub single-of : (l : LayoutRow) (n : ℕ) → rowSound l ≡ true → n ≡ singleOf l → 8 ≤ n → Single l (n - 8)
+single-of l n s e h = go (eqb (l .0) 1) refl (groupAt (l .3) .4) e
+  where
+    go : (t : Bool) → eqb (l .0) 1 ≡ t → (u : Bool) → n ≡ cond t (cond u (groupAt (l .3) .0) (8 + l .3)) 0 → Single l (n - 8)
+    go true q true r =
+        let k : l .0 ≡ 1 = eqb-true (l .0) 1 q in
+        absurd (omega (arith, fixed-group l (rowed l s) k .sound .short))
+    go true q false r = record { kind = eqb-true (l .0) 1 q; group = omega arith }
+    go false q u r = absurd (omega arith)
+
+pub free-of : (l : LayoutRow) (n : ℕ) → n ≡ singleOf l → 0 < n → n < 8 → Free l n
+free-of l n e h k = go (eqb (l .0) 1) refl (groupAt (l .3) .4) refl e
+  where
+    go : (t : Bool) → eqb (l .0) 1 ≡ t → (u : Bool) → groupAt (l .3) .4 ≡ u → n ≡ cond t (cond u (groupAt (l .3) .0) (8 + l .3)) 0 → Free l n
+    go true q true f r = record { kind = eqb-true (l .0) 1 q; free = f; size = sym r }
+    go true q false f r = absurd (omega arith)
+    go false q u f r = absurd (omega arith)
+
+-- it needs no look
+module _ (l : LayoutRow) (n : ℕ) (bs : List ℕ) (s : rowSound l ≡ true) (o : Octets bs) (f : Free l n) where
+  pub free-cut : length bs < n → refused 9 0 ≡ wholeSize l bs
+  unfolding wholeSize _>>=_
+  free-cut h = sym (rw (whole-stopped l bs 9 0 (sym (fixed-cut l bs (f .kind) (sym (f .size)) h))))
+
+  pub free-there : n ≤ length bs → ok n ≡ wholeSize l bs
+  free-there h =
+      check-whole l bs 1 n
+      (equal-free l bs 1 n (sym (fixed-there l bs (f .kind) (sym (f .size)) h)) s o (λ e. absurd (omega (arith, f .kind, e))) (sym (f .free)) refl)
+
+one-part-size : (u : Bool) (n : ℕ) → (need u or 11 then ok n) ≡ (_>>=_ {A = Shaped} (need (u && true) or 11 then ok (1, n)) (λ s. ok (s .1)))
+unfolding need_or_then_ _>>=_
+one-part-size true n = refl
+one-part-size false n = refl
+
+pub single-size : (l : LayoutRow) (g : ℕ) (bs : List ℕ) → Single l g → singleSize g bs ≡ wholeSize l bs
+unfolding singleSize wholeSize wholeOf shapeOf shapeBy partsLegal need_or_then_ _>>=_
+single-size l g bs s =
+    ⊎-elim
+    (λ (h : groupAt (l .3) .0 ≤ length bs). rw (← s .group, s .kind, le-leb (groupAt (l .3) .0) (length bs) h) (one-part-size (legal (rowsAt (l .3)) (partAt 0 (l .3) bs)) (groupAt (l .3) .0)))
+    (λ (h : length bs < groupAt (l .3) .0). rw (← s .group, s .kind, lt-leb (groupAt (l .3) .0) (length bs) h))
+    (le-or-lt (groupAt (l .3) .0) (length bs))
+
+-- what the check of one part asks, and its answers
+pub single-sound : (l : LayoutRow) (g : ℕ) → rowSound l ≡ true → Single l g → (g < 52) × (partSound 0 (groupAt g) ≡ true)
+single-sound l g s h =
+    let r : Rowed l = rowed l s in
+    let f : First 0 (l .3) 1 [] 0 = first-part 0 (l .3) 1 [] 0 (lit< tt) (subst (λ x. partsSound 0 (l .3) x ≡ true) (fixed-one l r (h .kind)) (subst (λ x. partsSound (stepOf x) (l .3) (l .2) ≡ true) (h .kind) (r .parts))) in
+    subst (λ x. (x < 52) × (partSound 0 (groupAt x) ≡ true)) (h .group) (f .inside, f .sound)
+
+module _ (g : ℕ) (bs : List ℕ) {m : ℕ} (em : m ≡ groupAt g .0) where
+  pub single-cut : length bs < m → refused 9 0 ≡ singleSize g bs
+  unfolding singleSize need_or_then_
+  single-cut h = rw (← em, lt-leb m (length bs) h)
+
+  module _ (h : m ≤ length bs) {t : Bool} (et : t ≡ legal (rowsAt g) (partAt 0 g (drop 0 bs))) where
+    pub single-legal : t ≡ true → ok m ≡ singleSize g bs
+    unfolding singleSize need_or_then_
+    single-legal e = let d : legal (rowsAt g) (partAt 0 g bs) ≡ true = sym et ∙ e in rw (le-leb (groupAt g .0) (length bs) (omega arith), d, em)
+
+    pub single-barred : t ≡ false → refused 11 0 ≡ singleSize g bs
+    unfolding singleSize need_or_then_
+    single-barred e = let d : legal (rowsAt g) (partAt 0 g bs) ≡ false = sym et ∙ e in rw (le-leb (groupAt g .0) (length bs) (omega arith), d)
+
+-- ---- the place of an item
+
+pub check-place : (profile frn : ℕ) (bs : List ℕ) → profile < 2 → frn < 36 → Octets bs → wholeSize (layoutAt (placeRowAt (profile * 36 + frn) .0)) bs ≡ checkAt profile frn bs
+check-place profile frn bs h k o =
+    sym (check-is (placeRowAt (profile * 36 + frn)) profile frn bs (place-is profile frn h k) (layout-sound (placeRowAt (profile * 36 + frn) .0) (place-row (profile * 36 + frn))) o)
+
+pub no-place : (profile frn : ℕ) (bs : List ℕ) → placeIs nowhere ≡ placeAt (profileAt categories profile) frn → refused 21 0 ≡ checkAt profile frn bs
+unfolding checkAt expect_or_ _>>=_
+no-place profile frn bs e = rw (← e, place-none)

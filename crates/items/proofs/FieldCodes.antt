@@ -105,7 +105,7 @@ pub low-neg : (lo m : ℕ) → leZ (minus lo) (negsuc m) ≡ ltb m lo
 low-neg zero m = sym (le-ltb m 0 zero-le)
 low-neg (suc n) m = sym (leb·suc-suc m n)
 
-and-last : (b : Bool) → b && true ≡ b
+pub and-last : (b : Bool) → b && true ≡ b
 and-last true = refl
 and-last false = refl
 
@@ -124,7 +124,7 @@ unfolding get within valueOf
 get-is w c (unsigned lo hi) h k = need-and (leb lo c) (leb c hi) (ok (pos c))
 get-is w c (signed lo hi) h k = get-signed w c lo hi (ltb c (half w)) h k refl
 
-spare-is : (w c : ℕ) → eqb c 0 ≡ within (fieldRow (spare w)) (valueOf (fieldRow (spare w)) c)
+pub spare-is : (w c : ℕ) → eqb c 0 ≡ within (fieldRow (spare w)) (valueOf (fieldRow (spare w)) c)
 unfolding within valueOf
 spare-is w zero = refl
 spare-is w (suc c) = rw (eqb·suc-zero c, leb·suc-zero c, leb·zero (suc c))

@@ -25,14 +25,14 @@ use Rattle.items.proofs.FieldCodes.{and-true, and-false}
 pub record PartSound (step : ℕ) (r : GroupRow) : Type 0 where
   pub inside : r .2 ≤ 113
   pub some : 1 ≤ r .0
-  pub short : r .0 ≤ 8
+  pub short : r .0 ≤ 7
   pub whole : width (rows (r .1) (r .2)) + step ≡ 8 * r .0
 
 pub part-sound : (step : ℕ) (r : GroupRow) → partSound step r ≡ true → PartSound step r
 part-sound step r e =
     let a = leb (r .2) 113 in
     let b = leb 1 (r .0) in
-    let c = leb (r .0) 8 in
+    let c = leb (r .0) 7 in
     let d = eqb (width (rows (r .1) (r .2)) + step) (8 * r .0) in
     let u : a && b && c ≡ true = both-left (a && b && c) d e in
     let v : a && b ≡ true = both-left (a && b) c u in
@@ -47,7 +47,7 @@ part-sound step r e =
 
 pub record OnePart (step : ℕ) (r : GroupRow) (n : ℕ) : Type 0 where
   pub wide : 8 * r .0 - step ≡ width (rows (r .1) (r .2))
-  pub few : 8 * r .0 - step ≤ 64
+  pub few : 8 * r .0 - step ≤ 56
   pub small : n / 2 ^ step < 2 ^ (8 * r .0 - step)
 
 pub one-part : (step : ℕ) (r : GroupRow) (n : ℕ) → PartSound step r → n < 2 ^ (8 * r .0) → OnePart step r n
@@ -99,10 +99,10 @@ module _ (step group count : ℕ) (s : List ℕ) (at p g k : ℕ) (c : CheckPart
   pub part-bad : t ≡ false → false ≡ partsLegal step group count (drop at s)
   part-bad e = sym (part-ok ∙ and-false _ e)
 
-  pub part-good : t ≡ true → {r : GroupRow} → r ≡ groupAt g → CheckParts step group count s at (p + r .0) (g + step) (k - 1)
-  part-good e er =
+  pub part-good : t ≡ true → {m : ℕ} → m ≡ groupAt g .0 → CheckParts step group count s at (p + m) (g + step) (k - 1)
+  part-good e em =
       let f = first-part step g k s p h (c .sound) in
-      subst (λ r. CheckParts step group count s at (p + r .0) (g + step) (k - 1)) (sym er)
+      subst (λ m. CheckParts step group count s at (p + m) (g + step) (k - 1)) (sym em)
       (record { sound = f .rest; place = omega (arith, c .place, f .spans); same = sym (part-ok ∙ and-true _ e) })
 
 pub parts-good : (step group count : ℕ) (s : List ℕ) (at p g k : ℕ) → CheckParts step group count s at p g k → k ≤ 0 → true ≡ partsLegal step group count (drop at s)

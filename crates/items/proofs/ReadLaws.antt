@@ -145,7 +145,7 @@ unpacked step g (suc c) (fs ∷ gs) bs o s h e =
 
 -- ---- lists and other equal parts
 
-le-or-lt : (a b : ℕ) → (a ≤ b) ⊎ (b < a)
+pub le-or-lt : (a b : ℕ) → (a ≤ b) ⊎ (b < a)
 le-or-lt a b = go (leb a b) refl
   where
     go : (t : Bool) → leb a b ≡ t → (a ≤ b) ⊎ (b < a)
@@ -153,7 +153,7 @@ le-or-lt a b = go (leb a b) refl
     go false e = inr (leb-false a b e)
 
 -- a test, both ways
-same-leb : (a b c d : ℕ) → (a ≤ b → c ≤ d) → (c ≤ d → a ≤ b) → leb a b ≡ leb c d
+pub same-leb : (a b c d : ℕ) → (a ≤ b → c ≤ d) → (c ≤ d → a ≤ b) → leb a b ≡ leb c d
 same-leb a b c d f g =
     ⊎-elim
     (λ h. le-leb a b h ∙ sym (le-leb c d (f h)))

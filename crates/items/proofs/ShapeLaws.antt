@@ -65,42 +65,42 @@ moved-twice (ok x) size count at =
     rw (a, b)
 moved-twice (refused n p) size count at = refl
 
-module _ (first last : ℕ) (s : List ℕ) (g at count : ℕ) (c : Chaining first last s g at count) (h : g < last) {r : GroupRow} (er : r ≡ groupAt g) where
+module _ (first last : ℕ) (s : List ℕ) (g at count : ℕ) (c : Chaining first last s g at count) (h : g < last) {m : ℕ} (em : m ≡ groupAt g .0) where
   pub chain-group : First 1 g (last - g) s at
   chain-group = first-part 1 g (last - g) s at (omega arith) (c .sound)
 
-  pub chain-sound : PartSound 1 r
-  chain-sound = subst (PartSound 1) (sym er) (part-sound 1 (groupAt g) (chain-group .sound))
+  pub chain-some : 1 ≤ m
+  chain-some = subst (λ x. 1 ≤ x) (sym em) (part-sound 1 (groupAt g) (chain-group .sound) .some)
 
   whole : chain first (last - first) s
-      ≡ ((need leb (r .0) (length (drop at s)) or 9 then
-      if eqb (joined (take (r .0) (drop at s)) % 2) 0 then ok (1, r .0)
-      else chain (g + 1) (last - g - 1) (drop (r .0) (drop at s)) >>= moved 1 (r .0)) >>= moved count at)
-  whole = sym (c .same) ∙ ap (λ m. m >>= moved count at) (rw er (chain-cons g (last - g) (drop at s) (omega arith)))
+      ≡ ((need leb (m) (length (drop at s)) or 9 then
+      if eqb (joined (take (m) (drop at s)) % 2) 0 then ok (1, m)
+      else chain (g + 1) (last - g - 1) (drop (m) (drop at s)) >>= moved 1 (m)) >>= moved count at)
+  whole = sym (c .same) ∙ ap (λ m. m >>= moved count at) (rw em (chain-cons g (last - g) (drop at s) (omega arith)))
 
-  pub chain-short : length s - at < r .0 → refused 9 0 ≡ chain first (last - first) s
+  pub chain-short : length s - at < m → refused 9 0 ≡ chain first (last - first) s
   unfolding need_or_then_ _>>=_
   chain-short l =
-      let k : length (drop at s) < r .0 = omega (arith, length-drop at s) in
-      sym (whole ∙ rw (lt-leb (r .0) (length (drop at s)) k))
+      let k : length (drop at s) < m = omega (arith, length-drop at s) in
+      sym (whole ∙ rw (lt-leb (m) (length (drop at s)) k))
 
-  module _ (l : r .0 ≤ length s - at) where
-    long : leb (r .0) (length (drop at s)) ≡ true
-    long = le-leb (r .0) (length (drop at s)) (omega (arith, length-drop at s))
+  module _ (l : m ≤ length s - at) where
+    long : leb (m) (length (drop at s)) ≡ true
+    long = le-leb (m) (length (drop at s)) (omega (arith, length-drop at s))
 
-    bit : joined (take (r .0) (drop at s)) % 2 ≡ getD s (at + r .0 - 1) 0 % 2
+    bit : joined (take (m) (drop at s)) % 2 ≡ getD s (at + m - 1) 0 % 2
     bit =
-        let e : at + (r .0 - 1) ≡ at + r .0 - 1 = omega (arith, chain-sound .some) in
-        low-bit (drop at s) (r .0) (chain-sound .some) (omega (arith, length-drop at s)) ∙ ap (λ x. x % 2) (getD-drop at s (r .0 - 1) 0 ∙ ap (λ i. getD s i 0) e)
+        let e : at + (m - 1) ≡ at + m - 1 = omega (arith, chain-some) in
+        low-bit (drop at s) (m) (chain-some) (omega (arith, length-drop at s)) ∙ ap (λ x. x % 2) (getD-drop at s (m - 1) 0 ∙ ap (λ i. getD s i 0) e)
 
-    pub chain-last : eqb (getD s (at + r .0 - 1) 0 % 2) 0 ≡ true → ok (count + 1, at + r .0) ≡ chain first (last - first) s
+    pub chain-last : eqb (getD s (at + m - 1) 0 % 2) 0 ≡ true → ok (count + 1, at + m) ≡ chain first (last - first) s
     unfolding need_or_then_ _>>=_ if_then_else_
     chain-last e =
         let a : 1 + count ≡ count + 1 = omega arith in
-        let b : r .0 + at ≡ at + r .0 = omega arith in
+        let b : m + at ≡ at + m = omega arith in
         sym (whole ∙ rw (long, bit, e, a, b))
 
-    pub chain-more : eqb (getD s (at + r .0 - 1) 0 % 2) 0 ≡ false → Chaining first last s (g + 1) (at + r .0) (count + 1)
+    pub chain-more : eqb (getD s (at + m - 1) 0 % 2) 0 ≡ false → Chaining first last s (g + 1) (at + m) (count + 1)
     unfolding need_or_then_ if_then_else_
     chain-more e =
         let n : last - g - 1 ≡ last - (g + 1) = omega arith in
@@ -110,8 +110,8 @@ module _ (first last : ℕ) (s : List ℕ) (g at count : ℕ) (c : Chaining firs
           sound = subst (λ x. partsSound 1 (g + 1) x ≡ true) n (chain-group .rest);
           same =
               sym (whole ∙ rw (long, bit, e)
-              (moved-twice (chain (g + 1) (last - g - 1) (drop (r .0) (drop at s))) (r .0) count at
-              ∙ rw (drop-drop (r .0) at s, n)));
+              (moved-twice (chain (g + 1) (last - g - 1) (drop (m) (drop at s))) (m) count at
+              ∙ rw (drop-drop (m) at s, n)));
         }
 
 pub chain-past : (first last : ℕ) (s : List ℕ) (g at count : ℕ) → Chaining first last s g at count → last ≤ g → refused 11 0 ≡ chain first (last - first) s
@@ -217,13 +217,13 @@ module _ (l : LayoutRow) (bs : List ℕ) where
   unfolding shapeBy
   fixed-is e = shape-kind 1 e
 
-  pub fixed-cut : l .0 ≡ 1 → {r : GroupRow} → r ≡ groupAt (l .3) → length bs < r .0 → refused 9 0 ≡ shapeOf l bs
+  pub fixed-cut : l .0 ≡ 1 → {m : ℕ} → m ≡ groupAt (l .3) .0 → length bs < m → refused 9 0 ≡ shapeOf l bs
   unfolding need_or_then_
-  fixed-cut e er h = sym (fixed-is e ∙ rw (← er, lt-leb _ _ h))
+  fixed-cut e em h = sym (fixed-is e ∙ rw (← em, lt-leb _ _ h))
 
-  pub fixed-there : l .0 ≡ 1 → {r : GroupRow} → r ≡ groupAt (l .3) → r .0 ≤ length bs → ok (1, r .0) ≡ shapeOf l bs
+  pub fixed-there : l .0 ≡ 1 → {m : ℕ} → m ≡ groupAt (l .3) .0 → m ≤ length bs → ok (1, m) ≡ shapeOf l bs
   unfolding need_or_then_
-  fixed-there e er h = sym (fixed-is e ∙ rw (← er, le-leb _ _ h))
+  fixed-there e em h = sym (fixed-is e ∙ rw (← em, le-leb _ _ h))
 
   pub chain-shape : l .0 ≡ 4 → chain (l .3) (l .4 - l .3) bs ≡ shapeOf l bs
   unfolding shapeBy

@@ -2,7 +2,7 @@
 -- is one that reading and writing can work with.
 --
 -- In order: places; groups; fields. Assumes nothing.
-use Prim.Native.Nat.{ℕ, zero, suc, _+_, _-_, _*_, _≤_, _<_}
+use Prim.Native.Nat.{ℕ, zero, suc, _+_, _-_, _*_, _/_, _%_, _≤_, _<_}
 use mathlib.Core.Path.{_≡_, refl, sym, ap, _∙_, subst}
 use mathlib.Core.Bool.{Bool, true, false, _&&_, not, false≢true}
 use mathlib.Core.Logic.{⊎-elim}
@@ -26,7 +26,8 @@ use Rattle.rules.specs.Entry.{categories, profileAt, over, layoutAs, isItem}
 use Rattle.items.specs.declared.tables.GroupRow.{GroupRow}
 use Rattle.items.specs.declared.tables.LayoutRow.{LayoutRow}
 use Rattle.items.specs.declared.tables.PlaceRow.{PlaceRow}
-use Rattle.items.specs.Tables.{fields, fieldRow, fieldAt, isFree, groups, layouts, groupIs, groupRows, groupAt, layoutRows, layoutBy, layoutIs, layoutAt, nowhere, profileRows, placeRowAt, with, placeIs}
+use Rattle.items.specs.declared.tables.FieldRow.{FieldRow}
+use Rattle.items.specs.Tables.{fields, fieldRow, fieldAt, ranges, least, greatest, fieldWord, fieldWords, groupWord, groupWords, layoutWord, layoutWords, layoutsIn, referencesIn, isFree, groups, layouts, groupIs, groupRows, groupAt, layoutRows, layoutBy, layoutIs, layoutAt, nowhere, profileRows, placeRowAt, with, placeIs}
 use Rattle.items.specs.Answers.{isNamed, frnAs}
 use Rattle.items.specs.Read.{rows, isSpare, holds, partsSound, rowSound}
 
@@ -44,7 +45,7 @@ places-tied = refl
 at-row : {A B : Type 0} (f g : A → B) (l : List A) (i : ℕ) (d : A) → f d ≡ g d → map f l ≡ map g l → f (getD l i d) ≡ g (getD l i d)
 at-row f g l i d e h = sym (List·getD-map f l i d) ∙ ap (λ m. getD m i (f d)) h ∙ ap (getD (map g l) i) e ∙ List·getD-map g l i d
 
-in-row : {A B : Type 0} (f g : A → B) (l : List A) (i : ℕ) (d : A) → i < length l → map f l ≡ map g l → f (getD l i d) ≡ g (getD l i d)
+pub in-row : {A B : Type 0} (f g : A → B) (l : List A) (i : ℕ) (d : A) → i < length l → map f l ≡ map g l → f (getD l i d) ≡ g (getD l i d)
 in-row f g [] i d k h = absurd (not-suc-le-zero k)
 in-row f g (a ∷ l) zero d k h = ap (λ m. getD m 0 (f a)) h
 in-row f g (a ∷ l) (suc i) d k h = in-row f g l i d (le-of-suc-le-suc k) (ap (drop 1) h)
@@ -133,11 +134,11 @@ place-row i = ltb-true (placeRowAt i .0) 51 (at-row (λ r. ltb (r .0) 51) (λ r.
 
 -- ---- what holds of each row of a table, by one test
 
-abbrev every : {A : Type 0} → (A → Bool) → List A → Bool
+abbrev pub every : {A : Type 0} → (A → Bool) → List A → Bool
 every t [] = true
 every t (a ∷ l) = t a && every t l
 
-each : {A : Type 0} (t : A → Bool) (l : List A) (d : A) → every t l ≡ true → (i : ℕ) → i < length l → t (getD l i d) ≡ true
+pub each : {A : Type 0} (t : A → Bool) (l : List A) (d : A) → every t l ≡ true → (i : ℕ) → i < length l → t (getD l i d) ≡ true
 each t [] d h i k = absurd (not-suc-le-zero k)
 each t (a ∷ l) d h zero k = both-left (t a) (every t l) h
 each t (a ∷ l) d h (suc i) k = each t l d (both-right (t a) (every t l) h) i (le-of-suc-le-suc k)
@@ -163,6 +164,54 @@ pub group-free : (g : ℕ) → g < 52 → groupAt g .4 ≡ isFree (slice (groupA
 unfolding groupAt fields groups layouts categories category017 category018
 group-free g h =
     in-row (λ r. r .4) (λ r. isFree (slice (r .1) (r .2) fields)) (groupRows 0 groups) g (0, 0, 0, 0, false) h refl
+
+-- ---- rows as one number
+
+pub getD-map-in : {A B : Type 0} (f : A → B) (l : List A) (i : ℕ) (d : A) (e : B) → i < length l → getD (map f l) i e ≡ f (getD l i d)
+getD-map-in f [] i d e h = absurd (not-suc-le-zero h)
+getD-map-in f (a ∷ l) zero d e h = refl
+getD-map-in f (a ∷ l) (suc i) d e h = getD-map-in f l i d e (le-of-suc-le-suc h)
+
+-- what was put into digits is read from them
+abbrev pub fieldDigits : ℕ → FieldRow
+fieldDigits w = (w / 1_000, w / 100 % 10, getD least (w % 100) (pos 0), getD greatest (w % 100) (pos 0))
+
+abbrev pub groupDigits : ℕ → GroupRow
+groupDigits w = (w / 100_000_000, w / 100_000 % 1_000, w / 100_000 % 1_000 + w / 1_000 % 100, w / 10 % 100, eqb (w % 10) 1)
+
+abbrev pub layoutDigits : ℕ → LayoutRow
+layoutDigits w = (w / 100_000_000, w / 10_000_000 % 10, w / 10_000 % 1_000, w / 10 % 1_000, w / 10 % 1_000 + w % 10)
+
+pub field-digits : (i : ℕ) → i < 113 → fieldDigits (getD fieldWords i 0) ≡ fieldAt i
+unfolding fieldWords fieldAt least greatest ranges fields groups layouts categories category017 category018
+field-digits i h =
+    ap fieldDigits (getD-map-in fieldWord (map fieldRow fields) i (0, 0, pos 0, pos 0) 0 h)
+    ∙ in-row (λ r. fieldDigits (fieldWord r)) (λ r. r) (map fieldRow fields) i (0, 0, pos 0, pos 0) h refl
+
+pub field-range : (i : ℕ) → i < 113 → getD fieldWords i 0 % 100 < 21
+unfolding fieldWords ranges fields groups layouts categories category017 category018
+field-range i h = ltb-true _ 21 (each (λ w. ltb (w % 100) 21) fieldWords 0 refl i h)
+
+pub group-digits : (i : ℕ) → i < 52 → groupDigits (getD groupWords i 0) ≡ groupAt i
+unfolding groupWords groupAt fields groups layouts categories category017 category018
+group-digits i h =
+    ap groupDigits (getD-map-in groupWord (groupRows 0 groups) i (0, 0, 0, 0, false) 0 h)
+    ∙ in-row (λ r. groupDigits (groupWord r)) (λ r. r) (groupRows 0 groups) i (0, 0, 0, 0, false) h refl
+
+pub layout-digits : (i : ℕ) → i < 51 → layoutDigits (getD layoutWords i 0) ≡ layoutAt i
+unfolding layoutWords layoutAt layouts categories category017 category018
+layout-digits zero h = refl
+layout-digits (suc i) h =
+    ap layoutDigits (getD-map-in layoutWord (layoutRows 0 layouts) i (0, 0, 0, 0, 0) 0 (le-of-suc-le-suc h))
+    ∙ in-row (λ r. layoutDigits (layoutWord r)) (λ r. r) (layoutRows 0 layouts) i (0, 0, 0, 0, 0) (le-of-suc-le-suc h) refl
+
+pub layout-in : (i : ℕ) → getD layoutsIn i 0 ≡ placeRowAt i .0
+unfolding layoutsIn placeRowAt
+layout-in i = List·getD-map (λ r. r .0) (profileRows 1 categories) i nowhere
+
+pub reference-in : (i : ℕ) → getD referencesIn i 0 ≡ placeRowAt i .1
+unfolding referencesIn placeRowAt
+reference-in i = List·getD-map (λ r. r .1) (profileRows 1 categories) i nowhere
 
 -- ---- layouts
 

@@ -1,3 +1,5 @@
 pub mod Tables
+pub mod Write
 pub mod Read
 pub mod Answers
+pub mod FieldRules

@@ -82,7 +82,7 @@ holds step g (suc c) = count (rowsAt g) + holds step (g + step) c
 
 -- the tables have a row for each part, and its fields fill its octets, but for the FX bit
 abbrev pub partSound : ℕ → GroupRow → Bool
-partSound step r = leb (r .2) 113 && leb 1 (r .0) && leb (r .0) 8 && eqb (width (rows (r .1) (r .2)) + step) (8 * r .0)
+partSound step r = leb (r .2) 113 && leb 1 (r .0) && leb (r .0) 7 && eqb (width (rows (r .1) (r .2)) + step) (8 * r .0)
 
 unfoldable pub partsSound : ℕ → ℕ → ℕ → Bool
 partsSound step g zero = true
@@ -148,6 +148,12 @@ unfoldable pub wholeOf : LayoutRow → List ℕ → Answer Shaped
 wholeOf l bs = do
   s ← shapeOf l bs
   need partsLegal (stepOf (l .0)) (l .3) (s .0) (drop (headOf (l .0)) bs) or 11 then ok s
+
+-- how many octets it takes
+unfoldable pub wholeSize : LayoutRow → List ℕ → Answer ℕ
+wholeSize l bs = do
+  s ← wholeOf l bs
+  ok (s .1)
 
 -- ---- an item by its row: its shape, then its fields
 

@@ -1,7 +1,7 @@
 -- The tables of the code, as the rules' profiles give them: every field, group and layout of every item, profile after profile and FRN by FRN,
 -- and the row that the code has for each. A table of the code is one of these lists; nothing is transcribed here. Assumes nothing.
 use Prim.Native.Nat.{ℕ, zero, suc, _+_, _-_, _*_, _^_}
-use mathlib.Core.Bool.{Bool, true, false, _&&_}
+use mathlib.Core.Bool.{Bool, true, false, cond, _&&_}
 use mathlib.Core.Option.{Option, none, some}
 use mathlib.Core.List.{List, [], _∷_, _++_, map}
 use lib.Dec.{eqb}
@@ -103,6 +103,60 @@ layoutAt i = getD {A = LayoutRow} ((0, 0, 0, 0, 0) ∷ layoutRows 0 layouts) i (
 
 unfoldable pub placeRowAt : ℕ → PlaceRow
 placeRowAt i = getD (profileRows 1 categories) i nowhere
+
+-- ---- a row as one number, its columns as decimal digits
+
+-- the ranges of the fields, each once, in the order in which they first occur
+abbrev pub sameZ : ℤ → ℤ → Bool
+sameZ (pos a) (pos b) = eqb a b
+sameZ (pos a) (negsuc b) = false
+sameZ (negsuc a) (pos b) = false
+sameZ (negsuc a) (negsuc b) = eqb a b
+
+-- the place of a range in a list, or how long the list is
+abbrev pub rangeIn : List (ℤ × ℤ) → ℤ → ℤ → ℕ
+rangeIn [] low high = 0
+rangeIn (r ∷ rs) low high = cond (sameZ low (r .0) && sameZ high (r .1)) 0 (suc (rangeIn rs low high))
+
+abbrev pub rangesOf : List (ℤ × ℤ) → List FieldRow → List (ℤ × ℤ)
+rangesOf rs [] = rs
+rangesOf rs (f ∷ fs) = rangesOf (cond (eqb (rangeIn rs (f .2) (f .3)) (length rs)) (rs ++ ((f .2, f .3) ∷ [])) rs) fs
+
+unfoldable pub ranges : List (ℤ × ℤ)
+ranges = rangesOf [] (map fieldRow fields)
+
+unfoldable pub least : List ℤ
+least = map (λ r. r .0) ranges
+
+unfoldable pub greatest : List ℤ
+greatest = map (λ r. r .1) ranges
+
+-- bits, what it holds, the place of its range: 2, 1 and 2 digits
+abbrev pub fieldWord : FieldRow → ℕ
+fieldWord r = r .0 * 1_000 + r .1 * 100 + rangeIn ranges (r .2) (r .3)
+
+-- octets, place of the first field, how many fields, how many values, whether it is free: 1, 3, 2, 2 and 1 digits
+abbrev pub groupWord : GroupRow → ℕ
+groupWord r = r .0 * 100_000_000 + r .1 * 100_000 + (r .2 - r .1) * 1_000 + r .3 * 10 + cond (r .4) 1 0
+
+-- how the parts lie, the least and the greatest number of parts, place of the first group, how many groups: 1, 1, 3, 3 and 1 digits
+abbrev pub layoutWord : LayoutRow → ℕ
+layoutWord r = r .0 * 100_000_000 + r .1 * 10_000_000 + r .2 * 10_000 + r .3 * 10 + (r .4 - r .3)
+
+unfoldable pub fieldWords : List ℕ
+fieldWords = map fieldWord (map fieldRow fields)
+
+unfoldable pub groupWords : List ℕ
+groupWords = map groupWord (groupRows 0 groups)
+
+unfoldable pub layoutWords : List ℕ
+layoutWords = 0 ∷ map layoutWord (layoutRows 0 layouts)
+
+unfoldable pub layoutsIn : List ℕ
+layoutsIn = map (λ r. r .0) (profileRows 1 categories)
+
+unfoldable pub referencesIn : List ℕ
+referencesIn = map (λ r. r .1) (profileRows 1 categories)
 
 -- ---- what the rows stand for
 

@@ -1,59 +1,68 @@
--- `items::parts::part_legal` meets its contract. Assumes nothing.
-use Prim.Native.Nat.{ℕ, _≤_, _<_, _+_, _*_, _-_, _/_, _^_}
-use mathlib.Core.Path.{_≡_, refl, sym, ap, _∙_, subst}
+-- `items::parts::part_legal` meets its contract: a part is legal where it obeys the rules of its group. Assumes nothing.
 use native.Mathlib.Omega.{arith}
-use lib.ListN.{length, drop, take}
-use Rattle.rules.specs.Layout.{joined}
-use Rattle.items.specs.declared.tables.GroupRow.{GroupRow}
-use Rattle.items.specs.Tables.{groupAt}
-use Rattle.items.specs.Read.{rows, legal, partSound}
-use Rattle.items.proofs.PartLaws.{PartSound, part-sound, one-part}
+use lib.ListN.{length}
+use Prim.Native.Nat.{_+_, _≤_}
+use mathlib.Core.Path.{_≡_, sym, subst}
+use Rattle.rules.proofs.AnswerLaws.{Octets}
+use Rattle.items.proofs.CheckLaws.{octets-known}
+use Rattle.items.proofs.RuleLaws.{size-few, part-below, rules-few, part-free, part-ruled}
 use borrow.Author.Needs.{needs}
 use Rattle.items.proofs.parts.part_legal.Statement.{statement}
 use Rattle.items.proofs.parts.part_legal.Tie as tie
 use Rattle.items.proofs.parts.part_legal.Reads as reads
 use Rattle.items.proofs.parts.part_legal.Lts as lts
-use Rattle.items.proofs.fields.fields_legal.Reads as fields-legal-reads
+use Rattle.items.proofs.field_rules.are_obeyed.Reads as are-obeyed-reads
+use Rattle.items.proofs.field_rules.first_rule.Reads as first-rule-reads
+use Rattle.items.proofs.field_rules.size_at.Reads as size-at-reads
 use Rattle.items.proofs.parts.number_at.Reads as number-at-reads
-use Rattle.items.proofs.tables.group_at.Reads as group-at-reads
 
--- the group's row is sound
-sound-at : (c : tie.After-group-at) → PartSound (c .before .before .args .step) (c .group-at .result)
-sound-at c =
-    let s = c .before .before in
-    subst (PartSound (s .args .step)) (sym (c .group-at .ensures)) (part-sound (s .args .step) (groupAt (s .args .group)) (s .pre .2))
+-- the octets that the part lies in
+octets-at : (c : tie.After-shared-slice-known) → Octets (c .before .args .s .now)
+octets-at c = octets-known (c .before .args .s .now) (λ i. omega (arith, c .shared-slice-known .given i))
 
-group-at-requires : tie.Need-group-at-requires
-group-at-requires c κs = search needs
+first-rule-requires : tie.Need-first-rule-requires
+first-rule-requires c κs = search needs
 
-mul-w : tie.Need-mul-w
-mul-w c = omega (arith, sound-at c .short)
+add-first-rule : tie.Need-add-first-rule
+add-first-rule c = search needs
 
-sub-w : tie.Need-sub-w
-sub-w c = omega (arith, sound-at c .some)
+first-rule-requires-2 : tie.Need-first-rule-requires-2
+first-rule-requires-2 c κs = search needs
+
+returns : tie.Need-returns
+returns c = part-free _ _ _ _ (octets-at (c .before .before .before)) (c .before .before .before .before .pre .1) (c .before .before .before .before .pre .2) (c .before .before .before .before .pre .3) (c .before .before .first-rule .ensures) (c .before .first-rule2 .ensures) (c .if1 .taken)
+
+size-at-requires : tie.Need-size-at-requires
+size-at-requires c κs = search needs
 
 number-at-requires : tie.Need-number-at-requires
 number-at-requires c κs =
-    let s = c .before .before in
-    (sound-at c .short, subst (λ (r : GroupRow). s .args .at + r .0 ≤ length (s .args .s .now)) (sym (c .group-at .ensures)) (s .pre .3))
+    let s = c .before .before .before .before .before in
+    (size-few _ _ (s .pre .2) (c .size-at .ensures), subst (λ m. s .args .at + m ≤ length (s .args .s .now)) (sym (c .size-at .ensures)) (s .pre .3))
 
-shr-n : tie.Need-shr-n
-shr-n c = search needs
+shr-are-obeyed : tie.Need-shr-are-obeyed
+shr-are-obeyed c = search needs
 
-fields-legal-requires : tie.Need-fields-legal-requires
-fields-legal-requires c κs =
-    let r = c .before .group-at .result in
-    let o = one-part (c .before .before .before .args .step) r (c .number-at .result) (sound-at (c .before)) (c .number-at .ensures .1) in
-    ((sound-at (c .before) .inside, o .wide), (o .few, o .small))
+are-obeyed-requires : tie.Need-are-obeyed-requires
+are-obeyed-requires c κs = (
+  rules-few _ (c .before .before .before .before .before .before .pre .1) (c .before .before .before .first-rule2 .ensures),
+  part-below _ _ (c .before .before .before .before .before .before .pre .2) _ _ (c .before .size-at .ensures) (c .number-at .ensures .1),
+)
 
-returns : tie.Need-returns
-returns c =
-    let s = c .before .before .before .before in
-    c .fields-legal .ensures
-    ∙ ap (λ n. legal (rows (c .before .before .group-at .result .1) (c .before .before .group-at .result .2)) (n / 2 ^ s .args .step)) (c .before .number-at .ensures .0)
-    ∙ ap (λ (r : GroupRow). legal (rows (r .1) (r .2)) (joined (take (r .0) (drop (s .args .at) (s .args .s .now))) / 2 ^ s .args .step)) (c .before .before .group-at .ensures)
+returns-2 : tie.Need-returns-2
+returns-2 c =
+    part-ruled _ _ _ _ (octets-at (c .before .before .before .before .before .before)) (c .before .before .before .before .before .before .before .pre .1) (c .before .before .before .before .before .before .before .pre .2) (c .before .before .before .before .before .before .before .pre .3) (c .before .before .before .before .before .first-rule .ensures) (c .before .before .before .before .first-rule2 .ensures) (c .before .before .size-at .ensures) (c .before .number-at .ensures .0) (c .are-obeyed .ensures)
 
 pub part-legal-spec : {M : Type 1} → statement M
 part-legal-spec =
     tie.close
-    (tie.spec group-at-requires mul-w sub-w number-at-requires shr-n fields-legal-requires returns)
+    (tie.spec
+    first-rule-requires
+    add-first-rule
+    first-rule-requires-2
+    returns
+    size-at-requires
+    number-at-requires
+    shr-are-obeyed
+    are-obeyed-requires
+    returns-2)

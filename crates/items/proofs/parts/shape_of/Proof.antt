@@ -10,7 +10,7 @@ use Rattle.items.proofs.parts.shape_of.Lts as lts
 use Rattle.items.proofs.parts.chain_of.Reads as chain-of-reads
 use Rattle.items.proofs.parts.list_of.Reads as list-of-reads
 use Rattle.items.proofs.parts.octet.Reads as octet-reads
-use Rattle.items.proofs.tables.group_at.Reads as group-at-reads
+use Rattle.items.proofs.field_rules.size_at.Reads as size-at-reads
 
 list-at : (c : tie.Else6) → c .before .before .before .before .before .before .before .before .args .l .0 ≡ 2
 list-at c = a-list _ (rowed _ (c .before .before .before .before .before .before .before .before .pre)) (c .before .before .before .before .before .before .if1 .left) (c .before .before .before .before .before .if2 .left) (c .before .before .before .before .if4 .left) (c .if6 .left)
@@ -18,14 +18,14 @@ list-at c = a-list _ (rowed _ (c .before .before .before .before .before .before
 returns : tie.Need-returns
 returns c = no-shape _ _ (c .if1 .taken)
 
-group-at-requires : tie.Need-group-at-requires
-group-at-requires c κs = fixed-group _ (rowed _ (c .before .before .before .pre)) (c .if2 .taken) .inside
+size-at-requires : tie.Need-size-at-requires
+size-at-requires c κs = fixed-group _ (rowed _ (c .before .before .before .pre)) (c .if2 .taken) .inside
 
 returns-2 : tie.Need-returns-2
-returns-2 c = fixed-cut _ _ (c .before .before .before .if2 .taken) (c .before .before .group-at .ensures) (c .if3 .taken)
+returns-2 c = fixed-cut _ _ (c .before .before .if2 .taken) (c .before .size-at .ensures) (c .if3 .taken)
 
 returns-3 : tie.Need-returns-3
-returns-3 c = fixed-there _ _ (c .before .before .before .if2 .taken) (c .before .before .group-at .ensures) (c .if3 .left)
+returns-3 c = fixed-there _ _ (c .before .before .if2 .taken) (c .before .size-at .ensures) (c .if3 .left)
 
 chain-of-requires : tie.Need-chain-of-requires
 chain-of-requires c κs = (chain-inside _ (rowed _ (c .before .before .before .before .pre)) (c .if4 .taken), chain-parts _ (rowed _ (c .before .before .before .before .pre)) (c .if4 .taken))
@@ -66,7 +66,7 @@ shape-of-spec =
     tie.close
     (tie.spec
     returns
-    group-at-requires
+    size-at-requires
     returns-2
     returns-3
     chain-of-requires

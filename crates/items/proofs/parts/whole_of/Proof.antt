@@ -14,7 +14,7 @@ use Rattle.items.proofs.parts.whole_of.Lts as lts
 use Rattle.items.proofs.parts.head_of.Reads as head-of-reads
 use Rattle.items.proofs.parts.parts_legal.Reads as parts-legal-reads
 use Rattle.items.proofs.parts.shape_of.Reads as shape-of-reads
-use Rattle.items.proofs.tables.group_at.Reads as group-at-reads
+use Rattle.items.proofs.field_rules.is_free.Reads as is-free-reads
 
 -- the octets of the item
 octets-at : (c : tie.After-shared-slice-known) → Octets (c .before .args .s .now)
@@ -48,11 +48,11 @@ returns-2 c = chain-legal _ _ _ _ (shape-at (c .before .before .before)) (c .bef
 returns-3 : tie.Need-returns-3
 returns-3 c = chain-barred _ _ _ _ (shape-at (c .before .before .before)) (c .before .before .before .before .before .before .before .before .pre) (octets-at (c .before .before .before .before .before .before .before)) (c .before .before .if1 .taken) (c .before .parts-legal .ensures) (c .if2 .left)
 
-group-at-requires : tie.Need-group-at-requires
-group-at-requires c κs = group-at _ _ _ _ (shape-at (c .before)) (c .before .before .before .before .before .before .pre) (octets-at (c .before .before .before .before .before)) (c .if1 .left) .inside
+is-free-requires : tie.Need-is-free-requires
+is-free-requires c κs = group-at _ _ _ _ (shape-at (c .before)) (c .before .before .before .before .before .before .pre) (octets-at (c .before .before .before .before .before)) (c .if1 .left) .inside
 
 returns-4 : tie.Need-returns-4
-returns-4 c = equal-free _ _ _ _ (shape-at (c .before .before .before)) (c .before .before .before .before .before .before .before .before .pre) (octets-at (c .before .before .before .before .before .before .before)) (c .before .before .if1 .left) (c .before .group-at .ensures) (c .if3 .taken)
+returns-4 c = equal-free _ _ _ _ (shape-at (c .before .before .before)) (c .before .before .before .before .before .before .before .before .pre) (octets-at (c .before .before .before .before .before .before .before)) (c .before .before .if1 .left) (c .before .is-free .ensures) (c .if3 .taken)
 
 head-of-requires : tie.Need-head-of-requires
 head-of-requires c κs = search needs
@@ -79,7 +79,7 @@ whole-of-spec =
     parts-legal-requires
     returns-2
     returns-3
-    group-at-requires
+    is-free-requires
     returns-4
     head-of-requires
     parts-legal-requires-2

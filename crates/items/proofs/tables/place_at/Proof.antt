@@ -1,22 +1,25 @@
--- `items::tables::place_at` meets its contract: the code's table is, row by row, the one that the rules' profiles give. Assumes nothing.
-use mathlib.Core.Path.{refl}
+-- `items::tables::place_at` meets its contract. Assumes nothing.
+use mathlib.Core.Path.{ap, _∙_}
+use Rattle.items.proofs.TableLaws.{layout-in, reference-in}
 use borrow.Author.Needs.{needs}
-use Rattle.rules.specs.Entry.{categories}
-use Rattle.rules.specs.Category017.{category017}
-use Rattle.rules.specs.Category018.{category018}
-use Rattle.items.specs.Tables.{placeRowAt}
 use Rattle.items.proofs.tables.place_at.Statement.{statement}
 use Rattle.items.proofs.tables.place_at.Tie as tie
+use Rattle.items.proofs.tables.place_at.Reads as reads
+use Rattle.items.proofs.tables.place_at.Lts as lts
+use Rattle.items.proofs.tables.layout_in.Reads as layout-in-reads
+use Rattle.items.proofs.tables.reference_in.Reads as reference-in-reads
 
-mul-result : tie.Need-mul-result
-mul-result c = search needs
+layout-in-requires : tie.Need-layout-in-requires
+layout-in-requires c κs = search needs
 
-array-copy-out-result : tie.Need-array-copy-out-result
-array-copy-out-result c = search needs
+cast-t3 : tie.Need-cast-t3
+cast-t3 c = search needs
+
+reference-in-requires : tie.Need-reference-in-requires
+reference-in-requires c κs = search needs
 
 returns : tie.Need-returns
-unfolding placeRowAt categories category017 category018
-returns c = refl
+returns c = rw (c .before .layout-in .ensures, c .reference-in .ensures, layout-in, reference-in)
 
 pub place-at-spec : {M : Type 1} → statement M
-place-at-spec = tie.close (tie.spec mul-result array-copy-out-result returns)
+place-at-spec = tie.close (tie.spec layout-in-requires cast-t3 reference-in-requires returns)

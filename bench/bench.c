@@ -1,0 +1,343 @@
+/* bench [ROUNDS]: how fast recordings are checked, and how long finding, reading and writing take.
+ *
+ * Each round lets every checker go once over the whole of the same recording in memory, one after another, so that
+ * what disturbs the machine disturbs them all alike. Printed: the best round and the median; MB is 10^6 bytes.
+ * Before anything is timed the answers are compared.
+ *
+ * State of the buffers: a recording is made and then gone over once by each checker before it is timed, so pages
+ * are mapped, and what fits the caches is in them (what the largest does is said by its size). Single calls are
+ * timed over the same few thousand inputs again and again; they and the outputs are in the nearest cache, and no
+ * output is cleared between calls.
+ *
+ * Built with -DLIBRARY it times the functions of include/asterix.h too. */
+#include <stdbool.h>
+#include <stdio.h>
+#include <stdlib.h>
+#include <string.h>
+#include <time.h>
+
+#include "../tests/c/generate.h"
+#include "baseline.h"
+
+#ifdef LIBRARY
+#include "asterix.h"
+
+static void check_recording_library(const uint8_t *p, size_t n, struct answer *out)
+{
+    struct asterix_recording_checked checked = asterix_check_recording(p, n);
+    *out = (struct answer){ checked.number, checked.place, checked.blocks, checked.records };
+}
+#endif
+
+enum { SEED = 1718, MOST_ROUNDS = 1000, MB = 1000000 };
+
+struct checker {
+    const char *name;
+    void (*check)(const uint8_t *p, size_t n, struct answer *out);
+    double took[MOST_ROUNDS]; /* ns, by round */
+    double best, median;
+};
+
+static struct checker checkers[] = {
+    { "fastest C", check_recording, { 0 }, 0, 0 },
+    { "table-driven C", check_recording_plain, { 0 }, 0, 0 },
+#ifdef LIBRARY
+    { "library", check_recording_library, { 0 }, 0, 0 },
+#endif
+};
+
+enum { FASTEST, TABLE, PROVED, CHECKERS = sizeof checkers / sizeof *checkers };
+
+static double now(void)
+{
+    struct timespec t;
+    clock_gettime(CLOCK_MONOTONIC, &t);
+    return (double)t.tv_sec * 1e9 + (double)t.tv_nsec;
+}
+
+static int ascending(const void *a, const void *b)
+{
+    double x = *(const double *)a, y = *(const double *)b;
+    return (x > y) - (x < y);
+}
+
+static void *need(void *memory)
+{
+    if (!memory) {
+        fputs("bench: no memory\n", stderr);
+        exit(2);
+    }
+    return memory;
+}
+
+static void same(const struct answer *a, const struct answer *b, const char *name)
+{
+    if (a->number != b->number || a->place != b->place || a->blocks != b->blocks || a->records != b->records) {
+        printf("bench: %s answers otherwise\n", name);
+        exit(1);
+    }
+}
+
+/* Times every checker over a recording; answers how many records it has. */
+static size_t time_checkers(const uint8_t *recording, size_t n, size_t rounds)
+{
+    struct answer first[CHECKERS];
+    for (size_t i = 0; i < CHECKERS; i++) {
+        checkers[i].check(recording, n, &first[i]);
+        same(&first[0], &first[i], checkers[i].name);
+    }
+    if (first[0].number) {
+        printf("bench: the recording is refused %lu at %lu\n", (unsigned long)first[0].number,
+               (unsigned long)first[0].place);
+        exit(1);
+    }
+    for (size_t r = 0; r < rounds; r++)
+        for (size_t i = 0; i < CHECKERS; i++) {
+            struct answer a;
+            double start = now();
+            checkers[i].check(recording, n, &a);
+            checkers[i].took[r] = now() - start;
+            same(&first[0], &a, checkers[i].name);
+        }
+    for (size_t i = 0; i < CHECKERS; i++) {
+        qsort(checkers[i].took, rounds, sizeof *checkers[i].took, ascending);
+        checkers[i].best = checkers[i].took[0];
+        checkers[i].median = checkers[i].took[rounds / 2];
+    }
+    return (size_t)first[0].records;
+}
+
+/* ---- A recording of 4 MB, and what damaged ones are answered */
+
+static void bench_recording(const uint8_t *recording, size_t n, size_t rounds)
+{
+    size_t records = time_checkers(recording, n, rounds);
+    printf("checking a recording: %zu bytes, %zu records, %zu rounds\n", n, records, rounds);
+    printf("  %-16s %12s %12s %14s\n", "", "best MB/s", "median MB/s", "ns a record");
+    for (size_t i = 0; i < CHECKERS; i++)
+        printf("  %-16s %12.0f %12.0f %14.1f\n", checkers[i].name, (double)n * 1000 / checkers[i].best,
+               (double)n * 1000 / checkers[i].median, checkers[i].best / (double)records);
+#ifdef LIBRARY
+    printf("  library to table-driven C %.2f, to fastest C %.2f (best rounds; more than 1: the library is faster)\n",
+           checkers[TABLE].best / checkers[PROVED].best, checkers[FASTEST].best / checkers[PROVED].best);
+#endif
+}
+
+/* Of a refused recording the work ends at the fault. The answers are compared over many damaged recordings:
+ * nothing is timed. */
+static void compare_damaged(struct chance *c)
+{
+    static uint8_t bytes[4000 + 8];
+    size_t refused = 0, tries = 20000;
+    for (size_t i = 0; i < tries; i++) {
+        size_t n = make_recording(c, bytes, between(c, 100, 4000));
+        struct answer first, other;
+        for (size_t k = below(c, 3); k > 0; k--)
+            damage(c, bytes, &n);
+        if (n > 4000)
+            n = 4000;
+        check_recording(bytes, n, &first);
+        refused += first.number != 0;
+        for (size_t k = 1; k < CHECKERS; k++) {
+            checkers[k].check(bytes, n, &other);
+            same(&first, &other, checkers[k].name);
+        }
+    }
+    printf("%zu recordings, %zu of them refused: answered alike by all\n", tries, refused);
+}
+
+/* ---- How the cost grows */
+
+static void bench_growth(const uint8_t *recording, const size_t *ends, size_t rounds)
+{
+    printf("growth: MB/s of the best of %zu rounds, by the recording's size\n  %-16s", rounds, "");
+    for (size_t size = 1; size <= 64; size *= 2)
+        printf("%5zu MB", size);
+    printf("\n");
+    double speed[CHECKERS][7];
+    for (size_t k = 0; k < 7; k++) {
+        time_checkers(recording, ends[k], rounds);
+        for (size_t i = 0; i < CHECKERS; i++)
+            speed[i][k] = (double)ends[k] * 1000 / checkers[i].best;
+    }
+    for (size_t i = 0; i < CHECKERS; i++) {
+        printf("  %-16s", checkers[i].name);
+        for (size_t k = 0; k < 7; k++)
+            printf("%8.0f", speed[i][k]);
+        printf("\n");
+    }
+}
+
+#ifdef LIBRARY
+/* ---- Single calls */
+
+enum { ITEMS = 4000, MOST = 1100 };
+
+struct sample {
+    uint8_t category;
+    uint16_t reference;
+    size_t length, count;
+    uint8_t octets[MOST];
+    int64_t fields[520];
+};
+
+static struct sample *samples;
+static volatile size_t sink;
+
+/* The items of legal records, found by the library itself. */
+static void take_samples(struct chance *c)
+{
+    static uint8_t block[65536];
+    static int64_t fields[ASTERIX_FIELDS];
+    size_t n = 0;
+    samples = need(calloc(ITEMS, sizeof *samples));
+    while (n < ITEMS) {
+        unsigned category = 17 + (unsigned)below(c, 2);
+        size_t have = make_block(c, category, 1, false, block, 16000);
+        for (uint16_t reference = 0; reference < 400 && n < ITEMS; reference++) {
+            struct asterix_item_found item = asterix_find_item(block, have, reference, 0);
+            if (item.number)
+                continue;
+            struct asterix_item_read read =
+                asterix_read_item((uint8_t)category, reference, block + item.start, item.length, fields);
+            struct sample *s = &samples[n++];
+            s->category = (uint8_t)category;
+            s->reference = reference;
+            s->length = item.length;
+            s->count = read.count;
+            memcpy(s->octets, block + item.start, item.length);
+            memcpy(s->fields, fields, read.count * sizeof *fields);
+        }
+    }
+}
+
+/* Runs `all` a few times, and prints the least time of one of its calls. */
+static void time_calls(const char *name, size_t (*all)(void), const char *of)
+{
+    double best = 0;
+    size_t calls = 0;
+    for (size_t r = 0; r < 15; r++) {
+        double start = now();
+        calls = all();
+        double took = (now() - start) / (double)calls;
+        if (r == 0 || took < best)
+            best = took;
+    }
+    printf("  %-14s %10.1f   %s\n", name, best, of);
+}
+
+static int64_t read_fields[ASTERIX_FIELDS];
+
+static size_t read_all(void)
+{
+    for (size_t i = 0; i < ITEMS; i++)
+        sink += asterix_read_item(samples[i].category, samples[i].reference, samples[i].octets, samples[i].length,
+                                  read_fields)
+                    .count;
+    return ITEMS;
+}
+
+static size_t write_all(void)
+{
+    static uint8_t out[MOST];
+    for (size_t i = 0; i < ITEMS; i++)
+        sink += asterix_write_item(samples[i].category, samples[i].reference, samples[i].fields, samples[i].count,
+                                   out, sizeof out)
+                    .length;
+    return ITEMS;
+}
+
+static uint8_t found_block[65536];
+static size_t found_len, found_records;
+
+/* Every item of the last record. */
+static size_t find_all(void)
+{
+    size_t calls = 0;
+    for (size_t i = 0; i < 200; i++)
+        for (uint16_t reference = 0; reference < 38; reference++, calls++)
+            sink += asterix_find_item(found_block, found_len, reference, found_records - 1).start;
+    return calls;
+}
+
+static size_t find_records(void)
+{
+    for (size_t i = 0; i < 2000; i++)
+        sink += asterix_find_record(found_block, found_len, found_records - 1).start;
+    return 2000;
+}
+
+static size_t add_all(void)
+{
+    /* Keep_alive: source, destination, type 05 */
+    static const uint8_t items[5] = { 1, 2, 3, 4, 5 };
+    static uint8_t out[2000];
+    const uint64_t frns = asterix_frn(1) | asterix_frn(2) | asterix_frn(3);
+    for (size_t i = 0; i < 200; i++) {
+        size_t used = 3;
+        memcpy(out, "\x12\x00\x03", 3);
+        for (size_t n = 0; n < 10; n++)
+            used = asterix_add_record(out, sizeof out, used, frns, items, sizeof items).length;
+        sink += used;
+    }
+    return 2000;
+}
+
+static size_t lengths_all(void)
+{
+    for (unsigned octet = 0; octet < 256; octet++)
+        for (size_t place = 0; place < 5; place++)
+            sink += asterix_least_length(18, place, (uint8_t)octet);
+    return 5 * 256;
+}
+
+static void bench_calls(struct chance *c)
+{
+    char of[120];
+    take_samples(c);
+    size_t octets = 0, fields = 0;
+    for (size_t i = 0; i < ITEMS; i++) {
+        octets += samples[i].length;
+        fields += samples[i].count;
+    }
+    printf("single calls, best of 15 runs\n  %-14s %10s\n", "", "ns a call");
+    snprintf(of, sizeof of, "items as they come in records: %.1f octets, %.1f fields on average",
+             (double)octets / ITEMS, (double)fields / ITEMS);
+    time_calls("read_item", read_all, of);
+    time_calls("write_item", write_all, of);
+    for (size_t records = 1; records <= 100; records *= 10) {
+        found_len = make_block(c, 18, records, false, found_block, 65535);
+        found_records = asterix_check_block(found_block, found_len).records;
+        snprintf(of, sizeof of, "in the last of %zu records, a block of %zu octets, which is checked whole first",
+                 found_records, found_len);
+        time_calls("find_item", find_all, of);
+        time_calls("find_record", find_records, of);
+    }
+    time_calls("add_record", add_all, "to a block of 0 to 9 short records, which is checked whole first");
+    time_calls("least_length", lengths_all, "every FSPEC octet of category 018");
+}
+#endif
+
+int main(int argc, char **argv)
+{
+    size_t rounds = argc > 1 ? (size_t)strtoull(argv[1], NULL, 10) : 41;
+    if (rounds < 1 || rounds > MOST_ROUNDS)
+        rounds = 41;
+    struct chance c = { SEED };
+
+    /* one recording of 64 MB; the smaller ones are its start, up to a block's end */
+    size_t room = 64 * (size_t)MB, size = 0, ends[7];
+    uint8_t *recording = need(malloc(room));
+    for (size_t k = 0; k < 7; k++) {
+        size += make_recording(&c, recording + size, ((size_t)MB << k) - size);
+        ends[k] = size;
+    }
+    bench_recording(recording, ends[2], rounds);
+    compare_damaged(&c);
+    bench_growth(recording, ends, rounds < 9 ? rounds : 9);
+#ifdef LIBRARY
+    bench_calls(&c);
+#endif
+    free(recording);
+    return 0;
+}

@@ -1,0 +1,471 @@
+//! ASTERIX categories 017 (Mode S Surveillance Coordination Function Messages, edition 1.3) and 018
+//! (Mode S Datalink Function Messages, edition 1.6): checking, finding, reading and writing.
+//!
+//! The work is done by the proved library, the archive that `rt staticlib asterix` writes; this
+//! crate gives it safe functions on slices. Any bytes may be given to any function. Each either
+//! does its work or refuses, with one of 21 [`Refusal`]s and a place; a refused call changes no
+//! byte that was lent to it. Nothing is allocated, and nothing is kept between calls.
+//!
+//! ```
+//! use asterix::{check_block, find_item, read_item, Refusal, FIELDS};
+//!
+//! // Category 017, one record: source 25/3, destination 25/6, message type 20, aircraft 4CA1B2.
+//! let block = [0x11, 0x00, 0x0C, 0xE8, 25, 3, 25, 6, 20, 0x4C, 0xA1, 0xB2];
+//! assert_eq!(check_block(&block), Ok(1));
+//!
+//! // I017/220 of the first record is a part of the block; it has one field.
+//! let item = find_item(&block, 220, 0)?;
+//! assert_eq!(item, &block[9..12]);
+//! let mut fields = [0; FIELDS];
+//! assert_eq!(read_item(17, 220, item, &mut fields)?, &[0x4CA1B2]);
+//!
+//! // A block whose last item is cut is refused, where that item starts.
+//! let refused = check_block(&[0x11, 0x00, 0x0B, 0xE8, 25, 3, 25, 6, 20, 0x4C, 0xA1]).unwrap_err();
+//! assert_eq!((refused.why, refused.place), (Refusal::ItemCut, 9));
+//! # Ok::<(), asterix::Refused>(())
+//! ```
+//!
+//! The archive links into x86-64 Linux programs. `build.rs` looks for it in the repository's
+//! target/staticlib, or in the folder that `ASTERIX_LIB_DIR` names. The fields of each item, in
+//! their order, are listed at the end of `include/asterix.h` and in docs/FIELDS.md.
+#![deny(missing_docs)]
+
+use std::{error, fmt};
+
+mod raw;
+
+// ---- Refusals
+
+/// Why a call was refused. The numbers are those of the scope paper and of `include/asterix.h`.
+///
+/// Where a place is said to be a block's, a record's or an item's, it is where that starts, counted
+/// from the start of the bytes lent.
+#[derive(Clone, Copy, Debug, PartialEq, Eq, Hash)]
+#[repr(u8)]
+pub enum Refusal {
+    /// 1: fewer than three bytes where a block should start. Its place is the block's.
+    HeadCut = 1,
+    /// 2: CAT is neither 17 nor 18. Its place is the block's.
+    Category = 2,
+    /// 3: LEN is under 3, or not the length lent (in a recording: more than is left). Its place is
+    /// the block's.
+    Len = 3,
+    /// 4: LEN is 3, so the block has no record. Its place is the block's.
+    NoRecord = 4,
+    /// 5: the FSPEC is cut by the block's end. Its place is the record's.
+    FspecCut = 5,
+    /// 6: FX is set in the last FSPEC octet that the profile allows. Its place is the record's.
+    FspecLong = 6,
+    /// 7: the last FSPEC octet has no presence bit. Its place is the record's.
+    FspecEmpty = 7,
+    /// 8: a presence bit for an FRN that has no item. Its place is the record's.
+    FrnUnusable = 8,
+    /// 9: an item, its count or its length octet is cut by the end. Its place is the item's.
+    ItemCut = 9,
+    /// 10: a length octet under the least that its item allows. Its place is the item's.
+    LengthOctet = 10,
+    /// 11: a field outside its range, a spare bit set, or a list empty that may not be. Its place
+    /// is the item's.
+    Field = 11,
+    /// 12: the record has no message type item. Its place is the record's.
+    TypeAbsent = 12,
+    /// 13: the message type is not one of the document's. Its place is the record's.
+    TypeUnknown = 13,
+    /// 14: an item is absent that this message type must have. Its place is the record's.
+    ItemMissing = 14,
+    /// 15: an item is present that this message type doesn't send. Its place is the record's.
+    ItemUnsent = 15,
+    /// 16: the lent output is too short. Its place is 0.
+    NoRoom = 16,
+    /// 17: the block would pass 65,535 bytes. Its place is 0.
+    BlockFull = 17,
+    /// 18: bytes are left after the last item named, or after the one item read. Its place is the
+    /// first of them.
+    BytesLeft = 18,
+    /// 19: the block has no record with that number. Its place is 0.
+    NoSuchRecord = 19,
+    /// 20: the record does not have that item. Its place is the record's.
+    ItemAbsent = 20,
+    /// 21: the category has no item with that reference. Its place is 0.
+    NoSuchItem = 21,
+}
+
+impl Refusal {
+    const ALL: [Refusal; 21] = [
+        Refusal::HeadCut,
+        Refusal::Category,
+        Refusal::Len,
+        Refusal::NoRecord,
+        Refusal::FspecCut,
+        Refusal::FspecLong,
+        Refusal::FspecEmpty,
+        Refusal::FrnUnusable,
+        Refusal::ItemCut,
+        Refusal::LengthOctet,
+        Refusal::Field,
+        Refusal::TypeAbsent,
+        Refusal::TypeUnknown,
+        Refusal::ItemMissing,
+        Refusal::ItemUnsent,
+        Refusal::NoRoom,
+        Refusal::BlockFull,
+        Refusal::BytesLeft,
+        Refusal::NoSuchRecord,
+        Refusal::ItemAbsent,
+        Refusal::NoSuchItem,
+    ];
+
+    /// The refusal with a number, 1 to 21.
+    ///
+    /// ```
+    /// use asterix::Refusal;
+    /// assert_eq!(Refusal::from_number(9), Some(Refusal::ItemCut));
+    /// assert_eq!(Refusal::from_number(0), None);
+    /// assert_eq!(Refusal::from_number(22), None);
+    /// ```
+    pub fn from_number(number: u8) -> Option<Refusal> {
+        Refusal::ALL.get(usize::from(number).checked_sub(1)?).copied()
+    }
+
+    /// Its number, 1 to 21.
+    pub fn number(self) -> u8 {
+        self as u8
+    }
+}
+
+impl fmt::Display for Refusal {
+    fn fmt(&self, f: &mut fmt::Formatter<'_>) -> fmt::Result {
+        f.write_str(match self {
+            Refusal::HeadCut => "fewer than three bytes where a block should start",
+            Refusal::Category => "CAT is neither 17 nor 18",
+            Refusal::Len => "LEN is not the block's length",
+            Refusal::NoRecord => "the block has no record",
+            Refusal::FspecCut => "the FSPEC is cut",
+            Refusal::FspecLong => "FX is set in the last FSPEC octet allowed",
+            Refusal::FspecEmpty => "the last FSPEC octet has no presence bit",
+            Refusal::FrnUnusable => "a presence bit for an FRN without an item",
+            Refusal::ItemCut => "an item is cut",
+            Refusal::LengthOctet => "a length octet is too small",
+            Refusal::Field => "a field or spare bit is outside its rule",
+            Refusal::TypeAbsent => "the record has no message type",
+            Refusal::TypeUnknown => "the message type is unknown",
+            Refusal::ItemMissing => "a compulsory item is absent",
+            Refusal::ItemUnsent => "an item is present that the message type doesn't send",
+            Refusal::NoRoom => "the output is too short",
+            Refusal::BlockFull => "the block would pass 65,535 bytes",
+            Refusal::BytesLeft => "bytes are left",
+            Refusal::NoSuchRecord => "there is no record with that number",
+            Refusal::ItemAbsent => "the record does not have that item",
+            Refusal::NoSuchItem => "the category has no item with that reference",
+        })
+    }
+}
+
+/// A refusal with its place.
+#[derive(Clone, Copy, Debug, PartialEq, Eq, Hash)]
+pub struct Refused {
+    /// Why.
+    pub why: Refusal,
+    /// Where, counted from the start of the bytes lent.
+    pub place: usize,
+}
+
+impl Refused {
+    // What an answer of the library says: 0 is no refusal, and its contracts give no number above 21.
+    fn answer(number: u8, place: usize) -> Result<(), Refused> {
+        if number == 0 {
+            return Ok(());
+        }
+        let why = Refusal::from_number(number).expect("a number that the library gives");
+        Err(Refused { why, place })
+    }
+}
+
+impl fmt::Display for Refused {
+    fn fmt(&self, f: &mut fmt::Formatter<'_>) -> fmt::Result {
+        write!(f, "refused {} at {}: {}", self.why.number(), self.place, self.why)
+    }
+}
+
+impl error::Error for Refused {}
+
+// ---- Checking
+
+/// Checks a single block, which is all of `block`, and answers how many records it has.
+///
+/// Refuses by 1 to 15.
+///
+/// ```
+/// use asterix::{check_block, Refusal};
+/// let refused = check_block(&[0x11, 0x00, 0x03]).unwrap_err();
+/// assert_eq!((refused.why, refused.place), (Refusal::NoRecord, 0));
+/// ```
+pub fn check_block(block: &[u8]) -> Result<usize, Refused> {
+    let checked = raw::check_block(block);
+    Refused::answer(checked.number, checked.place)?;
+    Ok(checked.records)
+}
+
+/// What a recording has.
+#[derive(Clone, Copy, Debug, Default, PartialEq, Eq, Hash)]
+pub struct Counts {
+    /// How many blocks.
+    pub blocks: usize,
+    /// How many records, in all of them.
+    pub records: usize,
+}
+
+/// Checks a recording: blocks end to end and nothing else. An empty one is accepted.
+///
+/// Refuses by 1 to 15; the place counts from the recording's start.
+///
+/// ```
+/// use asterix::{check_recording, Counts};
+/// assert_eq!(check_recording(&[]), Ok(Counts { blocks: 0, records: 0 }));
+/// ```
+pub fn check_recording(recording: &[u8]) -> Result<Counts, Refused> {
+    let checked = raw::check_recording(recording);
+    Refused::answer(checked.number, checked.place)?;
+    Ok(Counts {
+        blocks: checked.blocks,
+        records: checked.records,
+    })
+}
+
+// ---- Finding
+
+/// A record of a block, and its record map: where each of its items starts.
+#[derive(Clone, Copy, Debug, PartialEq, Eq)]
+pub struct Record<'a> {
+    /// The record's octets, its FSPEC first: a part of the block.
+    pub octets: &'a [u8],
+    /// Where the record starts, counted from the block's start.
+    pub start: usize,
+    /// How many items it has.
+    pub count: usize,
+    starts: [u16; FRNS],
+}
+
+/// How many places a record map has: the last field reference number (FRN) of the longest profile.
+pub const FRNS: usize = 35;
+
+impl Record<'_> {
+    /// Where the item with a field reference number starts, counted from the block's start; `None`
+    /// where the record does not have it.
+    pub fn item_start(&self, frn: usize) -> Option<usize> {
+        match self.starts.get(frn.checked_sub(1)?) {
+            None | Some(0) => None,
+            Some(&start) => Some(usize::from(start)),
+        }
+    }
+
+    /// Where the record ends, counted from the block's start.
+    pub fn end(&self) -> usize {
+        self.start + self.octets.len()
+    }
+}
+
+/// Finds record `n`, from 0, of a single block.
+///
+/// The whole block is checked first: 1 to 15; then 19.
+///
+/// ```
+/// use asterix::find_record;
+/// let block = [0x11, 0x00, 0x0C, 0xE8, 25, 3, 25, 6, 20, 0x4C, 0xA1, 0xB2];
+/// let record = find_record(&block, 0)?;
+/// assert_eq!(record.octets, &block[3..]);
+/// assert_eq!((record.count, record.item_start(5), record.item_start(4)), (4, Some(9), None));
+/// # Ok::<(), asterix::Refused>(())
+/// ```
+pub fn find_record(block: &[u8], n: usize) -> Result<Record<'_>, Refused> {
+    let found = raw::find_record(block, n);
+    Refused::answer(found.number, found.place)?;
+    Ok(Record {
+        octets: &block[found.start..found.start + found.length],
+        start: found.start,
+        count: found.count,
+        starts: found.starts,
+    })
+}
+
+/// Finds the item with a reference (45 for I017/045) in record `n`, from 0, of a single block: that
+/// part of the block.
+///
+/// The whole block is checked first: 1 to 15; then 21, 19, 20.
+///
+/// ```
+/// use asterix::{find_item, Refusal};
+/// let block = [0x11, 0x00, 0x0C, 0xE8, 25, 3, 25, 6, 20, 0x4C, 0xA1, 0xB2];
+/// assert_eq!(find_item(&block, 10, 0), Ok(&[25, 3][..]));
+/// assert_eq!(find_item(&block, 45, 0).unwrap_err().why, Refusal::ItemAbsent);
+/// ```
+pub fn find_item(block: &[u8], reference: u16, n: usize) -> Result<&[u8], Refused> {
+    let found = raw::find_item(block, reference, n);
+    Refused::answer(found.number, found.place)?;
+    Ok(&block[found.start..found.start + found.length])
+}
+
+// ---- One item
+
+/// How many numbers are lent for the fields of one item. No item of these categories has more than
+/// 510.
+pub const FIELDS: usize = 8192;
+
+/// Reads the fields of one item, which is all of `item`, into the start of `fields`, and answers
+/// that part of it.
+///
+/// Fields are whole numbers from the item's highest bit down, signed ones with their sign. Spare
+/// bits, FX, a list's count and a led item's length octet are not among them.
+///
+/// Refuses by 21 (also where the category is neither 17 nor 18), 9, 10, 9 for the body, 11, then
+/// 18. The numbers after the item's, and on refusal all, stay as they were.
+///
+/// ```
+/// use asterix::{read_item, Refusal, FIELDS};
+/// let mut fields = [0; FIELDS];
+/// // I017/045: 45 degrees north, and one unit west of Greenwich.
+/// let position = [0x20, 0x00, 0x00, 0xFF, 0xFF, 0xFF];
+/// assert_eq!(read_item(17, 45, &position, &mut fields)?, &[2_097_152, -1]);
+/// // I017/230 has five spare bits.
+/// assert_eq!(read_item(17, 230, &[0x90], &mut fields).unwrap_err().why, Refusal::Field);
+/// # Ok::<(), asterix::Refused>(())
+/// ```
+pub fn read_item<'f>(
+    category: u8,
+    reference: u16,
+    item: &[u8],
+    fields: &'f mut [i64; FIELDS],
+) -> Result<&'f [i64], Refused> {
+    let read = raw::read_item(category, reference, item, fields);
+    Refused::answer(read.number, read.place)?;
+    Ok(&fields[..read.count])
+}
+
+/// Writes one item from its fields at the start of `out`, and answers how many octets it has.
+///
+/// Refuses by 21, then 11 (a value outside its range, or a number of fields that no legal item
+/// has), then 16, all at place 0. The octets after the item's, and on refusal all, stay as they
+/// were.
+///
+/// ```
+/// use asterix::{write_item, Refusal};
+/// let mut out = [0xEE; 8];
+/// assert_eq!(write_item(17, 45, &[2_097_152, -1], &mut out), Ok(6));
+/// assert_eq!(out, [0x20, 0x00, 0x00, 0xFF, 0xFF, 0xFF, 0xEE, 0xEE]);
+/// // 90 degrees north is outside its range.
+/// assert_eq!(write_item(17, 45, &[4_194_304, 0], &mut out).unwrap_err().why, Refusal::Field);
+/// ```
+pub fn write_item(category: u8, reference: u16, fields: &[i64], out: &mut [u8]) -> Result<usize, Refused> {
+    let written = raw::write_item(category, reference, fields, out);
+    Refused::answer(written.number, written.place)?;
+    Ok(written.length)
+}
+
+// ---- Adding a record
+
+/// A set of field reference numbers (FRNs): which items a record has.
+///
+/// ```
+/// use asterix::ItemSet;
+/// let set: ItemSet = [1, 2, 3].into_iter().collect();
+/// assert_eq!(set, ItemSet::EMPTY.with(3).with(2).with(1));
+/// assert!(set.has(2) && !set.has(4));
+/// ```
+#[derive(Clone, Copy, Debug, Default, PartialEq, Eq, Hash)]
+pub struct ItemSet(u64);
+
+impl ItemSet {
+    /// No item.
+    pub const EMPTY: ItemSet = ItemSet(0);
+
+    /// The set with an FRN more. FRNs above 63 count as 63, which no category has.
+    #[must_use]
+    pub const fn with(self, frn: usize) -> ItemSet {
+        ItemSet(self.0 | 1 << 63_usize.saturating_sub(frn))
+    }
+
+    /// Whether an FRN is in the set; none above 63 is.
+    pub const fn has(self, frn: usize) -> bool {
+        frn <= 63 && self.0 >> (63 - frn) & 1 == 1
+    }
+}
+
+impl FromIterator<usize> for ItemSet {
+    fn from_iter<I: IntoIterator<Item = usize>>(frns: I) -> ItemSet {
+        frns.into_iter().fold(ItemSet::EMPTY, ItemSet::with)
+    }
+}
+
+/// A refusal to add a record, and what its place counts in.
+#[derive(Clone, Copy, Debug, PartialEq, Eq, Hash)]
+pub enum AddRefused {
+    /// The old block is at fault.
+    Old(Refused),
+    /// The new record is at fault: the place counts from the start of its items.
+    New(Refused),
+}
+
+impl fmt::Display for AddRefused {
+    fn fmt(&self, f: &mut fmt::Formatter<'_>) -> fmt::Result {
+        match self {
+            AddRefused::Old(refused) => write!(f, "the old block: {refused}"),
+            AddRefused::New(refused) => write!(f, "the new record: {refused}"),
+        }
+    }
+}
+
+impl error::Error for AddRefused {}
+
+/// Adds a record to the block that the first `used` octets of `out` are, and answers the block's
+/// new length, which is its new LEN.
+///
+/// `items` has the items of `set` end to end in FRN order, without an FSPEC. A new block is begun
+/// as CAT, 00, 03 with `used` 3.
+///
+/// In the old block: 16 where `used` is more than `out` has; then the octets in use are checked as
+/// a single block, but a LEN of 3 is allowed. In the new record: 7 for an empty set, 8 for an FRN
+/// without an item, 9 to 11 of the items, 18, 12 to 15, then 17, then 16. On refusal `out` stays as
+/// it was.
+///
+/// ```
+/// use asterix::{add_record, check_block, AddRefused, ItemSet, Refusal};
+/// let mut out = [0; 16];
+/// out[..3].copy_from_slice(&[0x12, 0x00, 0x03]);
+/// // Keep_alive of category 018: source, destination, message type 05.
+/// let set = ItemSet::EMPTY.with(1).with(2).with(3);
+/// let len = add_record(&mut out, 3, set, &[25, 3, 25, 6, 0x05])?;
+/// assert_eq!(&out[..len], &[0x12, 0x00, 0x09, 0xE0, 25, 3, 25, 6, 0x05]);
+/// assert_eq!(check_block(&out[..len]), Ok(1));
+///
+/// let Err(AddRefused::New(refused)) = add_record(&mut out, len, set, &[25, 3, 25]) else { panic!() };
+/// assert_eq!((refused.why, refused.place), (Refusal::ItemCut, 2));
+/// # Ok::<(), asterix::AddRefused>(())
+/// ```
+pub fn add_record(out: &mut [u8], used: usize, set: ItemSet, items: &[u8]) -> Result<usize, AddRefused> {
+    let added = raw::add_record(out, used, set.0, items);
+    let place = if added.in_new == 0 {
+        AddRefused::Old
+    } else {
+        AddRefused::New
+    };
+    Refused::answer(added.number, added.place).map_err(place)?;
+    Ok(added.length)
+}
+
+// ---- Lengths
+
+/// The sum of the least lengths of the items that one FSPEC octet names: a fixed item its length, a
+/// list, a led or an extended item 1.
+///
+/// `place` is the octet's, the first is 0. FX and FRNs without an item add nothing. 0 where the
+/// category has no such octet, or is neither 17 nor 18.
+///
+/// ```
+/// use asterix::least_length;
+/// // I017/010, I017/012, I017/000 and the address I017/220.
+/// assert_eq!(least_length(17, 0, 0xE8), 8);
+/// assert_eq!(least_length(61, 0, 0xE8), 0);
+/// ```
+pub fn least_length(category: u8, place: usize, octet: u8) -> usize {
+    raw::least_length(category, place, octet)
+}

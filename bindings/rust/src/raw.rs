@@ -1,0 +1,129 @@
+//! The functions of include/asterix.h, and the only unsafe code of the crate. A slice goes as a
+//! pointer and a length, an array as a pointer; each answer is a struct by value. What the library
+//! asks of a caller (include/asterix.h, "What holds of every call") is what Rust's slices and
+//! references give: pointers that are not null, aligned and valid for their length, and no writable
+//! buffer that overlaps another.
+
+use crate::{FIELDS, FRNS};
+
+#[repr(C)]
+pub struct BlockChecked {
+    pub number: u8,
+    pub place: usize,
+    pub records: usize,
+}
+
+#[repr(C)]
+pub struct RecordingChecked {
+    pub number: u8,
+    pub place: usize,
+    pub blocks: usize,
+    pub records: usize,
+}
+
+#[repr(C)]
+pub struct RecordFound {
+    pub number: u8,
+    pub place: usize,
+    pub start: usize,
+    pub length: usize,
+    pub end: usize,
+    pub count: usize,
+    pub starts: [u16; FRNS],
+}
+
+#[repr(C)]
+pub struct ItemFound {
+    pub number: u8,
+    pub place: usize,
+    pub start: usize,
+    pub length: usize,
+}
+
+#[repr(C)]
+pub struct ItemRead {
+    pub number: u8,
+    pub place: usize,
+    pub count: usize,
+}
+
+#[repr(C)]
+pub struct ItemWritten {
+    pub number: u8,
+    pub place: usize,
+    pub length: usize,
+}
+
+#[repr(C)]
+pub struct RecordAdded {
+    pub number: u8,
+    pub in_new: u8,
+    pub place: usize,
+    pub length: usize,
+}
+
+extern "C" {
+    fn asterix_check_block(block: *const u8, block_len: usize) -> BlockChecked;
+    fn asterix_check_recording(recording: *const u8, recording_len: usize) -> RecordingChecked;
+    fn asterix_find_record(block: *const u8, block_len: usize, n: usize) -> RecordFound;
+    fn asterix_find_item(block: *const u8, block_len: usize, reference: u16, n: usize) -> ItemFound;
+    fn asterix_read_item(category: u8, reference: u16, item: *const u8, item_len: usize, fields: *mut i64) -> ItemRead;
+    fn asterix_write_item(
+        category: u8,
+        reference: u16,
+        fields: *const i64,
+        fields_len: usize,
+        out: *mut u8,
+        out_len: usize,
+    ) -> ItemWritten;
+    fn asterix_add_record(
+        out: *mut u8,
+        out_len: usize,
+        used: usize,
+        frns: u64,
+        items: *const u8,
+        items_len: usize,
+    ) -> RecordAdded;
+    fn asterix_least_length(category: u8, place: usize, octet: u8) -> usize;
+}
+
+pub fn check_block(block: &[u8]) -> BlockChecked {
+    unsafe { asterix_check_block(block.as_ptr(), block.len()) }
+}
+
+pub fn check_recording(recording: &[u8]) -> RecordingChecked {
+    unsafe { asterix_check_recording(recording.as_ptr(), recording.len()) }
+}
+
+pub fn find_record(block: &[u8], n: usize) -> RecordFound {
+    unsafe { asterix_find_record(block.as_ptr(), block.len(), n) }
+}
+
+pub fn find_item(block: &[u8], reference: u16, n: usize) -> ItemFound {
+    unsafe { asterix_find_item(block.as_ptr(), block.len(), reference, n) }
+}
+
+pub fn read_item(category: u8, reference: u16, item: &[u8], fields: &mut [i64; FIELDS]) -> ItemRead {
+    unsafe { asterix_read_item(category, reference, item.as_ptr(), item.len(), fields.as_mut_ptr()) }
+}
+
+pub fn write_item(category: u8, reference: u16, fields: &[i64], out: &mut [u8]) -> ItemWritten {
+    unsafe {
+        asterix_write_item(
+            category,
+            reference,
+            fields.as_ptr(),
+            fields.len(),
+            out.as_mut_ptr(),
+            out.len(),
+        )
+    }
+}
+
+pub fn add_record(out: &mut [u8], used: usize, frns: u64, items: &[u8]) -> RecordAdded {
+    unsafe { asterix_add_record(out.as_mut_ptr(), out.len(), used, frns, items.as_ptr(), items.len()) }
+}
+
+pub fn least_length(category: u8, place: usize, octet: u8) -> usize {
+    unsafe { asterix_least_length(category, place, octet) }
+}

@@ -1,0 +1,171 @@
+//! Every vector of tests/vectors (its README says what questions and answers look like), asked
+//! through the safe functions.
+
+use asterix::{
+    add_record, check_block, check_recording, find_item, find_record, read_item, write_item, AddRefused, ItemSet,
+    Refused, FIELDS, FRNS,
+};
+use std::{fs, path::Path};
+
+// The references of both profiles by FRN; `None` where there is no item.
+const PROFILE_017: [Option<u16>; 15] = [
+    Some(10),
+    Some(12),
+    Some(0),
+    Some(350),
+    Some(220),
+    Some(221),
+    Some(140),
+    Some(45),
+    Some(70),
+    Some(50),
+    Some(200),
+    Some(230),
+    Some(240),
+    Some(210),
+    Some(360),
+];
+const PROFILE_018: [u16; FRNS] = [
+    36, 37, 0, 1, 5, 16, 17, 18, 19, 28, 30, 25, 27, 29, 2, 6, 7, 8, 9, 10, 11, 14, 15, 20, 21, 22, 23, 4, 31, 32, 33,
+    34, 35, 12, 13,
+];
+
+fn reference(category: u8, frn: usize) -> Option<u16> {
+    if category == 17 {
+        PROFILE_017.get(frn - 1).copied().flatten()
+    } else {
+        PROFILE_018.get(frn - 1).copied()
+    }
+}
+
+fn octets(word: &str) -> Option<Vec<u8>> {
+    if word == "-" {
+        return Some(Vec::new());
+    }
+    (0..word.len())
+        .step_by(2)
+        .map(|i| u8::from_str_radix(word.get(i..i + 2)?, 16).ok())
+        .collect()
+}
+
+fn numbers<T: std::str::FromStr>(word: &str) -> Option<Vec<T>> {
+    if word == "-" {
+        return Some(Vec::new());
+    }
+    word.split(',').map(|n| n.parse().ok()).collect()
+}
+
+fn hex(octets: &[u8]) -> String {
+    octets.iter().map(|o| format!("{o:02X}")).collect()
+}
+
+fn commas(fields: &[i64]) -> String {
+    if fields.is_empty() {
+        return "-".into();
+    }
+    fields.iter().map(i64::to_string).collect::<Vec<_>>().join(",")
+}
+
+fn said(answer: Result<String, Refused>) -> String {
+    match answer {
+        Ok(text) => format!("ok {text}"),
+        Err(refused) => format!("refused {} at {}", refused.why.number(), refused.place),
+    }
+}
+
+fn block(bytes: &[u8], fields: &mut [i64; FIELDS]) -> Result<String, Refused> {
+    let records = check_block(bytes)?;
+    let mut text = records.to_string();
+    for n in 0..records {
+        let record = find_record(bytes, n)?;
+        text += &format!(" | {} {}", record.start, record.end());
+        for frn in 1..=FRNS {
+            if record.item_start(frn).is_none() {
+                continue;
+            }
+            let reference = reference(bytes[0], frn).expect("a usable FRN");
+            let item = find_item(bytes, reference, n)?;
+            assert_eq!(
+                item.as_ptr() as usize - bytes.as_ptr() as usize,
+                record.item_start(frn).unwrap()
+            );
+            text += &format!(
+                " {reference:03}={}",
+                commas(read_item(bytes[0], reference, item, fields)?)
+            );
+        }
+    }
+    Ok(text)
+}
+
+fn answer(question: &str, fields: &mut [i64; FIELDS]) -> Option<String> {
+    let words: Vec<&str> = question.split(' ').collect();
+    Some(match words[..] {
+        ["block", bytes] => said(block(&octets(bytes)?, fields)),
+        ["recording", bytes] => said(check_recording(&octets(bytes)?).map(|c| format!("{} {}", c.blocks, c.records))),
+        ["read", category, reference, bytes] => {
+            said(read_item(category.parse().ok()?, reference.parse().ok()?, &octets(bytes)?, fields).map(commas))
+        }
+        ["write", category, reference, room, values] => {
+            let mut out = vec![0; room.parse().ok()?];
+            let written = write_item(
+                category.parse().ok()?,
+                reference.parse().ok()?,
+                &numbers(values)?,
+                &mut out,
+            );
+            said(written.map(|length| format!("{length} {}", hex(&out[..length]))))
+        }
+        ["add", old, room, frns, items] => {
+            let old = octets(old)?;
+            let room: usize = room.parse().ok()?;
+            let mut out = old.clone();
+            out.resize(room, 0);
+            let set: ItemSet = numbers::<usize>(frns)?.into_iter().collect();
+            match add_record(&mut out, old.len(), set, &octets(items)?) {
+                Ok(length) => format!("ok {length} {}", hex(&out[..length])),
+                Err(AddRefused::Old(refused)) => said(Err(refused)) + " old",
+                Err(AddRefused::New(refused)) => said(Err(refused)) + " new",
+            }
+        }
+        ["find", bytes, reference, n] => {
+            let bytes = octets(bytes)?;
+            said(find_item(&bytes, reference.parse().ok()?, n.parse().ok()?).map(|item| {
+                let start = item.as_ptr() as usize - bytes.as_ptr() as usize;
+                format!("{start} {} {}", item.len(), hex(item))
+            }))
+        }
+        ["record", bytes, n] => said(find_record(&octets(bytes)?, n.parse().ok()?).map(|r| {
+            let map = (1..=FRNS).filter_map(|frn| Some(format!(" {frn}@{}", r.item_start(frn)?)));
+            format!("{} {} {}{}", r.start, r.octets.len(), r.count, map.collect::<String>())
+        })),
+        _ => return None,
+    })
+}
+
+#[test]
+fn vectors() {
+    let folder = Path::new(env!("CARGO_MANIFEST_DIR")).join("../../tests/vectors");
+    let mut fields = [0; FIELDS];
+    let mut asked = 0;
+    for entry in fs::read_dir(folder).expect("the folder of vectors") {
+        let questions = entry.expect("a file").path();
+        let name = questions
+            .file_name()
+            .and_then(|n| n.to_str())
+            .expect("a name")
+            .to_owned();
+        let Some(set) = name.strip_suffix("-questions.txt") else {
+            continue;
+        };
+        let answers = fs::read_to_string(questions.with_file_name(format!("{set}-answers.txt"))).expect("answers");
+        let questions = fs::read_to_string(questions).expect("questions");
+        assert_eq!(questions.lines().count(), answers.lines().count(), "{set}");
+        for (question, expected) in questions.lines().zip(answers.lines()) {
+            let answered = answer(question, &mut fields).unwrap_or_else(|| "bad line".into());
+            assert_eq!(answered, expected, "{question}");
+            asked += 1;
+        }
+    }
+    assert!(asked > 0);
+}

@@ -1,0 +1,99 @@
+-- `items::check_at` meets its contract: an item with one part by its octets or its group, any other by its layout. Assumes nothing.
+use mathlib.Core.Path.{_≡_, ap, sym, _∙_, subst}
+use mathlib.Core.Bool.{true}
+use Prim.Native.Nat.{_<_, _-_}
+use native.Mathlib.Omega.{arith}
+use Rattle.rules.proofs.AnswerLaws.{Octets}
+use Rattle.items.specs.declared.tables.LayoutRow.{LayoutRow}
+use Rattle.items.specs.FieldRules.{singleOf}
+use Rattle.items.specs.Read.{shapeIs, wholeOf, rowSound}
+use Rattle.items.specs.Tables.{layoutAt, placeRowAt}
+use Rattle.items.proofs.CheckLaws.{octets-known, Single, single-is, single-of, single-size, single-sound, Free, free-of, free-cut, free-there, check-whole, check-refused}
+use Rattle.items.proofs.TableLaws.{layout-sound, place-row}
+use borrow.Author.Needs.{needs}
+use Rattle.items.proofs.check_at.Statement.{statement}
+use Rattle.items.proofs.check_at.Tie as tie
+use Rattle.items.proofs.check_at.Reads as reads
+use Rattle.items.proofs.check_at.Lts as lts
+use Rattle.items.proofs.check_single.Reads as check-single-reads
+use Rattle.items.proofs.field_rules.single_at.Reads as single-at-reads
+use Rattle.items.proofs.parts.whole_of.Reads as whole-of-reads
+use Rattle.items.proofs.tables.layout_at.Reads as layout-at-reads
+use Rattle.items.proofs.tables.layout_row.Reads as layout-row-reads
+
+-- the octets of the item
+octets-at : (c : tie.After-shared-slice-known) → Octets (c .before .args .part .now)
+octets-at c = octets-known (c .before .args .part .now) (λ i. omega (arith, c .shared-slice-known .given i))
+
+-- what the table says of it
+said : (c : tie.After-single-at) → c .single-at .result ≡ singleOf (layoutAt (placeRowAt (c .before .before .args .place) .0))
+said c = c .single-at .ensures ∙ single-is (c .before .before .args .place)
+
+-- it has one part, with a rule
+single-here : (c : tie.Then1) → Single (layoutAt (placeRowAt (c .before .before .before .args .place) .0)) (c .before .single-at .result - 8)
+single-here c = single-of _ _ (layout-sound _ (place-row _)) (said (c .before)) (c .if1 .taken)
+
+-- or it is free
+free-here : (c : tie.Then2) → Free (layoutAt (placeRowAt (c .before .before .before .before .args .place) .0)) (c .before .before .single-at .result)
+free-here c = free-of _ _ (said (c .before .before)) (c .if2 .taken) (c .before .if1 .left)
+
+-- the layout of any other item, and its check
+row-at : (c : tie.After-layout-at) → c .layout-at .result ≡ layoutAt (placeRowAt (c .before .before .before .before .before .before .args .place) .0)
+row-at c = c .layout-at .ensures ∙ ap layoutAt (c .before .layout-row .ensures)
+
+whole-at : (c : tie.After-whole-of)
+    → shapeIs (c .whole-of .result) ≡ wholeOf (layoutAt (placeRowAt (c .before .before .before .before .before .before .before .args .place) .0)) (c .before .before .before .before .before .before .before .args .part .now)
+whole-at c = c .whole-of .ensures ∙ ap (λ (l : LayoutRow). wholeOf l (c .before .before .before .before .before .before .before .args .part .now)) (row-at (c .before))
+
+single-at-requires : tie.Need-single-at-requires
+single-at-requires c κs = search needs
+
+check-single-requires : tie.Need-check-single-requires
+check-single-requires c κs = single-sound _ _ (layout-sound _ (place-row _)) (single-here c)
+
+returns : tie.Need-returns
+returns c = c .check-single .ensures ∙ single-size _ _ _ (single-here (c .before))
+
+returns-2 : tie.Need-returns-2
+returns-2 c = free-cut _ _ _ (layout-sound _ (place-row _)) (octets-at (c .before .before .before .before)) (free-here (c .before)) (c .if3 .taken)
+
+returns-3 : tie.Need-returns-3
+returns-3 c = free-there _ _ _ (layout-sound _ (place-row _)) (octets-at (c .before .before .before .before)) (free-here (c .before)) (c .if3 .left)
+
+layout-row-requires : tie.Need-layout-row-requires
+layout-row-requires c κs = search needs
+
+layout-at-requires : tie.Need-layout-at-requires
+layout-at-requires c κs = subst (λ j. j < 51) (sym (c .layout-row .ensures)) (place-row _)
+
+whole-of-requires : tie.Need-whole-of-requires
+whole-of-requires c κs = subst (λ (l : LayoutRow). rowSound l ≡ true) (sym (row-at c)) (layout-sound _ (place-row _))
+
+enum-known-long : tie.Need-enum-known-long
+enum-known-long c = search needs
+
+enum-known-number : tie.Need-enum-known-number
+enum-known-number c = search needs
+
+returns-4 : tie.Need-returns-4
+returns-4 c = check-whole _ _ _ _ (sym (ap shapeIs (c .before .long .given .1)) ∙ whole-at (c .before .before .before))
+
+returns-5 : tie.Need-returns-5
+returns-5 c = check-refused _ _ _ _ (sym (ap shapeIs (c .before .number .given .1)) ∙ whole-at (c .before .before .before))
+
+pub check-at-spec : {M : Type 1} → statement M
+check-at-spec =
+    tie.close
+    (tie.spec
+    single-at-requires
+    check-single-requires
+    returns
+    returns-2
+    returns-3
+    layout-row-requires
+    layout-at-requires
+    whole-of-requires
+    enum-known-long
+    enum-known-number
+    returns-4
+    returns-5)

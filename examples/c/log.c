@@ -1,0 +1,224 @@
+/* log FILE: prints every record of a log of ASTERIX categories 017 and 018: its message type, and the fields of
+ * its items. Status 1 where the log is refused: then one line says why and where, and nothing else is printed.
+ *
+ * A worked example of include/asterix.h. It checks the whole log first; from then on no call can refuse. */
+#include <inttypes.h>
+#include <stdio.h>
+#include <stdlib.h>
+
+#include "asterix.h"
+
+/* ---- Names, as the documents have them */
+
+/* The items of a category in the order of their field reference numbers, with their fields. A list names the
+ * fields of one part. */
+struct item {
+    uint16_t reference;
+    const char *fields[12];
+};
+
+static const struct item items_017[] = {
+    { 10, { "SAC", "SIC" } },
+    { 12, { "SAC", "SIC" } },
+    { 0, { "type" } },
+    { 350, { "SAC", "SIC" } },
+    { 220, { "address" } },
+    { 221, { "DRN" } },
+    { 140, { "time" } },
+    { 45, { "latitude", "longitude" } },
+    { 70, { "V", "G", "L", "code" } },
+    { 50, { "V", "G", "altitude" } },
+    { 200, { "speed", "heading" } },
+    { 230, { "CA" } },
+    { 240, { "CST", "FLT" } },
+    { 210, { "address" } },
+    { 360, { "state" } },
+};
+
+static const struct item items_018[] = {
+    { 36, { "SAC", "SIC" } },
+    { 37, { "SAC", "SIC" } },
+    { 0, { "type" } },
+    { 1, { "CAUSE", "DIAG" } },
+    { 5, { "address" } },
+    { 16, { "number" } },
+    { 17, { "number" } },
+    { 18, { "PR", "PT" } },
+    { 19, { "octet" } },
+    { 28, { "periodicity" } },
+    { 30, { "priority", "PC", "AU", "NE", "RD" } },
+    { 25, { "number" } },
+    { 27, { "BDS" } },
+    { 29, { "GICB" } },
+    { 2, { "time" } },
+    { 6, { "address" } },
+    { 7, { "UM", "DM", "UC", "DC" } },
+    { 8, { "UDS", "DDS", "UCS", "DCS", "EI", "IC" } },
+    { 9, { "SR", "AR", "ER", "FR", "MR", "PR", "CR", "ID", "MA", "SP", "HG", "HD" } },
+    { 10, { "COM" } },
+    { 11, { "report" } },
+    { 14, { "RHO", "THETA" } },
+    { 15, { "X", "Y" } },
+    { 20, { "number" } },
+    { 21, { "priority", "power", "duration", "coverage" } },
+    { 22, { "prefix" } },
+    { 23, { "broadcast" } },
+    { 4, { "former", "current" } },
+    { 31, { "identity" } },
+    { 32, { "V", "G", "L", "code" } },
+    { 33, { "V", "G", "level" } },
+    { 34, { "speed" } },
+    { 35, { "heading" } },
+    { 12, { "FS", "CQF" } },
+    { 13, { "method" } },
+};
+
+struct message {
+    uint8_t category, type;
+    const char *name;
+};
+
+static const struct message messages[] = {
+    { 17, 0, "Network information" },
+    { 17, 10, "Track data" },
+    { 17, 20, "Track data request" },
+    { 17, 21, "Track data stop" },
+    { 17, 22, "Cancel track data request" },
+    { 17, 23, "Track data stop acknowledgement" },
+    { 17, 30, "New node, initial or intermediate segment" },
+    { 17, 31, "New node, final or only segment" },
+    { 17, 32, "New node, initial or intermediate segment reply" },
+    { 17, 33, "New node, final or only segment reply" },
+    { 17, 110, "Move node to new cluster state" },
+    { 17, 111, "Move node to new cluster state acknowledgement" },
+    { 18, 0x00, "Associate_req" },
+    { 18, 0x01, "Associate_resp" },
+    { 18, 0x02, "Release_req" },
+    { 18, 0x03, "Release_resp" },
+    { 18, 0x04, "Abort_req" },
+    { 18, 0x05, "Keep_alive" },
+    { 18, 0x10, "Aircraft_report" },
+    { 18, 0x11, "Aircraft_command" },
+    { 18, 0x12, "II_code_change" },
+    { 18, 0x20, "Uplink_packet" },
+    { 18, 0x21, "Cancel_uplink_packet" },
+    { 18, 0x22, "Uplink_packet_ack" },
+    { 18, 0x23, "Downlink_packet" },
+    { 18, 0x26, "Data_XON" },
+    { 18, 0x27, "Data_XOFF" },
+    { 18, 0x30, "Uplink_broadcast" },
+    { 18, 0x31, "Cancel_uplink_broadcast" },
+    { 18, 0x32, "Uplink_broadcast_ack" },
+    { 18, 0x34, "Downlink_broadcast" },
+    { 18, 0x40, "GICB_extraction" },
+    { 18, 0x41, "Cancel_GICB_extraction" },
+    { 18, 0x42, "GICB_extraction_ack" },
+    { 18, 0x43, "GICB_response" },
+};
+
+enum { MESSAGES = sizeof messages / sizeof *messages, TYPE_FRN = 3 };
+
+static const char *message_name(uint8_t category, uint8_t type)
+{
+    for (size_t i = 0; i < MESSAGES; i++)
+        if (messages[i].category == category && messages[i].type == type)
+            return messages[i].name;
+    return "?"; /* not of a record that was accepted */
+}
+
+/* ---- Printing */
+
+static int64_t fields[ASTERIX_FIELDS];
+
+/* One item: its reference, and each field as name=value. */
+static void print_item(uint8_t category, const struct item *item, const uint8_t *octets, size_t length)
+{
+    struct asterix_item_read read = asterix_read_item(category, item->reference, octets, length, fields);
+    size_t names = 0;
+    while (names < 12 && item->fields[names])
+        names++;
+    printf("    I%03u/%03u", category, item->reference);
+    for (size_t i = 0; i < read.count; i++)
+        printf(" %s=%" PRId64, item->fields[i % names], fields[i]);
+    printf("\n");
+}
+
+/* The items of a record, by its map: an item ends where the next one starts, and the last where the record ends. */
+static void print_record(const uint8_t *block, const struct asterix_record_found *record)
+{
+    uint8_t category = block[0];
+    const struct item *items = category == 17 ? items_017 : items_018;
+    uint8_t type = block[record->starts[TYPE_FRN - 1]];
+    printf("  %s (%u), %zu octets, %zu items\n", message_name(category, type), type, record->length, record->count);
+    for (size_t frn = 1; frn <= ASTERIX_FRNS; frn++) {
+        size_t start = record->starts[frn - 1], end = record->end;
+        if (start == 0)
+            continue; /* absent */
+        for (size_t next = frn + 1; next <= ASTERIX_FRNS; next++)
+            if (record->starts[next - 1]) {
+                end = record->starts[next - 1];
+                break;
+            }
+        print_item(category, &items[frn - 1], block + start, end - start);
+    }
+}
+
+static void print_block(const uint8_t *block, size_t len)
+{
+    size_t records = asterix_check_block(block, len).records;
+    for (size_t n = 0; n < records; n++) {
+        struct asterix_record_found record = asterix_find_record(block, len, n);
+        print_record(block, &record);
+    }
+}
+
+/* ---- The log */
+
+/* The whole of a file, and its length. */
+static uint8_t *load(const char *name, size_t *length)
+{
+    FILE *file = fopen(name, "rb");
+    size_t room = 1 << 16;
+    uint8_t *bytes = malloc(room);
+    *length = 0;
+    while (file && bytes) {
+        size_t got = fread(bytes + *length, 1, room - *length, file);
+        if (got == 0)
+            break;
+        *length += got;
+        if (*length == room)
+            bytes = realloc(bytes, room *= 2);
+    }
+    if (!file || !bytes || ferror(file)) {
+        fprintf(stderr, "log: can't read %s\n", name);
+        exit(2);
+    }
+    fclose(file);
+    return bytes;
+}
+
+int main(int argc, char **argv)
+{
+    if (argc != 2) {
+        fputs("usage: log FILE\n", stderr);
+        return 2;
+    }
+    size_t length;
+    uint8_t *log = load(argv[1], &length);
+
+    struct asterix_recording_checked checked = asterix_check_recording(log, length);
+    if (checked.number) {
+        printf("refused %u at %zu: %s\n", checked.number, checked.place, asterix_refusal_text(checked.number));
+        free(log);
+        return 1;
+    }
+    printf("%zu blocks, %zu records\n", checked.blocks, checked.records);
+    for (size_t at = 0; at < length;) {
+        size_t len = (size_t)log[at + 1] << 8 | log[at + 2]; /* LEN, which was checked */
+        printf("block at %zu, category %03u, %zu octets\n", at, log[at], len);
+        print_block(log + at, len);
+        at += len;
+    }
+    free(log);
+    return 0;
+}

@@ -1,0 +1,320 @@
+/* ASTERIX categories 017 and 018: checking, finding, reading and writing.
+ *
+ * Category 017, Mode S Surveillance Coordination Function Messages, edition 1.3; category 018, Mode S Datalink
+ * Function Messages, edition 1.6. Every item and message type of both. The functions are those of the crate
+ * `asterix`, proved to answer as its contracts say for any bytes; this file says the same in words.
+ *
+ *     rt staticlib asterix                                     writes target/staticlib/libasterix.a
+ *     cc -Iinclude program.c target/staticlib/libasterix.a     x86-64 Linux; C99, C11 or C++
+ *
+ * In order: what holds of every call; refusals; checking; finding; one item; adding a record; lengths; the
+ * items and their fields.
+ *
+ *
+ * What holds of every call
+ *
+ * - Any bytes may be given. A call always ends; it either does its work or refuses. There is no state between
+ *   calls, nothing is allocated, no file is touched and nothing is kept: what was lent is yours again when the
+ *   call returns.
+ * - A pointer is followed by how many elements it points to. It may not be NULL, even for none; for none any
+ *   other pointer does. It must have the alignment of its type.
+ * - A buffer that is lent to be written to may not overlap another that is lent to the same call.
+ * - A call reads and writes no byte outside of what is lent.
+ * - A refused call changes no byte of anything that was lent to it.
+ * - Calls from several threads at once are fine where none writes to what another reads or writes.
+ *
+ * Each answer is a struct by value. Its `number` is 0 where the work was done, and else the refusal's, 1 to 21;
+ * its `place` is that of the refusal, and 0 where there is none. Its other members are 0 where it is a refusal.
+ *
+ * Octets are counted from 0, records of a block from 0, field reference numbers (FRN) from 1, as the documents
+ * do.
+ */
+#ifndef ASTERIX_H
+#define ASTERIX_H
+
+#include <stddef.h>
+#include <stdint.h>
+
+#ifdef __cplusplus
+extern "C" {
+#endif
+
+/* ---- Refusals
+ *
+ *   No.  Given when                                                                    Place
+ *    1   fewer than 3 bytes where a block should start                                 block
+ *    2   CAT is neither 17 nor 18                                                      block
+ *    3   LEN is under 3, or is not the length lent (in a recording: is more than left)  block
+ *    4   LEN is 3: the block has no record                                             block
+ *    5   the FSPEC is cut by the block's end                                           record
+ *    6   FX is set in the last FSPEC octet that there may be (017: third, 018: fifth)  record
+ *    7   the last FSPEC octet has no presence bit                                      record
+ *    8   a presence bit for an FRN that has no item                                    record
+ *    9   an item is cut by the end, its count or length octet included                 item
+ *   10   a length octet under the least that its item allows                           item
+ *   11   a field outside its range, a spare bit set, an empty list that may not be     item
+ *   12   the record has no message type item                                           record
+ *   13   its message type is not one of the document's                                 record
+ *   14   an item is absent that this message type must have                            record
+ *   15   an item is present that this message type doesn't send                        record
+ *   16   the lent output is too short                                                  0
+ *   17   the block would pass 65,535 bytes                                             0
+ *   18   bytes are left after the last item named, or after the one item read          first of them
+ *   19   the block has no record with that number                                      0
+ *   20   the record does not have that item                                            record
+ *   21   the category has no item with that reference                                  0
+ *
+ * "Block", "record" and "item": where that block, record or item starts. Places count from the start of the
+ * block or recording that was lent; of one item alone, and of the new items of an added record, from the start
+ * of those bytes (there "record" is 0).
+ *
+ * Blocks are taken in order, the records of a block in order, and the first fault ends the work. At a block's
+ * start 1, 2, 3, 4 are tried in that order; in a record 5 and 6 octet by octet, then 7, then 8, then each item
+ * in FRN order (9, 10, 9 for its body, 11), then 12, 13, 14, 15. What else a call tries, and when, is said at
+ * the call. */
+enum asterix_refusal {
+    ASTERIX_HEAD_CUT = 1,
+    ASTERIX_CATEGORY = 2,
+    ASTERIX_LEN = 3,
+    ASTERIX_NO_RECORD = 4,
+    ASTERIX_FSPEC_CUT = 5,
+    ASTERIX_FSPEC_LONG = 6,
+    ASTERIX_FSPEC_EMPTY = 7,
+    ASTERIX_FRN_UNUSABLE = 8,
+    ASTERIX_ITEM_CUT = 9,
+    ASTERIX_LENGTH_OCTET = 10,
+    ASTERIX_FIELD = 11,
+    ASTERIX_TYPE_ABSENT = 12,
+    ASTERIX_TYPE_UNKNOWN = 13,
+    ASTERIX_ITEM_MISSING = 14,
+    ASTERIX_ITEM_UNSENT = 15,
+    ASTERIX_NO_ROOM = 16,
+    ASTERIX_BLOCK_FULL = 17,
+    ASTERIX_BYTES_LEFT = 18,
+    ASTERIX_NO_SUCH_RECORD = 19,
+    ASTERIX_ITEM_ABSENT = 20,
+    ASTERIX_NO_SUCH_ITEM = 21
+};
+
+/* What a refusal number means, in a few words; "" for a number that is none. */
+static inline const char *asterix_refusal_text(unsigned number)
+{
+    static const char *const text[] = {
+        "",
+        "fewer than three bytes where a block should start",
+        "CAT is neither 17 nor 18",
+        "LEN is not the block's length",
+        "the block has no record",
+        "the FSPEC is cut",
+        "FX is set in the last FSPEC octet allowed",
+        "the last FSPEC octet has no presence bit",
+        "a presence bit for an FRN without an item",
+        "an item is cut",
+        "a length octet is too small",
+        "a field or spare bit is outside its rule",
+        "the record has no message type",
+        "the message type is unknown",
+        "a compulsory item is absent",
+        "an item is present that the message type doesn't send",
+        "the output is too short",
+        "the block would pass 65,535 bytes",
+        "bytes are left",
+        "there is no record with that number",
+        "the record does not have that item",
+        "the category has no item with that reference"
+    };
+    return text[number <= 21 ? number : 0];
+}
+
+/* ---- Checking */
+
+struct asterix_block_checked {
+    uint8_t number;
+    size_t place;   /* from the block's start */
+    size_t records; /* how many the block has, at least 1; 0 where it is refused */
+};
+
+/* Checks a single block: all of `block`, and nothing after it. Refuses by 1 to 15. */
+struct asterix_block_checked asterix_check_block(const uint8_t *block, size_t block_len);
+
+struct asterix_recording_checked {
+    uint8_t number;
+    size_t place; /* from the recording's start */
+    size_t blocks, records;
+};
+
+/* Checks a recording: blocks end to end and nothing else. An empty one is accepted, with 0 blocks. Refuses by 1
+ * to 15. One or two bytes after the last whole block are 1 at their place. */
+struct asterix_recording_checked asterix_check_recording(const uint8_t *recording, size_t recording_len);
+
+/* ---- Finding */
+
+enum { ASTERIX_FRNS = 35 };
+
+struct asterix_record_found {
+    uint8_t number;
+    size_t place;
+    /* The record is block + start and so many octets, its FSPEC first. On refusal both are 0. */
+    size_t start, length;
+    /* The record map: where the record ends, counted from the block's start; how many items it has; and in
+     * starts[FRN - 1] where the item with that FRN starts, counted from the block's start, 0 where it is
+     * absent. */
+    size_t end, count;
+    uint16_t starts[ASTERIX_FRNS];
+};
+
+/* Finds record `n` of a single block. The whole block is checked first: 1 to 15; then 19. */
+struct asterix_record_found asterix_find_record(const uint8_t *block, size_t block_len, size_t n);
+
+struct asterix_item_found {
+    uint8_t number;
+    size_t place;
+    /* The item is block + start and so many octets, its count or length octet among them. On refusal both are 0. */
+    size_t start, length;
+};
+
+/* Finds the item with `reference` (45 for I017/045) in record `n` of a single block. The whole block is checked
+ * first: 1 to 15; then 21, 19, 20. */
+struct asterix_item_found asterix_find_item(const uint8_t *block, size_t block_len, uint16_t reference, size_t n);
+
+/* ---- One item
+ *
+ * An item's fields are whole numbers, from its highest bit down, in the order of the table at this file's end.
+ * Signed fields come with their sign. Spare bits, FX bits, a list's count and a led item's length octet are not
+ * among them: a list has its parts' fields, one part after another, a led item its content octets, an extended
+ * item the fields of its first octet and, where the extent is present, those of the extent. So how many fields
+ * there are says how many parts there are. */
+
+/* How many numbers are lent for an item's fields. No item of these categories has more than 510. */
+enum { ASTERIX_FIELDS = 8192 };
+
+struct asterix_item_read {
+    uint8_t number;
+    size_t place; /* from the item's first octet */
+    size_t count; /* how many fields the item has */
+};
+
+/* Reads the fields of one item that is all of `item`. Refuses by 21 (also where the category is neither 17 nor
+ * 18), 9, 10, 9 for the body, 11, then 18. On success the first `count` of `fields` are the item's; the others
+ * stay as they were. Any message type is read. */
+struct asterix_item_read asterix_read_item(uint8_t category, uint16_t reference, const uint8_t *item,
+                                           size_t item_len, int64_t fields[ASTERIX_FIELDS]);
+
+struct asterix_item_written {
+    uint8_t number;
+    size_t place;  /* always 0 */
+    size_t length; /* how many octets the item has */
+};
+
+/* Writes one item from its fields, at the start of `out`. Refuses by 21, then 11 (a value outside its range, or
+ * a number of fields that no legal item has), then 16. On success the first `length` of `out` are the item; the
+ * others stay as they were. Any message type is written. */
+struct asterix_item_written asterix_write_item(uint8_t category, uint16_t reference, const int64_t *fields,
+                                               size_t fields_len, uint8_t *out, size_t out_len);
+
+/* ---- Adding a record */
+
+struct asterix_record_added {
+    uint8_t number;
+    uint8_t in_new; /* where the place is: 0 in the old block, 1 in the new items */
+    size_t place;
+    size_t length; /* the block's new length, which is its new LEN */
+};
+
+/* Adds a record to the block that the first `used` octets of `out` are. A new block is begun as CAT, 00, 03
+ * with `used` 3.
+ *
+ * `frns` is the set of the new record's items: the sum of asterix_frn(FRN) of each. `items` has those items end
+ * to end in FRN order, without an FSPEC, and nothing else.
+ *
+ * Refusals in the old block (`in_new` 0): 16 at 0 where `used` is more than `out_len`; then the octets in use
+ * are checked as a single block, but a LEN of 3 is allowed. In the new record (`in_new` 1): 7 for an empty set,
+ * 8 for an FRN without an item, 9 to 11 of the items, 18, 12 to 15, then 17, then 16; their places count from
+ * the start of `items`, and are 0 but for 9, 10, 11 and 18.
+ *
+ * On success the record, FSPEC first, follows the old ones, LEN is the new length, and no other octet of `out`
+ * changes. */
+struct asterix_record_added asterix_add_record(uint8_t *out, size_t out_len, size_t used, uint64_t frns,
+                                               const uint8_t *items, size_t items_len);
+
+/* The set with one FRN. FRNs above 63 count as 63, which no category has. */
+static inline uint64_t asterix_frn(unsigned frn)
+{
+    return (uint64_t)1 << (frn < 63 ? 63 - frn : 0);
+}
+
+/* ---- Lengths */
+
+/* The sum of the least lengths of the items that one FSPEC octet names: a fixed item its length, a list, a led
+ * or an extended item 1. `place` is the octet's, the first is 0; its FX bit and the bits of FRNs without an item
+ * add nothing. 0 where the category has no such octet, or is neither 17 nor 18. */
+size_t asterix_least_length(uint8_t category, size_t place, uint8_t octet);
+
+/* ---- The items and their fields
+ *
+ * Ranges that the bits alone don't give are in brackets. "each": of each part of a list.
+ *
+ * Category 017. FSPEC of at most 3 octets; FRN 16 to 21 have no item.
+ *
+ *   FRN  Item  Octets      Fields
+ *     1  010   2           SAC, SIC of the source
+ *     2  012   2           SAC, SIC of the destination
+ *     3  000   1           message type: 0, 10, 20, 21, 22, 23, 30, 31, 32, 33, 110, 111
+ *     4  350   1 + 2 each  SAC, SIC each [at least one part]
+ *     5  220   3           aircraft address
+ *     6  221   2           duplicate address reference number
+ *     7  140   3           time of day, 1/128 s [0 to 11,059,199]
+ *     8  045   6           latitude [-4,194,304 to 4,194,303], longitude; signed, 180/2^23 degree
+ *     9  070   2           V, G, L, Mode 3/A code (12 bits)
+ *    10  050   2           V, G, altitude; signed, 25 ft
+ *    11  200   4           speed, 2^-14 NM/s; heading, 360/2^16 degree
+ *    12  230   1           CA
+ *    13  240   1           CST, FLT
+ *    14  210   1 + 3 each  aircraft address each [may be empty]
+ *    15  360   1           state
+ *
+ * Category 018. FSPEC of at most 5 octets; every FRN has an item.
+ *
+ *   FRN  Item  Octets      Fields
+ *     1  036   2           SAC, SIC of the source
+ *     2  037   2           SAC, SIC of the destination
+ *     3  000   1           message type, hexadecimal: 00 to 05, 10 to 12, 20 to 23, 26, 27, 30 to 32, 34, 40 to 43
+ *     4  001   1           CAUSE, DIAG
+ *     5  005   3           Mode S address
+ *     6  016   4           packet number
+ *     7  017   1 + 4 each  packet number each [at least one part]
+ *     8  018   1           PR, PT
+ *     9  019   3 to 255    the Mode S packet's octets, 2 to 254 of them
+ *    10  028   2           GICB periodicity, s
+ *    11  030   2           priority, PC, AU, NE, RD
+ *    12  025   4           GICB number
+ *    13  027   1           BDS code
+ *    14  029   7           GICB extracted (56 bits)
+ *    15  002   3           time of day, 1/128 s [0 to 11,059,199]
+ *    16  006   1 + 3 each  Mode S address each [at least one part]
+ *    17  007   1           UM, DM, UC, DC
+ *    18  008   1 or 2      UDS, DDS, UCS, DCS, EI; extent: IC
+ *    19  009   1 or 2      SR, AR, ER, FR, MR, PR, CR; extent: ID, MA, SP, HG, HD
+ *    20  010   1           COM
+ *    21  011   7           capability report (56 bits)
+ *    22  014   4           RHO, 1/256 NM; THETA, 360/2^16 degree
+ *    23  015   4           X, Y; signed, 1/128 NM
+ *    24  020   4           broadcast number
+ *    25  021   6           priority, power, duration in s, coverage (32 bits)
+ *    26  022   4           prefix (27 bits)
+ *    27  023   7           broadcast (56 bits)
+ *    28  004   1           former, current II code
+ *    29  031   6           identity (48 bits)
+ *    30  032   2           V, G, L, Mode 3/A code (12 bits)
+ *    31  033   2           V, G, flight level; signed, 25 ft
+ *    32  034   2           ground speed, 2^-14 NM/s [0 to 32,768]
+ *    33  035   2           heading, 360/2^16 degree
+ *    34  012   1           FS, CQF (0 not supported, 127 undefined)
+ *    35  013   1           CQF calculation method
+ */
+
+#ifdef __cplusplus
+}
+#endif
+
+#endif

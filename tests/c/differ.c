@@ -1,0 +1,624 @@
+/* differ [SEED] [INPUTS]: asks the functions of include/asterix.h, whichever it is linked with, and the plain
+ * implementation the same, over legal and damaged inputs, and compares. SEED is a number, or `fresh` for one from
+ * the clock; it is printed either way.
+ *
+ * Compared: every member of every answer, and every octet of every buffer lent, with guard octets on both sides of
+ * it and pages that may not be touched beyond those. What a refused call was lent must be as before.
+ *
+ * Status 1 where anything differs; where a refusal number was never met, or one that an entry point can give was
+ * not met there, or one that it can't give was; where a message type was never accepted, or an item never found,
+ * read or written. */
+#include <inttypes.h>
+#include <stdbool.h>
+#include <stdio.h>
+#include <stdlib.h>
+#include <string.h>
+#include <sys/mman.h>
+#include <time.h>
+
+#include "asterix.h"
+#include "generate.h"
+#include "plain.h"
+#include "tables.h"
+
+/* ---- What was met */
+
+enum call { BLOCK, RECORDING, RECORD, ITEM, READ, WRITE, ADD_OLD, ADD_NEW, CALLS };
+
+static const char *const call_name[CALLS] = { "check_block", "check_recording", "find_record", "find_item",
+                                              "read_item",   "write_item",      "add (old)",   "add (new)" };
+
+/* The numbers that each call can give, as bits; 0 is an acceptance, which of adding is counted with the new. */
+#define IN_BLOCK 0xFFFEu /* 1 to 15 */
+#define NO(n) (1u << (n))
+static const unsigned can_give[CALLS] = {
+    NO(0) | IN_BLOCK,
+    NO(0) | IN_BLOCK,
+    NO(0) | IN_BLOCK | NO(19),
+    NO(0) | IN_BLOCK | NO(19) | NO(20) | NO(21),
+    NO(0) | NO(9) | NO(10) | NO(11) | NO(18) | NO(21),
+    NO(0) | NO(11) | NO(16) | NO(21),
+    (IN_BLOCK & ~NO(4)) | NO(16),
+    NO(0) | NO(7) | NO(8) | NO(9) | NO(10) | NO(11) | NO(12) | NO(13) | NO(14) | NO(15) | NO(16) | NO(17) | NO(18),
+};
+
+enum { NUMBERS = 22 };
+static size_t met[CALLS][NUMBERS];
+static size_t types_accepted[COUNT(messages)], found[COUNT(items)], read[COUNT(items)], written[COUNT(items)];
+static size_t calls, lengths, differences;
+
+/* ---- Lending: a region between two pages that may not be touched */
+
+enum { PAGE = 4096, REGION = 18 * PAGE, GUARD = 64 };
+
+struct lent {
+    uint8_t *low, *high; /* the region */
+    uint8_t *at;         /* what is lent, `size` octets, at one end of the region */
+    size_t size;
+    uint8_t was[REGION]; /* what it held */
+};
+
+static struct lent input, second, output;
+
+static void open_region(struct lent *l)
+{
+    uint8_t *pages = mmap(NULL, REGION + 2 * PAGE, PROT_READ | PROT_WRITE, MAP_PRIVATE | MAP_ANONYMOUS, -1, 0);
+    if (pages == MAP_FAILED || mprotect(pages, PAGE, PROT_NONE) || mprotect(pages + PAGE + REGION, PAGE, PROT_NONE)) {
+        fputs("differ: no pages\n", stderr);
+        exit(2);
+    }
+    l->low = pages + PAGE;
+    l->high = l->low + REGION;
+    memset(l->low, 0xA5, REGION);
+}
+
+/* Lends `size` octets with this content, at the region's one end or the other. */
+static uint8_t *lend(struct lent *l, bool at_end, const void *content, size_t size)
+{
+    l->at = at_end ? l->high - size : l->low;
+    l->size = size;
+    memcpy(l->was, content, size);
+    memcpy(l->at, content, size);
+    return l->at;
+}
+
+/* Whether what was lent now holds this, and the guard octets beside it what they held. Puts the guards back over
+ * it. */
+static bool holds(struct lent *l, const void *content)
+{
+    bool same = memcmp(l->at, content, l->size) == 0;
+    const uint8_t *guard = l->at == l->low ? l->at + l->size : l->at - GUARD;
+    if (l->size + GUARD <= REGION)
+        for (size_t i = 0; i < GUARD; i++)
+            same = same && guard[i] == 0xA5;
+    memset(l->at, 0xA5, l->size);
+    return same;
+}
+
+static bool unchanged(struct lent *l)
+{
+    return holds(l, l->was);
+}
+
+/* ---- Differences */
+
+static void print_octets(const uint8_t *octets, size_t n)
+{
+    for (size_t i = 0; i < n; i++)
+        printf("%02X", octets[i]);
+    if (n == 0)
+        printf("-");
+}
+
+/* The question as the vectors have it, and the two answers. */
+static void differs(const char *question, const uint8_t *octets, size_t have, const char *rest)
+{
+    printf("differ: %s ", question);
+    print_octets(octets, have);
+    printf("%s\n", rest);
+    if (++differences == 10) {
+        puts("differ: ten differences, and no more are looked for");
+        exit(1);
+    }
+}
+
+static void tally(enum call call, unsigned number)
+{
+    calls++;
+    met[call][number < NUMBERS ? number : 0]++;
+}
+
+static char *answers(char *to, size_t room, struct plain_fault ours, size_t a, size_t b, unsigned number,
+                     size_t place, size_t c, size_t d, bool kept)
+{
+    snprintf(to, room, "\n  plain   %u at %zu, %zu, %zu\n  library %u at %zu, %zu, %zu%s", ours.number, ours.place, a,
+             b, number, place, c, d,
+             kept ? "" : "\n  a lent buffer, or an octet beside it, does not hold what it should");
+    return to;
+}
+
+/* ---- The calls */
+
+static char text[400];
+
+static bool try_block(struct chance *c, const uint8_t *block, size_t have)
+{
+    struct plain_block ours = plain_check_block(block, have);
+    uint8_t *lent = lend(&input, one_in(c, 2), block, have);
+    struct asterix_block_checked theirs = asterix_check_block(lent, have);
+    bool kept = unchanged(&input);
+    tally(BLOCK, ours.fault.number);
+    if (!kept || theirs.number != ours.fault.number || theirs.place != ours.fault.place ||
+        theirs.records != ours.records)
+        differs("block", block, have,
+                answers(text, sizeof text, ours.fault, ours.records, 0, theirs.number, theirs.place, theirs.records,
+                        0, kept));
+    return ours.fault.number == 0;
+}
+
+static void try_recording(struct chance *c, const uint8_t *recording, size_t have)
+{
+    struct plain_recording ours = plain_check_recording(recording, have);
+    uint8_t *lent = lend(&input, one_in(c, 2), recording, have);
+    struct asterix_recording_checked theirs = asterix_check_recording(lent, have);
+    bool kept = unchanged(&input);
+    tally(RECORDING, ours.fault.number);
+    if (!kept || theirs.number != ours.fault.number || theirs.place != ours.fault.place ||
+        theirs.blocks != ours.blocks || theirs.records != ours.records)
+        differs("recording", recording, have,
+                answers(text, sizeof text, ours.fault, ours.blocks, ours.records, theirs.number, theirs.place,
+                        theirs.blocks, theirs.records, kept));
+}
+
+static void try_record(struct chance *c, const uint8_t *block, size_t have, size_t n)
+{
+    struct plain_record ours = plain_find_record(block, have, n);
+    uint8_t *lent = lend(&input, one_in(c, 2), block, have);
+    struct asterix_record_found theirs = asterix_find_record(lent, have, n);
+    bool kept = unchanged(&input), same = true;
+    tally(RECORD, ours.fault.number);
+    for (unsigned frn = 1; frn <= ASTERIX_FRNS; frn++)
+        same = same && theirs.starts[frn - 1] == ours.starts[frn - 1];
+    if (!kept || !same || theirs.number != ours.fault.number || theirs.place != ours.fault.place ||
+        theirs.start != ours.start || theirs.length != ours.length || theirs.end != ours.end ||
+        theirs.count != ours.count) {
+        answers(text, sizeof text, ours.fault, ours.start, ours.length, theirs.number, theirs.place, theirs.start,
+                theirs.length, kept);
+        differs("record", block, have, text);
+        printf("  record %zu; end %zu and %zu, items %zu and %zu, maps %s\n", n, ours.end, theirs.end, ours.count,
+               theirs.count, same ? "alike" : "not alike");
+    }
+}
+
+static void try_item(struct chance *c, const uint8_t *block, size_t have, unsigned reference, size_t n)
+{
+    struct plain_item ours = plain_find_item(block, have, reference, n);
+    uint8_t *lent = lend(&input, one_in(c, 2), block, have);
+    struct asterix_item_found theirs = asterix_find_item(lent, have, (uint16_t)reference, n);
+    bool kept = unchanged(&input);
+    tally(ITEM, ours.fault.number);
+    if (ours.fault.number == 0)
+        found[find_layout(block[0], reference) - items]++;
+    if (!kept || theirs.number != ours.fault.number || theirs.place != ours.fault.place ||
+        theirs.start != ours.start || theirs.length != ours.length) {
+        differs("find", block, have,
+                answers(text, sizeof text, ours.fault, ours.start, ours.length, theirs.number, theirs.place,
+                        theirs.start, theirs.length, kept));
+        printf("  item %03u of record %zu\n", reference, n);
+    }
+}
+
+/* What `fields` is lent with, and what it should hold: 8,192 numbers that no item has. */
+static int64_t blank[ASTERIX_FIELDS], full[ASTERIX_FIELDS];
+
+static void try_read(struct chance *c, unsigned category, unsigned reference, const uint8_t *item, size_t have)
+{
+    static struct plain_fields ours;
+    ours = plain_read_item(category, reference, item, have);
+    uint8_t *lent = lend(&input, one_in(c, 2), item, have);
+    int64_t *fields = (int64_t *)(void *)lend(&output, one_in(c, 2), blank, sizeof blank);
+    struct asterix_item_read theirs = asterix_read_item((uint8_t)category, (uint16_t)reference, lent, have, fields);
+    memcpy(full, ours.field, ours.count * sizeof *full);
+    bool kept = unchanged(&input);
+    kept = holds(&output, full) && kept;
+    memcpy(full, blank, ours.count * sizeof *full);
+    tally(READ, ours.fault.number);
+    if (ours.fault.number == 0)
+        read[find_layout(category, reference) - items]++;
+    if (!kept || theirs.number != ours.fault.number || theirs.place != ours.fault.place ||
+        theirs.count != ours.count) {
+        char question[40];
+        snprintf(question, sizeof question, "read %u %03u", category, reference);
+        differs(question, item, have,
+                answers(text, sizeof text, ours.fault, ours.count, 0, theirs.number, theirs.place, theirs.count, 0,
+                        kept));
+    }
+}
+
+static void try_write(struct chance *c, unsigned category, unsigned reference, const int64_t *fields, size_t count,
+                      const uint8_t *old, size_t room)
+{
+    static uint8_t should[REGION];
+    memcpy(should, old, room);
+    struct plain_length ours = plain_write_item(category, reference, fields, count, should, room);
+    const int64_t *from = (int64_t *)(void *)lend(&input, one_in(c, 2), fields, count * sizeof *fields);
+    uint8_t *out = lend(&output, one_in(c, 2), old, room);
+    struct asterix_item_written theirs =
+        asterix_write_item((uint8_t)category, (uint16_t)reference, from, count, out, room);
+    bool kept = unchanged(&input);
+    kept = (ours.fault.number ? unchanged(&output) : holds(&output, should)) && kept;
+    tally(WRITE, ours.fault.number);
+    if (ours.fault.number == 0)
+        written[find_layout(category, reference) - items]++;
+    if (!kept || theirs.number != ours.fault.number || theirs.place != ours.fault.place ||
+        theirs.length != ours.length) {
+        char question[80];
+        snprintf(question, sizeof question, "write %u %03u %zu, %zu fields from %" PRId64 " on; plain writes",
+                 category, reference, room, count, count ? fields[0] : 0);
+        differs(question, should, ours.length,
+                answers(text, sizeof text, ours.fault, ours.length, 0, theirs.number, theirs.place, theirs.length, 0,
+                        kept));
+    }
+}
+
+static void try_add(struct chance *c, const uint8_t *old, size_t room, size_t used, uint64_t frns, const uint8_t *new,
+                    size_t have)
+{
+    static uint8_t should[REGION];
+    memcpy(should, old, room);
+    struct plain_length ours = plain_add_record(should, room, used, frns, new, have);
+    uint8_t *out = lend(&output, one_in(c, 2), old, room);
+    uint8_t *lent = lend(&second, one_in(c, 2), new, have);
+    struct asterix_record_added theirs = asterix_add_record(out, room, used, frns, lent, have);
+    bool kept = unchanged(&second);
+    kept = (ours.fault.number ? unchanged(&output) : holds(&output, should)) && kept;
+    bool in_new = ours.fault.number && ours.in_new;
+    tally(ours.fault.number && !in_new ? ADD_OLD : ADD_NEW, ours.fault.number);
+    if (!kept || theirs.number != ours.fault.number || theirs.place != ours.fault.place || theirs.in_new != in_new ||
+        theirs.length != ours.length) {
+        answers(text, sizeof text, ours.fault, ours.length, in_new, theirs.number, theirs.place, theirs.length,
+                theirs.in_new, kept);
+        differs("add", old, used < room ? used : room, text);
+        printf("  room %zu, used %zu, set %016" PRIx64 ", items ", room, used, frns);
+        print_octets(new, have);
+        printf("\n");
+    }
+}
+
+/* ---- Inputs */
+
+static uint8_t block[REGION], octets[REGION], out[REGION];
+static int64_t fields[PLAIN_FIELDS + 300];
+static struct sketch sketch;
+
+static unsigned draw_category(struct chance *c)
+{
+    return 17 + (unsigned)below(c, 2);
+}
+
+/* The category and reference of an item, or, one time in sixteen, of none. */
+static void draw_reference(struct chance *c, unsigned row, unsigned *category, unsigned *reference)
+{
+    *category = items[row].category;
+    *reference = items[row].reference;
+    if (one_in(c, 16)) {
+        if (one_in(c, 2))
+            *category = one_in(c, 2) ? 35 - *category : (unsigned)below(c, 256);
+        else
+            *reference = (unsigned)below(c, one_in(c, 2) ? 400 : 65536);
+    }
+}
+
+static void input_block(struct chance *c)
+{
+    bool legal = one_in(c, 3);
+    unsigned message = (unsigned)below(c, COUNT(messages));
+    size_t have, records = 1;
+    if (one_in(c, 2)) { /* one record of each message type in turn */
+        make_sketch(c, message, !legal, &sketch);
+        block[0] = (uint8_t)sketch.category;
+        have = 3 + make_record(&sketch, block + 3);
+        block[1] = (uint8_t)(have / 256);
+        block[2] = (uint8_t)have;
+    } else {
+        message = COUNT(messages);
+        records = one_in(c, 100) ? 40 : between(c, 1, 4);
+        have = make_block(c, draw_category(c), records, !legal, block, 60000);
+    }
+    if (!legal && one_in(c, 2))
+        for (size_t n = between(c, 1, 2); n > 0; n--)
+            damage_block(c, block, &have);
+    if (try_block(c, block, have) && message < COUNT(messages) && legal)
+        types_accepted[message]++;
+    size_t n = one_in(c, 50) ? (size_t)any(c) : below(c, records + one_in(c, 4));
+    try_record(c, block, have, n);
+    unsigned category = have ? block[0] : 17;
+    int reference = is_category(category) && !one_in(c, 8)
+                        ? reference_at(category, (unsigned)between(c, 1, last_frn(category)))
+                        : NONE;
+    if (message < COUNT(messages) && one_in(c, 2))
+        for (unsigned tries = 0; tries < 30; tries++) { /* an item that the record has */
+            unsigned frn = (unsigned)between(c, 1, 35);
+            if (sketch.frns >> (63 - frn) & 1)
+                reference = reference_at(sketch.category, frn);
+        }
+    try_item(c, block, have, reference == NONE ? (unsigned)below(c, one_in(c, 2) ? 400 : 65536) : (unsigned)reference,
+             n);
+}
+
+static void input_recording(struct chance *c)
+{
+    size_t have = 0;
+    for (size_t blocks = below(c, 5); blocks > 0; blocks--) {
+        size_t n = make_block(c, draw_category(c), between(c, 1, 3), one_in(c, 6), block, 16000);
+        if (one_in(c, 6))
+            damage_block(c, block, &n);
+        if (have + n > REGION - GUARD)
+            break;
+        memcpy(octets + have, block, n);
+        have += n;
+    }
+    if (one_in(c, 6) && have < REGION - 100)
+        damage(c, octets, &have);
+    try_recording(c, octets, have);
+}
+
+static void input_read(struct chance *c)
+{
+    unsigned row = (unsigned)below(c, COUNT(items)), category, reference;
+    draw_reference(c, row, &category, &reference);
+    bool barred = one_in(c, 4);
+    size_t have = make_item(c, row, barred, octets);
+    if (barred && one_in(c, 2)) {
+        /* as it is */
+    } else if (one_in(c, 8)) {
+        have = below(c, 12);
+        for (size_t i = 0; i < have; i++)
+            octets[i] = (uint8_t)any(c);
+    } else if (!one_in(c, 3))
+        damage(c, octets, &have);
+    try_read(c, category, reference, octets, have);
+}
+
+static int64_t draw_near(struct chance *c, int64_t value)
+{
+    static const int64_t ends[] = { -4194305, -4194304, 4194303,  4194304,  -8388609,  -8388608, 8388607, 8388608,
+                                    11059199, 11059200, 32768,    32769,    -8193,     -8192,    8191,    8192,
+                                    -32769,   -32768,   32767,    65535,    65536,     255,      256,     -1,
+                                    0,        1,        16777215, 16777216, INT64_MIN, INT64_MAX };
+    switch (below(c, 5)) {
+    case 0:
+        return ends[below(c, COUNT(ends))];
+    case 1: /* a power of two, or one less, or its negative */
+        value = (int64_t)((uint64_t)1 << below(c, 63));
+        value = one_in(c, 2) ? value - 1 : value;
+        return one_in(c, 4) ? -value : value;
+    case 2:
+        return value < INT64_MAX ? value + 1 : value;
+    case 3:
+        return value > INT64_MIN ? value - 1 : value;
+    default:
+        return (int64_t)any(c);
+    }
+}
+
+static void input_write(struct chance *c)
+{
+    unsigned row = (unsigned)below(c, COUNT(items)), category, reference;
+    static struct plain_fields legal;
+    size_t have = make_item(c, row, false, octets);
+    legal = plain_read_item(items[row].category, items[row].reference, octets, have);
+    size_t count = legal.count;
+    memcpy(fields, legal.field, count * sizeof *fields);
+    draw_reference(c, row, &category, &reference);
+    if (one_in(c, 3))
+        for (size_t n = between(c, 1, 2); n > 0 && count > 0; n--) {
+            size_t at = below(c, count);
+            fields[at] = draw_near(c, fields[at]);
+        }
+    if (one_in(c, 30)) { /* as many as the longest lists and led items have, or a few more */
+        count = (one_in(c, 2) ? 255 : 510) - 3 + below(c, 6);
+        for (size_t i = 0; i < count; i++)
+            fields[i] = (int64_t)below(c, 256);
+        have = MOST_ITEM_OCTETS;
+    }
+    if (one_in(c, 6)) { /* fewer, or more, than the item has */
+        size_t more = one_in(c, 3) ? between(c, 1, 300) : between(c, 1, 2);
+        if (one_in(c, 2))
+            count -= count < more ? count : more;
+        else
+            for (; more > 0 && count < COUNT(fields); more--)
+                fields[count++] = one_in(c, 2) ? 0 : (int64_t)below(c, 256);
+    }
+    size_t room = one_in(c, 4) ? below(c, have + 1) : one_in(c, 2) ? have : have + below(c, 20);
+    for (size_t i = 0; i < room; i++)
+        out[i] = (uint8_t)any(c);
+    try_write(c, category, reference, fields, count, out, room);
+}
+
+static void input_add(struct chance *c)
+{
+    unsigned category = draw_category(c);
+    size_t used = make_block(c, category, one_in(c, 3) ? 0 : between(c, 1, 3), one_in(c, 16), out, 16000);
+    if (one_in(c, 8))
+        damage_block(c, out, &used);
+    unsigned message;
+    do
+        message = (unsigned)below(c, COUNT(messages));
+    while (messages[message].category != category && !one_in(c, 100));
+    make_sketch(c, message, one_in(c, 2), &sketch);
+    size_t have = sketch.length;
+    memcpy(octets, sketch.items, have);
+    uint64_t frns = sketch.frns;
+    if (one_in(c, 6))
+        damage(c, octets, &have);
+    if (one_in(c, 8))
+        frns = one_in(c, 4) ? 0 : one_in(c, 3) ? any(c) : frns ^ (uint64_t)1 << below(c, 64);
+    size_t need = used + 5 + have;
+    size_t room = one_in(c, 4) ? below(c, need + 1) : need - below(c, 6) + (one_in(c, 3) ? below(c, 100) : 0);
+    if (one_in(c, 30))
+        used = one_in(c, 2) ? below(c, room + 10) : room + 1 + (size_t)(any(c) >> below(c, 64)) % (SIZE_MAX - room);
+    for (size_t i = used; i < room; i++)
+        out[i] = (uint8_t)any(c);
+    try_add(c, out, room, used, frns, octets, have);
+}
+
+/* Blocks near 65,535 octets, and a record whose length is chosen to end there: the last that fits, and 17. */
+static void input_large(struct chance *c)
+{
+    unsigned category = draw_category(c);
+    size_t used = make_block(c, category, 20000, false, out, between(c, 65200, 65535));
+    size_t to = 65533 + below(c, 6), n = to > used ? to - used : 0;
+    if (category == 17) { /* New Node: source, destination, type 30, addresses */
+        size_t parts = n < 8 ? 0 : (n - 8) / 3 < 255 ? (n - 8) / 3 : 255;
+        sketch = (struct sketch){ .frns = (uint64_t)7 << 60 | (uint64_t)1 << 49, .length = 6 + 3 * parts };
+        sketch.items[4] = 30;
+        sketch.items[5] = (uint8_t)parts;
+    } else { /* Downlink_packet: source, destination, type, address, packet */
+        size_t led = n < 13 ? 3 : n - 10 < 255 ? n - 10 : 255;
+        sketch =
+            (struct sketch){ .frns = (uint64_t)7 << 60 | (uint64_t)1 << 58 | (uint64_t)1 << 54, .length = 8 + led };
+        sketch.items[4] = 0x23;
+        sketch.items[8] = (uint8_t)led;
+    }
+    size_t room = one_in(c, 3) ? between(c, used, 65535) : between(c, 65535, 65600);
+    memset(out + used, 0x5A, room - used);
+    if (one_in(c, 4))
+        try_block(c, out, used);
+    try_add(c, out, room, used, sketch.frns, sketch.items, sketch.length);
+}
+
+/* ---- All lengths by FSPEC octet */
+
+static void all_lengths(void)
+{
+    for (unsigned category = 0; category < 256; category++)
+        for (size_t place = 0; place < 12; place++)
+            for (unsigned octet = 0; octet < 256; octet++) {
+                /* after the eleventh place, one far out */
+                size_t at = place < 11 ? place : SIZE_MAX - octet;
+                size_t ours = plain_least_length(category, at, octet);
+                size_t theirs = asterix_least_length((uint8_t)category, at, (uint8_t)octet);
+                lengths++;
+                if (ours != theirs) {
+                    uint8_t asked[2] = { (uint8_t)category, (uint8_t)octet };
+                    snprintf(text, sizeof text, " at octet %zu: plain %zu, library %zu", at, ours, theirs);
+                    differs("least_length", asked, 2, text);
+                }
+            }
+}
+
+/* ---- The run */
+
+static bool complete = true;
+
+static void lacks(const char *what, const char *of)
+{
+    printf("differ: %s%s\n", what, of);
+    complete = false;
+}
+
+static void report(void)
+{
+    char line[200];
+    printf("%-10s", "number");
+    for (enum call call = 0; call < CALLS; call++)
+        printf("%16s", call_name[call]);
+    printf("\n");
+    for (unsigned number = 0; number < NUMBERS; number++) {
+        size_t sum = 0;
+        if (number)
+            printf("%-10u", number);
+        else
+            printf("%-10s", "accepted");
+        for (enum call call = 0; call < CALLS; call++) {
+            bool can = can_give[call] & NO(number);
+            sum += met[call][number];
+            if (can || met[call][number])
+                printf("%16zu", met[call][number]);
+            else
+                printf("%16s", "");
+            snprintf(line, sizeof line, "%u of %s", number, call_name[call]);
+            if (can && !met[call][number])
+                lacks("never met: ", line);
+            if (!can && met[call][number])
+                lacks("can't be: ", line);
+        }
+        printf("\n");
+        snprintf(line, sizeof line, "%u", number);
+        if (sum == 0)
+            lacks("a number never met: ", line);
+    }
+    for (unsigned i = 0; i < COUNT(messages); i++) {
+        snprintf(line, sizeof line, "%03u of category %03u", messages[i].type, messages[i].category);
+        if (!types_accepted[i])
+            lacks("message type never accepted: ", line);
+    }
+    for (unsigned i = 0; i < COUNT(items); i++) {
+        snprintf(line, sizeof line, "I%03u/%03u", items[i].category, items[i].reference);
+        if (!found[i])
+            lacks("never found: ", line);
+        if (!read[i])
+            lacks("never read: ", line);
+        if (!written[i])
+            lacks("never written: ", line);
+    }
+}
+
+static uint64_t fresh_seed(void)
+{
+    struct timespec now;
+    clock_gettime(CLOCK_REALTIME, &now);
+    struct chance c = { (uint64_t)now.tv_sec * 1000000000 + (uint64_t)now.tv_nsec };
+    return any(&c) >> 16;
+}
+
+int main(int argc, char **argv)
+{
+    uint64_t seed = argc < 2 ? 1718 : strcmp(argv[1], "fresh") == 0 ? fresh_seed() : strtoull(argv[1], NULL, 10);
+    size_t inputs = argc < 3 ? 1000000 : (size_t)strtoull(argv[2], NULL, 10);
+    struct chance c = { seed };
+    printf("differ: seed %" PRIu64 ", %zu inputs\n", seed, inputs);
+    fflush(stdout);
+    open_region(&input);
+    open_region(&second);
+    open_region(&output);
+    for (size_t i = 0; i < COUNT(blank); i++)
+        blank[i] = full[i] = (int64_t)(0x7B00000000000000 + i);
+    for (size_t i = 0; i < inputs; i++) {
+        if (i % 2500 == 2499) {
+            input_large(&c);
+            continue;
+        }
+        switch (below(&c, 20)) {
+        case 0:
+        case 1:
+            input_recording(&c);
+            break;
+        case 2:
+        case 3:
+        case 4:
+            input_read(&c);
+            break;
+        case 5:
+        case 6:
+        case 7:
+            input_write(&c);
+            break;
+        case 8:
+        case 9:
+        case 10:
+        case 11:
+            input_add(&c);
+            break;
+        default:
+            input_block(&c);
+            break;
+        }
+    }
+    all_lengths();
+    report();
+    printf("differ: seed %" PRIu64 ", %zu inputs, %zu calls and %zu lengths, %zu differences\n", seed, inputs, calls,
+           lengths, differences);
+    return differences > 0 || !complete;
+}

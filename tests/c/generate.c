@@ -1,0 +1,348 @@
+/* Drawing inputs: see generate.h. */
+#include "generate.h"
+
+#include <string.h>
+
+#include "tables.h"
+
+/* ---- Chance: splitmix64 */
+
+uint64_t any(struct chance *c)
+{
+    uint64_t x = c->state += 0x9E3779B97F4A7C15;
+    x = (x ^ x >> 30) * 0xBF58476D1CE4E5B9;
+    x = (x ^ x >> 27) * 0x94D049BB133111EB;
+    return x ^ x >> 31;
+}
+
+size_t below(struct chance *c, size_t n)
+{
+    return (size_t)(any(c) % n);
+}
+
+size_t between(struct chance *c, size_t a, size_t b)
+{
+    return a + below(c, b - a + 1);
+}
+
+bool one_in(struct chance *c, size_t n)
+{
+    return below(c, n) == 0;
+}
+
+/* ---- Legal items */
+
+/* A value of a field's range, its ends often; `barred`: perhaps the next one outside of a printed range. */
+static int64_t draw_value(struct chance *c, struct field f, bool barred)
+{
+    unsigned bits = f.high - f.low + 1;
+    int64_t least = f.is == SIGNED ? -((int64_t)1 << (bits - 1)) : 0;
+    int64_t most = f.is == SIGNED ? ((int64_t)1 << (bits - 1)) - 1 : ((int64_t)1 << bits) - 1;
+    if (f.least < f.most) {
+        least = f.least;
+        most = f.most;
+        if (barred && one_in(c, 2))
+            return one_in(c, 2) && least != 0 ? least - 1 : most + 1;
+    }
+    switch (below(c, 8)) {
+    case 0:
+        return least;
+    case 1:
+        return most;
+    default:
+        return least + (int64_t)(any(c) % (uint64_t)(most - least + 1));
+    }
+}
+
+static void draw_part(struct chance *c, const struct field *fields, unsigned octets, bool barred, uint8_t *to)
+{
+    memset(to, 0, octets);
+    for (; fields->high; fields++) {
+        if (fields->is == SPARE)
+            continue;
+        int64_t value = draw_value(c, *fields, barred);
+        for (unsigned bit = fields->low; bit <= fields->high; bit++)
+            to[octets - 1 - (bit - 1) / 8] |= (uint8_t)((value >> (bit - fields->low) & 1) << (bit - 1) % 8);
+    }
+}
+
+size_t make_item(struct chance *c, unsigned row, bool barred, uint8_t *to)
+{
+    const struct item *item = &items[row];
+    size_t parts;
+    switch (item->layout) {
+    case FIXED:
+        draw_part(c, item->first, item->octets, barred, to);
+        return item->octets;
+    case LIST:
+    case SOME:
+        parts = one_in(c, 20) ? between(c, 1, 255) : between(c, 1, 12);
+        if (one_in(c, 6) && (barred || item->layout == LIST))
+            parts = 0;
+        to[0] = (uint8_t)parts;
+        for (size_t i = 0; i < parts; i++)
+            draw_part(c, item->first, item->octets, barred, to + 1 + i * item->octets);
+        return 1 + parts * item->octets;
+    case LED:
+        parts = one_in(c, 12) ? between(c, 3, 255) : between(c, 3, 9);
+        to[0] = (uint8_t)parts;
+        for (size_t i = 1; i < parts; i++)
+            to[i] = (uint8_t)any(c);
+        if (barred && one_in(c, 2))
+            to[0] = (uint8_t)below(c, 3);
+        return parts;
+    case EXTENDED:
+        draw_part(c, item->first, 1, barred, to);
+        if (one_in(c, 2))
+            return 1;
+        to[0] |= 1;
+        draw_part(c, item->extent, 1, barred, to + 1);
+        return 2;
+    }
+    return 0;
+}
+
+/* ---- Records */
+
+static uint64_t frn_bit(unsigned frn)
+{
+    return (uint64_t)1 << (63 - frn);
+}
+
+static unsigned row_at(unsigned category, unsigned frn)
+{
+    return (unsigned)(layout_at(category, frn) - items);
+}
+
+void make_sketch(struct chance *c, unsigned message, bool twist, struct sketch *to)
+{
+    unsigned category = messages[message].category;
+    uint8_t type = (uint8_t)messages[message].type;
+    uint64_t frns = 0;
+    for (unsigned frn = 1; frn <= last_frn(category); frn++) {
+        int reference = reference_at(category, frn);
+        if (frn <= TYPE_FRN || is_in(messages[message].must, reference) ||
+            (is_in(messages[message].may, reference) && one_in(c, 2)))
+            frns |= frn_bit(frn);
+    }
+    int fault = NONE;
+    bool barred = false;
+    if (twist)
+        switch (below(c, 8)) {
+        case 0: /* one of its items dropped, or one put in */
+        case 1:
+            for (unsigned tries = 0; tries < 20; tries++) {
+                unsigned frn = (unsigned)between(c, 1, last_frn(category));
+                if (reference_at(category, frn) != NONE && ((frns & frn_bit(frn)) != 0) == (tries < 10)) {
+                    frns ^= frn_bit(frn);
+                    break;
+                }
+            }
+            break;
+        case 2:
+            type = (uint8_t)any(c);
+            break;
+        case 3: /* a set of any items */
+            frns = any(c) & any(c);
+            for (unsigned frn = 0; frn < 64; frn++)
+                if (reference_at(category, frn) == NONE)
+                    frns &= ~frn_bit(frn);
+            break;
+        case 4: /* an item damaged */
+        case 5:
+            fault = (int)below(c, 4);
+            break;
+        case 6: /* an item with a barred value, if one can have any */
+            barred = true;
+            break;
+        }
+    to->category = category;
+    to->message = message;
+    to->frns = frns;
+    to->length = 0;
+    for (unsigned frn = 1; frn <= last_frn(category); frn++) {
+        if (!(frns & frn_bit(frn)))
+            continue;
+        uint8_t *at = to->items + to->length;
+        size_t n = make_item(c, row_at(category, frn), barred, at);
+        if (frn == TYPE_FRN)
+            at[0] = type;
+        if (fault != NONE && fault-- == 0)
+            damage(c, at, &n);
+        to->length += n;
+    }
+}
+
+size_t make_record(const struct sketch *from, uint8_t *to)
+{
+    size_t octets = 0;
+    for (unsigned frn = 1; frn <= last_frn(from->category); frn++)
+        if (from->frns & frn_bit(frn))
+            octets = (frn + 6) / 7;
+    if (octets == 0)
+        octets = 1;
+    for (size_t i = 0; i < octets; i++)
+        to[i] = (uint8_t)(from->frns << (7 * i + 1) >> 57 << 1 | (i + 1 < octets));
+    memcpy(to + octets, from->items, from->length);
+    return octets + from->length;
+}
+
+/* ---- Blocks */
+
+static unsigned draw_message(struct chance *c, unsigned category)
+{
+    for (;;) {
+        unsigned message = (unsigned)below(c, COUNT(messages));
+        if (messages[message].category == category)
+            return message;
+    }
+}
+
+static void set_len(uint8_t *block, size_t len)
+{
+    block[1] = (uint8_t)(len / 256);
+    block[2] = (uint8_t)len;
+}
+
+size_t make_block(struct chance *c, unsigned category, size_t records, bool twist, uint8_t *to, size_t room)
+{
+    struct sketch sketch;
+    uint8_t record[MOST_RECORD_OCTETS + 8];
+    size_t len = 3;
+    to[0] = (uint8_t)category;
+    for (size_t i = 0; i < records; i++) {
+        make_sketch(c, draw_message(c, category), twist && one_in(c, records), &sketch);
+        size_t n = make_record(&sketch, record);
+        if (len + n > room)
+            break;
+        memcpy(to + len, record, n);
+        len += n;
+    }
+    set_len(to, len);
+    return len;
+}
+
+/* ---- Damage */
+
+static uint8_t draw_octet(struct chance *c, uint8_t old)
+{
+    static const uint8_t ends[] = { 0, 1, 2, 3, 0x7F, 0x80, 0xFE, 0xFF };
+    switch (below(c, 4)) {
+    case 0:
+        return ends[below(c, COUNT(ends))];
+    case 1:
+        return (uint8_t)(old + 1);
+    case 2:
+        return (uint8_t)(old - 1);
+    default:
+        return (uint8_t)any(c);
+    }
+}
+
+void damage(struct chance *c, uint8_t *octets, size_t *have)
+{
+    size_t at = *have ? below(c, *have) : 0, n;
+    switch (*have == 0 ? 5 : below(c, 10)) {
+    case 0:
+    case 1:
+    case 2:
+        octets[at] ^= (uint8_t)(1u << below(c, 8));
+        break;
+    case 3:
+    case 4:
+        octets[at] = draw_octet(c, octets[at]);
+        break;
+    case 5: /* octets after the end */
+        for (n = between(c, 1, 8); n > 0; n--)
+            octets[(*have)++] = one_in(c, 2) ? 0 : (uint8_t)any(c);
+        break;
+    case 6: /* cut anywhere, or near the end */
+        *have = one_in(c, 2) ? at : *have - 1;
+        break;
+    case 7: /* one octet taken out */
+        memmove(octets + at, octets + at + 1, *have - at - 1);
+        --*have;
+        break;
+    case 8: /* one put in */
+        memmove(octets + at + 1, octets + at, *have - at);
+        octets[at] = (uint8_t)any(c);
+        ++*have;
+        break;
+    case 9: /* octets of any kind from there on */
+        for (; at < *have; at++)
+            octets[at] = (uint8_t)any(c);
+        break;
+    }
+}
+
+void damage_block(struct chance *c, uint8_t *block, size_t *have)
+{
+    bool mend = true;
+    switch (below(c, 12)) {
+    case 0: /* LEN */
+        if (*have >= 3)
+            set_len(block, one_in(c, 2)   ? *have + between(c, 0, 8) - 4
+                           : one_in(c, 3) ? below(c, 6)
+                                          : below(c, 65536));
+        mend = false;
+        break;
+    case 1: /* CAT */
+        if (*have >= 1)
+            block[0] = one_in(c, 2) ? 35 - block[0] : draw_octet(c, block[0]);
+        break;
+    case 2: /* presence bits and FX of the first record */
+    case 3:
+        if (*have >= 4)
+            block[3] ^= (uint8_t)(1u << below(c, 8));
+        break;
+    case 4:
+        for (size_t at = 3; at < *have; at++)
+            if (!(block[at] & 1)) { /* the first FSPEC's last octet */
+                block[at] ^= one_in(c, 2) ? 1 : (uint8_t)(1u << below(c, 8));
+                break;
+            }
+        break;
+    case 5: /* an octet more in the first FSPEC, perhaps without a presence bit */
+        for (size_t at = 3; at < *have; at++)
+            if (!(block[at] & 1)) {
+                block[at] |= 1;
+                memmove(block + at + 2, block + at + 1, *have - at - 1);
+                block[at + 1] = one_in(c, 2) ? 0 : (uint8_t)any(c);
+                ++*have;
+                break;
+            }
+        break;
+    case 6: /* few octets of any kind */
+        *have = below(c, 12);
+        for (size_t at = 0; at < *have; at++)
+            block[at] = (uint8_t)any(c);
+        if (*have >= 1 && !one_in(c, 4))
+            block[0] = one_in(c, 2) ? 17 : 18;
+        break;
+    case 7: /* a head, and octets of any kind */
+        *have = between(c, 3, 60);
+        for (size_t at = 3; at < *have; at++)
+            block[at] = (uint8_t)any(c);
+        break;
+    default:
+        damage(c, block, have);
+        break;
+    }
+    if (mend && *have >= 3 && !one_in(c, 8))
+        set_len(block, *have);
+}
+
+/* ---- Recordings */
+
+size_t make_recording(struct chance *c, uint8_t *to, size_t size)
+{
+    static uint8_t block[65536];
+    size_t len = 0;
+    for (;;) {
+        size_t n = make_block(c, 17 + (unsigned)below(c, 2), between(c, 1, 20), false, block, sizeof block - 1);
+        if (len + n > size)
+            return len;
+        memcpy(to + len, block, n);
+        len += n;
+    }
+}

@@ -1,0 +1,55 @@
+/* Inputs for differ.c and bench/: legal items, records, blocks and recordings of both categories, and damaged
+ * ones. All comes from one seed. */
+#ifndef GENERATE_H
+#define GENERATE_H
+
+#include <stdbool.h>
+#include <stddef.h>
+#include <stdint.h>
+
+struct chance {
+    uint64_t state;
+};
+
+uint64_t any(struct chance *c);                       /* 64 bits */
+size_t below(struct chance *c, size_t n);             /* 0 to n - 1 */
+size_t between(struct chance *c, size_t a, size_t b); /* a to b */
+bool one_in(struct chance *c, size_t n);
+
+enum { MOST_ITEM_OCTETS = 1 + 255 * 4, MOST_RECORD_OCTETS = 4096 };
+
+/* A record to be: its message type, its items by FRN, and those items end to end. */
+struct sketch {
+    unsigned category, message; /* the row of the table of messages that it was drawn from */
+    uint64_t frns;              /* FRN f is bit 63 - f */
+    size_t length;
+    uint8_t items[MOST_RECORD_OCTETS];
+};
+
+/* A legal item of row `item` of the table of items; its length. `barred`: perhaps with a value just outside of a
+ * printed range, an empty list, or too small a length octet. */
+size_t make_item(struct chance *c, unsigned item, bool barred, uint8_t *to);
+
+/* A legal record of row `message` of the table of messages. `twist`: perhaps with an item dropped or put in,
+ * another type, or an item that is damaged or barred. */
+void make_sketch(struct chance *c, unsigned message, bool twist, struct sketch *to);
+
+/* The record of a sketch, FSPEC first; its length. */
+size_t make_record(const struct sketch *from, uint8_t *to);
+
+/* A block of `records` records, of at most `room` octets (16 KB for four records or fewer is enough); its length. */
+size_t make_block(struct chance *c, unsigned category, size_t records, bool twist, uint8_t *to, size_t room);
+
+/* One change of `*have` octets, which may come to be up to 8 more: a bit, an octet, a cut, octets put in or taken
+ * out. */
+void damage(struct chance *c, uint8_t *octets, size_t *have);
+
+/* The same of a block: also its CAT and LEN, and presence bits. Mostly LEN is made right again, so that the fault
+ * is further in. */
+void damage_block(struct chance *c, uint8_t *block, size_t *have);
+
+/* A legal recording of some `size` octets, every message type alike often, one to twenty records a block; its
+ * length, at most `size`. */
+size_t make_recording(struct chance *c, uint8_t *to, size_t size);
+
+#endif

@@ -1,0 +1,10 @@
+/* Other names for the plain implementation, so that a copy of it with a planted fault can be linked beside it:
+ * read first, by `-include`. */
+#define plain_check_block other_check_block
+#define plain_check_recording other_check_recording
+#define plain_find_record other_find_record
+#define plain_find_item other_find_item
+#define plain_read_item other_read_item
+#define plain_write_item other_write_item
+#define plain_add_record other_add_record
+#define plain_least_length other_least_length

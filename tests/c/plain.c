@@ -1,0 +1,591 @@
+/* The plain implementation: see plain.h. In order: bits, one item, one record, blocks and
+ * recordings, adding a record, lengths. */
+#include "plain.h"
+#include "tables.h"
+
+/* ---- Refusals */
+
+static struct plain_fault refused(unsigned number, size_t place)
+{
+    return (struct plain_fault){ number, place };
+}
+
+static const struct plain_fault fine = { 0, 0 };
+
+/* ---- Bits */
+
+/* Bit `bit` of `octets` octets, by the document's numbers: bit 1 is the last octet's lowest. */
+static unsigned get_bit(const uint8_t *part, unsigned octets, unsigned bit)
+{
+    return part[octets - 1 - (bit - 1) / 8] >> (bit - 1) % 8 & 1;
+}
+
+static int64_t get_field(const uint8_t *part, unsigned octets, struct field f)
+{
+    int64_t value = 0;
+    for (unsigned bit = f.high; bit >= f.low; bit--)
+        value = value * 2 + get_bit(part, octets, bit);
+    if (f.is == SIGNED && get_bit(part, octets, f.high))
+        value -= (int64_t)1 << (f.high - f.low + 1);
+    return value;
+}
+
+static void put_field(uint8_t *part, unsigned octets, struct field f, int64_t value)
+{
+    for (unsigned bit = f.low; bit <= f.high; bit++)
+        if ((uint64_t)value >> (bit - f.low) & 1)
+            part[octets - 1 - (bit - 1) / 8] |= (uint8_t)(1u << (bit - 1) % 8);
+}
+
+/* Whether a value may stand in a field: it fits the field's bits, and its printed range holds it. */
+static bool may_hold(struct field f, int64_t value)
+{
+    unsigned bits = f.high - f.low + 1;
+    int64_t least = f.is == SIGNED ? -((int64_t)1 << (bits - 1)) : 0;
+    int64_t most = f.is == SPARE ? 0 : f.is == SIGNED ? ((int64_t)1 << (bits - 1)) - 1 : ((int64_t)1 << bits) - 1;
+    if (value < least || value > most)
+        return false;
+    return f.least == f.most || (f.least <= value && value <= f.most);
+}
+
+/* ---- One part of an item: the fields of some octets */
+
+static bool is_good_part(const struct field *fields, const uint8_t *part, unsigned octets)
+{
+    for (; fields->high; fields++)
+        if (!may_hold(*fields, get_field(part, octets, *fields)))
+            return false;
+    return true;
+}
+
+static size_t get_part(const struct field *fields, const uint8_t *part, unsigned octets, int64_t *to)
+{
+    size_t n = 0;
+    for (; fields->high; fields++)
+        if (fields->is != SPARE)
+            to[n++] = get_field(part, octets, *fields);
+    return n;
+}
+
+static size_t fields_of(const struct field *fields)
+{
+    size_t n = 0;
+    for (; fields->high; fields++)
+        n += fields->is != SPARE;
+    return n;
+}
+
+/* Writes a part from its fields, or answers false where one is barred. */
+static bool put_part(const struct field *fields, const int64_t *from, uint8_t *part, unsigned octets)
+{
+    for (unsigned i = 0; i < octets; i++)
+        part[i] = 0;
+    for (; fields->high; fields++)
+        if (fields->is != SPARE) {
+            if (!may_hold(*fields, *from))
+                return false;
+            put_field(part, octets, *fields, *from++);
+        }
+    return true;
+}
+
+/* ---- One item */
+
+enum { FX = 1, LEAST_LED = 3, MOST_PARTS = 255, MOST_LED = 255, MOST_ITEM = 1 + 255 * 4 };
+
+/* The length of the item at the start of `have` octets. Its refusals are 9 and 10, at 0: the item's start. */
+static struct plain_fault measure(const struct item *item, const uint8_t *at, size_t have, size_t *length)
+{
+    switch (item->layout) {
+    case FIXED:
+        *length = item->octets;
+        break;
+    case LIST:
+    case SOME:
+        if (have < 1)
+            return refused(9, 0);
+        *length = 1 + (size_t)at[0] * item->octets;
+        break;
+    case LED:
+        if (have < 1)
+            return refused(9, 0);
+        if (at[0] < LEAST_LED)
+            return refused(10, 0);
+        *length = at[0];
+        break;
+    case EXTENDED:
+        if (have < 1)
+            return refused(9, 0);
+        *length = at[0] & FX ? 2 : 1;
+        break;
+    }
+    return have < *length ? refused(9, 0) : fine;
+}
+
+/* The item at the start of `have` octets: its length, or 9, 10, 9 for the body, 11. */
+static struct plain_fault check_item(const struct item *item, const uint8_t *at, size_t have, size_t *length)
+{
+    struct plain_fault fault = measure(item, at, have, length);
+    if (fault.number)
+        return fault;
+    bool good = true;
+    switch (item->layout) {
+    case FIXED:
+        good = is_good_part(item->first, at, item->octets);
+        break;
+    case SOME:
+    case LIST:
+        good = item->layout == LIST || at[0] != 0;
+        for (unsigned i = 0; i < at[0]; i++)
+            good = good && is_good_part(item->first, at + 1 + i * item->octets, item->octets);
+        break;
+    case LED:
+        break;
+    case EXTENDED:
+        good = is_good_part(item->first, at, 1);
+        if (*length == 2)
+            good = good && is_good_part(item->extent, at + 1, 1) && !(at[1] & FX);
+        break;
+    }
+    return good ? fine : refused(11, 0);
+}
+
+/* The fields of an item that was checked. */
+static size_t get_item(const struct item *item, const uint8_t *at, size_t length, int64_t *to)
+{
+    size_t n = 0;
+    switch (item->layout) {
+    case FIXED:
+        n = get_part(item->first, at, item->octets, to);
+        break;
+    case SOME:
+    case LIST:
+        for (unsigned i = 0; i < at[0]; i++)
+            n += get_part(item->first, at + 1 + i * item->octets, item->octets, to + n);
+        break;
+    case LED:
+        for (size_t i = 1; i < length; i++)
+            to[n++] = at[i];
+        break;
+    case EXTENDED:
+        n = get_part(item->first, at, 1, to);
+        if (length == 2)
+            n += get_part(item->extent, at + 1, 1, to + n);
+        break;
+    }
+    return n;
+}
+
+/* Writes an item, at most MOST_ITEM octets, and answers its length; 0 where no legal item has these fields. */
+static size_t put_item(const struct item *item, const int64_t *field, size_t count, uint8_t *to)
+{
+    size_t in_first = fields_of(item->first), in_extent = fields_of(item->extent);
+    switch (item->layout) {
+    case FIXED:
+        if (count != in_first || !put_part(item->first, field, to, item->octets))
+            return 0;
+        return item->octets;
+    case SOME:
+    case LIST:
+        if (count % in_first != 0 || count / in_first > MOST_PARTS || (item->layout == SOME && count == 0))
+            return 0;
+        to[0] = (uint8_t)(count / in_first);
+        for (size_t i = 0; i < count / in_first; i++)
+            if (!put_part(item->first, field + i * in_first, to + 1 + i * item->octets, item->octets))
+                return 0;
+        return 1 + count / in_first * item->octets;
+    case LED:
+        if (count + 1 < LEAST_LED || count + 1 > MOST_LED)
+            return 0;
+        to[0] = (uint8_t)(count + 1);
+        for (size_t i = 0; i < count; i++) {
+            if (field[i] < 0 || field[i] > 255)
+                return 0;
+            to[1 + i] = (uint8_t)field[i];
+        }
+        return 1 + count;
+    case EXTENDED:
+        if (count != in_first && count != in_first + in_extent)
+            return 0;
+        if (!put_part(item->first, field, to, 1))
+            return 0;
+        if (count == in_first)
+            return 1;
+        if (!put_part(item->extent, field + in_first, to + 1, 1))
+            return 0;
+        to[0] |= FX;
+        return 2;
+    }
+    return 0;
+}
+
+struct plain_fields plain_read_item(unsigned category, unsigned reference, const uint8_t *item, size_t have)
+{
+    struct plain_fields answer = { fine, 0, { 0 } };
+    const struct item *layout = find_layout(category, reference);
+    size_t length = 0;
+    if (!layout) {
+        answer.fault = refused(21, 0);
+        return answer;
+    }
+    answer.fault = check_item(layout, item, have, &length);
+    if (answer.fault.number)
+        return answer;
+    if (length < have) {
+        answer.fault = refused(18, length);
+        return answer;
+    }
+    answer.count = get_item(layout, item, length, answer.field);
+    return answer;
+}
+
+struct plain_length plain_write_item(unsigned category, unsigned reference, const int64_t *field, size_t count,
+                                     uint8_t *out, size_t room)
+{
+    struct plain_length answer = { fine, false, 0 };
+    const struct item *layout = find_layout(category, reference);
+    uint8_t written[MOST_ITEM];
+    if (!layout) {
+        answer.fault = refused(21, 0);
+        return answer;
+    }
+    size_t length = put_item(layout, field, count, written);
+    if (length == 0)
+        answer.fault = refused(11, 0);
+    else if (length > room)
+        answer.fault = refused(16, 0);
+    else {
+        for (size_t i = 0; i < length; i++)
+            out[i] = written[i];
+        answer.length = length;
+    }
+    return answer;
+}
+
+/* ---- One record */
+
+enum { MOST_FRN = 63 };
+
+/* A record's items by FRN. FRNs above 35 and FRN 0 are in no profile, but a set may name them. */
+struct set {
+    bool has[MOST_FRN + 1];
+};
+
+static bool is_empty(const struct set *set)
+{
+    for (unsigned frn = 0; frn <= MOST_FRN; frn++)
+        if (set->has[frn])
+            return false;
+    return true;
+}
+
+static bool has_unusable(unsigned category, const struct set *set)
+{
+    for (unsigned frn = 0; frn <= MOST_FRN; frn++)
+        if (set->has[frn] && reference_at(category, frn) == NONE)
+            return true;
+    return false;
+}
+
+/* The FSPEC at the start of `have` octets: 5, 6, 7, 8, all at 0: the record's start. */
+static struct plain_fault get_fspec(unsigned category, const uint8_t *at, size_t have, struct set *set,
+                                    size_t *octets)
+{
+    size_t most = last_frn(category) / 7;
+    *set = (struct set){ { false } };
+    for (size_t i = 0;; i++) {
+        if (i == have)
+            return refused(5, 0);
+        for (unsigned bit = 0; bit < 7; bit++)
+            set->has[i * 7 + bit + 1] = at[i] >> (7 - bit) & 1;
+        if (!(at[i] & FX)) {
+            *octets = i + 1;
+            break;
+        }
+        if (i + 1 == most)
+            return refused(6, 0);
+    }
+    if (at[*octets - 1] == 0)
+        return refused(7, 0);
+    return has_unusable(category, set) ? refused(8, 0) : fine;
+}
+
+/* The items of a set, end to end at the start of `have` octets: where each starts, and their whole length. A
+ * refusal, 9 to 11, is at the item's start. */
+static struct plain_fault check_items(unsigned category, const struct set *set, const uint8_t *at, size_t have,
+                                      size_t *starts, size_t *length)
+{
+    size_t done = 0;
+    for (unsigned frn = 1; frn <= PLAIN_FRNS; frn++) {
+        if (!set->has[frn])
+            continue;
+        size_t n = 0;
+        struct plain_fault fault = check_item(layout_at(category, frn), at + done, have - done, &n);
+        if (fault.number)
+            return refused(fault.number, done);
+        starts[frn - 1] = done;
+        done += n;
+    }
+    *length = done;
+    return fine;
+}
+
+/* 12 to 15, at 0: the record's start. `type` is looked at only where the set has the message type item. */
+static struct plain_fault check_type(unsigned category, const struct set *set, const uint8_t *type)
+{
+    const struct message *message = NULL;
+    if (!set->has[TYPE_FRN])
+        return refused(12, 0);
+    for (size_t i = 0; i < COUNT(messages); i++)
+        if (messages[i].category == category && messages[i].type == *type)
+            message = &messages[i];
+    if (!message)
+        return refused(13, 0);
+    for (unsigned frn = 1; frn <= last_frn(category); frn++) {
+        int reference = reference_at(category, frn);
+        bool must = frn <= TYPE_FRN || (reference != NONE && is_in(message->must, reference));
+        if (must && !set->has[frn])
+            return refused(14, 0);
+    }
+    for (unsigned frn = 1; frn <= last_frn(category); frn++) {
+        int reference = reference_at(category, frn);
+        bool sent = frn <= TYPE_FRN || is_in(message->must, reference) || is_in(message->may, reference);
+        if (set->has[frn] && !sent)
+            return refused(15, 0);
+    }
+    return fine;
+}
+
+/* The record at `at` of a block of `have` octets; on success where it and its items are. */
+static struct plain_record check_record(unsigned category, const uint8_t *block, size_t have, size_t at)
+{
+    const struct plain_record nothing = { .count = 0 };
+    struct plain_record record = nothing;
+    struct set set;
+    size_t octets = 0, length = 0, starts[PLAIN_FRNS] = { 0 };
+
+    struct plain_fault fault = get_fspec(category, block + at, have - at, &set, &octets);
+    if (fault.number) {
+        record.fault = refused(fault.number, at);
+        return record;
+    }
+    fault = check_items(category, &set, block + at + octets, have - at - octets, starts, &length);
+    if (fault.number) {
+        record.fault = refused(fault.number, at + octets + fault.place);
+        return record;
+    }
+    fault = check_type(category, &set, block + at + octets + starts[TYPE_FRN - 1]);
+    if (fault.number) {
+        record.fault = refused(fault.number, at);
+        return record;
+    }
+    record.start = at;
+    record.length = octets + length;
+    record.end = at + octets + length;
+    for (unsigned frn = 1; frn <= PLAIN_FRNS; frn++)
+        if (set.has[frn]) {
+            record.starts[frn - 1] = at + octets + starts[frn - 1];
+            record.count++;
+        }
+    return record;
+}
+
+/* ---- Blocks and recordings */
+
+enum { HEAD = 3, MOST_LEN = 65535 };
+
+static size_t len_of(const uint8_t *block)
+{
+    return (size_t)block[1] * 256 + block[2];
+}
+
+/* The records of a block whose head is right, and that is `have` octets long. */
+static struct plain_block check_records(const uint8_t *block, size_t have)
+{
+    struct plain_block answer = { fine, 0 };
+    for (size_t at = HEAD; at < have;) {
+        struct plain_record record = check_record(block[0], block, have, at);
+        if (record.fault.number)
+            return (struct plain_block){ record.fault, 0 };
+        at = record.end;
+        answer.records++;
+    }
+    return answer;
+}
+
+static struct plain_fault check_head(const uint8_t *block, size_t have)
+{
+    if (have < HEAD)
+        return refused(1, 0);
+    if (!is_category(block[0]))
+        return refused(2, 0);
+    if (len_of(block) < HEAD)
+        return refused(3, 0);
+    return fine;
+}
+
+struct plain_block plain_check_block(const uint8_t *block, size_t have)
+{
+    struct plain_fault fault = check_head(block, have);
+    if (fault.number == 0 && len_of(block) != have)
+        fault = refused(3, 0);
+    if (fault.number == 0 && len_of(block) == HEAD)
+        fault = refused(4, 0);
+    if (fault.number)
+        return (struct plain_block){ fault, 0 };
+    return check_records(block, have);
+}
+
+struct plain_recording plain_check_recording(const uint8_t *recording, size_t have)
+{
+    struct plain_recording answer = { fine, 0, 0 };
+    for (size_t at = 0; at < have;) {
+        const uint8_t *block = recording + at;
+        struct plain_fault fault = check_head(block, have - at);
+        if (fault.number == 0 && len_of(block) > have - at)
+            fault = refused(3, 0);
+        if (fault.number == 0 && len_of(block) == HEAD)
+            fault = refused(4, 0);
+        struct plain_block checked = { fault, 0 };
+        if (fault.number == 0)
+            checked = check_records(block, len_of(block));
+        if (checked.fault.number)
+            return (struct plain_recording){ refused(checked.fault.number, at + checked.fault.place), 0, 0 };
+        answer.blocks++;
+        answer.records += checked.records;
+        at += len_of(block);
+    }
+    return answer;
+}
+
+struct plain_record plain_find_record(const uint8_t *block, size_t have, size_t n)
+{
+    struct plain_record record = { .count = 0 };
+    struct plain_block checked = plain_check_block(block, have);
+    record.fault = checked.fault;
+    if (record.fault.number == 0 && n >= checked.records)
+        record.fault = refused(19, 0);
+    if (record.fault.number)
+        return record;
+    size_t at = HEAD;
+    for (size_t i = 0; i <= n; i++) {
+        record = check_record(block[0], block, have, at);
+        at = record.end;
+    }
+    return record;
+}
+
+struct plain_item plain_find_item(const uint8_t *block, size_t have, unsigned reference, size_t n)
+{
+    struct plain_item answer = { fine, 0, 0 };
+    answer.fault = plain_check_block(block, have).fault;
+    if (answer.fault.number)
+        return answer;
+    const struct item *item = find_layout(block[0], reference);
+    if (!item) {
+        answer.fault = refused(21, 0);
+        return answer;
+    }
+    struct plain_record record = plain_find_record(block, have, n);
+    if (record.fault.number) {
+        answer.fault = record.fault;
+        return answer;
+    }
+    for (unsigned frn = 1; frn <= PLAIN_FRNS; frn++)
+        if (layout_at(block[0], frn) == item && record.starts[frn - 1]) {
+            answer.start = record.starts[frn - 1];
+            check_item(item, block + answer.start, have - answer.start, &answer.length);
+            return answer;
+        }
+    answer.fault = refused(20, record.start);
+    return answer;
+}
+
+/* ---- Adding a record */
+
+struct plain_length plain_add_record(uint8_t *out, size_t room, size_t used, uint64_t frns, const uint8_t *lent,
+                                     size_t have)
+{
+    struct plain_length answer = { fine, false, 0 };
+
+    /* the old block */
+    if (used > room) {
+        answer.fault = refused(16, 0);
+        return answer;
+    }
+    answer.fault = check_head(out, used);
+    if (answer.fault.number == 0 && len_of(out) != used)
+        answer.fault = refused(3, 0);
+    if (answer.fault.number == 0)
+        answer.fault = check_records(out, used).fault;
+    if (answer.fault.number)
+        return answer;
+
+    /* the new record */
+    answer.in_new = true;
+    unsigned category = out[0];
+    struct set set = { { false } };
+    for (unsigned frn = 0; frn <= MOST_FRN; frn++)
+        set.has[frn] = frns >> (63 - frn) & 1;
+    if (is_empty(&set)) {
+        answer.fault = refused(7, 0);
+        return answer;
+    }
+    if (has_unusable(category, &set)) {
+        answer.fault = refused(8, 0);
+        return answer;
+    }
+    size_t starts[PLAIN_FRNS] = { 0 }, length = 0;
+    answer.fault = check_items(category, &set, lent, have, starts, &length);
+    if (answer.fault.number)
+        return answer;
+    if (length < have) {
+        answer.fault = refused(18, length);
+        return answer;
+    }
+    answer.fault = check_type(category, &set, lent + starts[TYPE_FRN - 1]);
+    if (answer.fault.number)
+        return answer;
+    unsigned last = 0;
+    for (unsigned frn = 1; frn <= PLAIN_FRNS; frn++)
+        if (set.has[frn])
+            last = frn;
+    size_t octets = (last + 6) / 7;
+    size_t len = used + octets + length;
+    if (len > MOST_LEN)
+        answer.fault = refused(17, 0);
+    else if (len > room)
+        answer.fault = refused(16, 0);
+    if (answer.fault.number)
+        return answer;
+
+    /* FSPEC, items, LEN */
+    for (size_t i = 0; i < octets; i++) {
+        out[used + i] = i + 1 < octets ? FX : 0;
+        for (unsigned bit = 0; bit < 7; bit++)
+            if (set.has[i * 7 + bit + 1])
+                out[used + i] |= (uint8_t)(0x80 >> bit);
+    }
+    for (size_t i = 0; i < length; i++)
+        out[used + octets + i] = lent[i];
+    out[1] = (uint8_t)(len / 256);
+    out[2] = (uint8_t)(len % 256);
+    answer.in_new = false;
+    answer.length = len;
+    return answer;
+}
+
+/* ---- Lengths by FSPEC octet */
+
+size_t plain_least_length(unsigned category, size_t place, unsigned octet)
+{
+    size_t sum = 0;
+    if (!is_category(category) || place >= last_frn(category) / 7)
+        return 0;
+    for (unsigned bit = 0; bit < 7; bit++) {
+        const struct item *item = layout_at(category, (unsigned)place * 7 + bit + 1);
+        if (octet >> (7 - bit) & 1 && item)
+            sum += item->layout == FIXED ? item->octets : 1;
+    }
+    return sum;
+}

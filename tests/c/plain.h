@@ -1,0 +1,81 @@
+/* Checking, reading and writing blocks of ASTERIX categories 017 and 018: a second, plain
+ * implementation, for comparison with the proved one.
+ *
+ * Written from the documents: category 017 edition 1.3, category 018 edition 1.6, the scope
+ * paper and docs/DECISIONS.md. It shares nothing with the proved code, and was made to be read
+ * and not to be fast. Nothing is proved of it. */
+#ifndef PLAIN_H
+#define PLAIN_H
+
+#include <stdbool.h>
+#include <stddef.h>
+#include <stdint.h>
+
+enum {
+    PLAIN_FRNS = 35,   /* the longest profile's last field reference number */
+    PLAIN_FIELDS = 510 /* most fields of one item: a list of 255 parts with two each */
+};
+
+/* A refusal: its number, 1 to 21, and its place. Number 0 is no refusal. */
+struct plain_fault {
+    unsigned number;
+    size_t place;
+};
+
+struct plain_block {
+    struct plain_fault fault;
+    size_t records;
+};
+
+struct plain_recording {
+    struct plain_fault fault;
+    size_t blocks, records;
+};
+
+/* Where a record of a block is, and where its items start, all counted from the block's start. */
+struct plain_record {
+    struct plain_fault fault;
+    size_t start, length;
+    size_t starts[PLAIN_FRNS]; /* [FRN - 1]; 0: the item is absent */
+    size_t end, count;
+};
+
+struct plain_item {
+    struct plain_fault fault;
+    size_t start, length;
+};
+
+struct plain_fields {
+    struct plain_fault fault;
+    size_t count;
+    int64_t field[PLAIN_FIELDS];
+};
+
+struct plain_length {
+    struct plain_fault fault;
+    bool in_new; /* of a refused addition: the place lies in the new items */
+    size_t length;
+};
+
+struct plain_block plain_check_block(const uint8_t *block, size_t have);
+struct plain_recording plain_check_recording(const uint8_t *recording, size_t have);
+struct plain_record plain_find_record(const uint8_t *block, size_t have, size_t n);
+struct plain_item plain_find_item(const uint8_t *block, size_t have, unsigned reference, size_t n);
+
+/* One item alone, and nothing after it. */
+struct plain_fields plain_read_item(unsigned category, unsigned reference, const uint8_t *item, size_t have);
+
+/* The item at the start of `out`, which has `room` octets. A refusal leaves `out` as it was. */
+struct plain_length plain_write_item(unsigned category, unsigned reference, const int64_t *field, size_t count,
+                                     uint8_t *out, size_t room);
+
+/* One record more in the block that the first `used` octets of `out` are. `set` has the FRNs: FRN f is bit 63 - f.
+ * A refusal leaves `out` as it was. */
+struct plain_length plain_add_record(uint8_t *out, size_t room, size_t used, uint64_t set, const uint8_t *items,
+                                     size_t have);
+
+/* The fixed lengths, summed, of the items that an FSPEC octet names (`place` from 0): a list or a led item counts
+ * 1, an item extended by FX its first part. 0 where the category or the octet is not there. */
+size_t plain_least_length(unsigned category, size_t place, unsigned octet);
+
+#endif
