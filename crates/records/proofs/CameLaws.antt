@@ -2,19 +2,18 @@
 -- item. It is what the record map says.
 --
 -- In order: over places end to end; the place; the count; the starts; the message type. Assumes nothing.
-use Prim.Native.Nat.{ℕ, zero, suc, _+_, _-_, _*_, _/_, _%_, _^_, _≤_, _<_}
+use Prim.Native.Nat.{ℕ, zero, suc, _+_, _-_, _*_, _/_, _%_, _≤_, _<_}
 use mathlib.Core.Path.{_≡_, refl, sym, ap, ap₂, _∙_, subst}
-use mathlib.Core.Bool.{Bool, true, false, false≢true}
+use mathlib.Core.Bool.{true, false≢true}
 use mathlib.Core.Option.{Option, none, some}
 use mathlib.Core.List.{List, [], _∷_, _++_, map, append-assoc}
 use native.Mathlib.Omega.{arith}
 use native.Mathlib.Nat.{add-zero, mod-eq-of-lt}
-use lib.Dec.{eqb}
 use borrow.Author.Tests.{eq-eqb, ne-eqb}
-use lib.IntN.{ℤ, pos, negsuc}
+use lib.IntN.{pos, negsuc}
 use lib.ListN.{length, getD, set, replicate, length-append}
 use lib.Seq.{set-at}
-use Rattle.rules.specs.Answer.{Answer, ok, refused, _>>=_, need_or_then_, if_then_else_, octetsOf}
+use Rattle.rules.specs.Answer.{ok, octetsOf}
 use Rattle.rules.specs.Field.{put, pack}
 use Rattle.rules.specs.Layout.{Values, octets, writeNum, writeMany, writeParts, packAll, writeItem}
 use Rattle.rules.specs.Presence.{present}

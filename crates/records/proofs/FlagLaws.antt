@@ -7,12 +7,12 @@ use mathlib.Core.Path.{_≡_, refl, sym, ap, ap₂, _∙_, subst}
 use mathlib.Core.Bool.{Bool, true, false, _&&_}
 use mathlib.Core.List.{List, [], _∷_, _++_}
 use native.Mathlib.Omega.{arith}
-use native.Mathlib.Nat.{zero-mul, zero-add, add-zero, suc-sub-suc, sub-zero, mod-lt, mod-eq-of-lt, mod-eq-sub-mod, pow-suc, div-eq-of-lt, add-left-cancel, suc-add, le-div-iff-mul-le, div-lt-iff-lt-mul}
+use native.Mathlib.Nat.{zero-add, suc-sub-suc, sub-zero, mod-lt, mod-eq-of-lt, mod-eq-sub-mod, pow-suc, div-eq-of-lt, add-left-cancel, suc-add, le-div-iff-mul-le, div-lt-iff-lt-mul}
 use lib.Pow.{pow-pos, pow-add, split, high, field, mod-mod-pow}
 use lib.Dec.{leb, eqb}
 use lib.Bits.{bitAnd, and-zero-l, and-le-r, and-block}
 use borrow.Author.Tests.{le-leb, lt-leb, leb-true, leb-false, eq-eqb, ne-eqb, eqb-true, eqb-false}
-use lib.ListN.{length, getD, set, replicate, length-append, length-replicate, length-set}
+use lib.ListN.{length, getD, set, replicate, length-append, length-set}
 use lib.Seq.{set-getD}
 use Rattle.rules.specs.Presence.{flags, number}
 use Rattle.rules.specs.Entry.{over}

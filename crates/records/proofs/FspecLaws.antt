@@ -5,22 +5,22 @@ use Prim.Native.Nat.{ℕ, zero, suc, _+_, _-_, _*_, _/_, _%_, _^_, _≤_, _<_, m
 use mathlib.Core.Path.{_≡_, refl, sym, ap, ap₂, _∙_, subst}
 use mathlib.Core.Logic.{_⊎_, inl, inr, ⊎-elim}
 use mathlib.Core.Bool.{Bool, true, false, _&&_, _||_, not, true≢false, false≢true}
-use mathlib.Core.Option.{Option, none, some}
+use mathlib.Core.Option.{Option, none}
 use mathlib.Core.List.{List, [], _∷_, _++_, map, append-assoc, cons≢nil}
 use native.Mathlib.Omega.{arith}
 use native.Mathlib.Nat.{add-zero, zero-add, sub-zero, mod-lt, mod-eq-of-lt, suc-min-suc, zero-min, min-zero, suc-sub-suc}
-use lib.Dec.{T, ltb, leb, eqb, lt→ltb}
+use lib.Dec.{ltb, leb, eqb, lt→ltb}
 use lib.Pow.{pow-pos, shr-lt, field, mod-mod-pow}
 use borrow.Author.Tests.{lt-ltb, eq-eqb, ne-eqb, eqb-true, eqb-false, lt-leb, leb-false, not-true, not-false}
-use lib.ListN.{length, take, drop, getD, replicate, length-append, length-take, length-drop, length-map, length-replicate, take-append-drop, replicate-append-replicate, List·getD-eq-default}
+use lib.ListN.{length, take, drop, getD, replicate, length-append, length-drop, length-map, length-replicate, take-append-drop, replicate-append-replicate, List·getD-eq-default}
 use lib.Seq.{drop-cons, drop-drop, length-take-le, take-at, drop-at}
-use Rattle.rules.specs.Answer.{Answer, ok, refused, _>>=_, need_or_then_, if_then_else_, octetsOf}
+use Rattle.rules.specs.Answer.{ok, octetsOf}
 use Rattle.rules.specs.Layout.{concat, octets, writeNum, writeChain}
-use Rattle.rules.specs.Presence.{flags, number, present, usable, house, numbers, writePresence, has, placeAt, allUsable, rowFlags, anySet, keepRow, setFlags}
+use Rattle.rules.specs.Presence.{flags, number, present, usable, house, numbers, writePresence, has, allUsable, rowFlags, anySet, keepRow, setFlags}
 use Rattle.rules.specs.Record.{Place, places}
 use Rattle.rules.specs.Entry.{over}
-use Rattle.rules.proofs.AnswerLaws.{bind-in, bind-out, need-in, need-out, if-true, if-false, T-true, octetsOf-ok, both-left, both-right}
-use Rattle.rules.proofs.PresenceLaws.{flags-length, number-lt, flags-number, number-flags, usable-length}
+use Rattle.rules.proofs.AnswerLaws.{bind-in, need-in, need-out, if-true, if-false, T-true, octetsOf-ok, both-left, both-right}
+use Rattle.rules.proofs.PresenceLaws.{flags-length, number-lt, number-flags, usable-length}
 use Rattle.records.specs.Sets.{categoryAt, bitsOf, frnsFrom, frnsOf, within, fspecAt}
 use Rattle.records.specs.Walk.{usableBits, rowsLeft}
 use Rattle.records.proofs.FlagLaws.{number-none, flags-split, over-pad, bits-tail, bits-flags, within-append, within-pad}

@@ -1,16 +1,15 @@
 -- The items of a set, once they are read: what the walk over them comes to, and what the message type asks of them. For a record that is read and
 -- for one that is to be added. Assumes nothing.
-use Prim.Native.Nat.{ℕ, zero, suc, _+_, _-_, _≤_, _<_}
-use mathlib.Core.Path.{_≡_, refl, sym, ap, ap₂, _∙_, subst}
-use mathlib.Core.Bool.{Bool, true, false}
-use mathlib.Core.Option.{Option, none, some}
+use Prim.Native.Nat.{ℕ, _+_, _≤_}
+use mathlib.Core.Path.{_≡_, refl, sym, ap, _∙_}
+use mathlib.Core.Bool.{Bool, true}
 use mathlib.Core.List.{List, [], _∷_, _++_, map}
 use native.Mathlib.Omega.{arith}
 use lib.ListN.{length, length-append, length-map}
-use Rattle.rules.specs.Answer.{Answer, ok, refused, _>>=_, later}
-use Rattle.rules.specs.Layout.{Values, concat}
+use Rattle.rules.specs.Answer.{ok, refused, _>>=_}
+use Rattle.rules.specs.Layout.{concat}
 use Rattle.rules.specs.Presence.{flags, present, readRows, writeRows}
-use Rattle.rules.specs.Record.{Place, Record, places, judge, readPlace, writePlace}
+use Rattle.rules.specs.Record.{Record, places, judge, readPlace, writePlace}
 use Rattle.rules.proofs.AnswerLaws.{bind-in, bind-out, later-in, later-out, Octets, Split}
 use Rattle.rules.proofs.PresenceLaws.{rows-forth}
 use Rattle.rules.proofs.RecordLaws.{place-laws}

@@ -2,7 +2,7 @@
 --
 -- In order: rows of message types; items by their references; what a message type may have; what it must have; the law; the steps of the
 -- judgement. Assumes nothing.
-use Prim.Native.Nat.{ℕ, zero, suc, _+_, _-_, _*_, _/_, _%_, _^_, _≤_, _<_}
+use Prim.Native.Nat.{ℕ, zero, suc, _≤_}
 use mathlib.Core.Path.{_≡_, refl, sym, ap, ap₂, _∙_, subst}
 use mathlib.Core.Logic.{_⊎_, inl, inr, ⊎-elim}
 use mathlib.Core.Bool.{Bool, true, false, _&&_, _||_, not, true≢false, false≢true}
@@ -10,12 +10,12 @@ use mathlib.Core.Option.{Option, none, some}
 use mathlib.Core.List.{List, [], _∷_, _++_, map, reverse}
 use native.Mathlib.Omega.{arith}
 use lib.Dec.{eqb}
-use borrow.Author.Tests.{eqb-true, eqb-false, eq-eqb, ne-eqb, not-true, not-false}
+use borrow.Author.Tests.{eqb-true, eq-eqb, ne-eqb, not-true, not-false}
 use lib.ListN.{length, getD, replicate, List·getD-map, length-map}
 use Rattle.rules.specs.Answer.{Answer, ok, refused, _>>=_, need_or_then_, if_then_else_}
 use Rattle.rules.specs.Layout.{Values, concat}
 use Rattle.rules.specs.Presence.{flags, present, has}
-use Rattle.rules.specs.Record.{Place, Message, Category, Record, places, named, items, references, valueOf, allIn, typeOf, messageOf, judge}
+use Rattle.rules.specs.Record.{Place, Message, Record, places, named, items, references, valueOf, allIn, typeOf, messageOf, judge}
 use Rattle.rules.specs.Entry.{categories, over, isItem}
 use Rattle.rules.proofs.AnswerLaws.{ok-inj, bind-in, bind-out, bind-assoc, need-bind, need-in, if-inv, if-true, if-false, some-inj, none-some, both-left, both-right, refused-ok}
 use Rattle.rules.proofs.Tables.{distinct, everyCategory}

@@ -10,3 +10,4 @@ pub mod ItemLaws
 pub mod RecordLaws
 pub mod FspecLaws
 pub mod NewLaws
+pub mod Unique

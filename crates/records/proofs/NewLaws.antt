@@ -1,24 +1,24 @@
 -- A new record checked as the code checks it, by its set and its items, is the rules' new record.
 --
--- In order: the items; the law; the steps of the code. Assumes nothing.
-use Prim.Native.Nat.{ℕ, zero, suc, _+_, _-_, _*_, _%_, _^_, _≤_, _<_}
-use mathlib.Core.Path.{_≡_, refl, sym, ap, ap₂, _∙_, subst}
+-- In order: the items; the law, and the octets of a new record; the steps of the code. Assumes nothing.
+use Prim.Native.Nat.{ℕ, _+_, _-_, _^_, _<_}
+use mathlib.Core.Path.{_≡_, refl, sym, ap, _∙_}
 use mathlib.Core.Logic.{⊎-elim}
 use mathlib.Core.Bool.{Bool, true, false, not}
-use mathlib.Core.List.{List, [], _∷_, _++_}
+use mathlib.Core.List.{List, _++_}
 use native.Mathlib.Omega.{arith}
 use native.Mathlib.Nat.{zero-add, add-zero}
 use lib.Dec.{ltb, eqb}
-use borrow.Author.Tests.{ltb-true, lt-ltb, eq-eqb, ne-eqb, eqb-true, eqb-false, not-true, not-false}
+use borrow.Author.Tests.{ltb-true, lt-ltb, eq-eqb, ne-eqb, eqb-true, eqb-false}
 use lib.ListN.{length, getD, length-append}
 use mir.Syntax.{w8}
 use mir.Val.{Fits}
-use Rattle.rules.specs.Answer.{Answer, ok, refused, _>>=_, need_or_then_, if_then_else_, later, octetsOf}
-use Rattle.rules.specs.Layout.{concat, readChain}
+use Rattle.rules.specs.Answer.{Answer, ok, refused, _>>=_, need_or_then_, later, octetsOf}
+use Rattle.rules.specs.Layout.{concat}
 use Rattle.rules.specs.Presence.{flags, writePresence, readRows, allUsable, setFlags}
 use Rattle.rules.specs.Record.{Record, judge, readPlace}
 use Rattle.rules.specs.Entry.{newRecord}
-use Rattle.rules.proofs.AnswerLaws.{refused-ok, bind-in, bind-out, bind-assoc, need-bind, need-in, need-out, later-in, later-out, T-true, Octets}
+use Rattle.rules.proofs.AnswerLaws.{ok-inj, bind-elim, need-elim, bind-in, bind-out, need-bind, need-in, need-out, later-in, later-out, T-true, Octets}
 use Rattle.records.specs.Sets.{categoryAt, bitsOf, frnsOf, within, fspecAt}
 use Rattle.records.specs.Walk.{usableBits, Came, walk, startAt, judgeSet, rowsLeft, newBy}
 use Rattle.records.specs.Answers.{judgedOf, judgedNumber, cameBy, cameOf, checkedNumber, checkedPlace, newAt}
@@ -140,6 +140,17 @@ new-law i bits bs o fits =
         ∙ ap (λ t. (need t or 8 then ruleItems i bits bs) >>= (λ new. ok (length new))) (sym (set-usable i bits))
         ∙ sym (need-bind true 7 _ _ ∙ need-in true 7 tt refl)
     by-some false e = need-out 7 _ refl ∙ sym (bind-out _ (need-out 7 _ refl))
+
+-- the octets of a new record: the FSPEC of its set, then its items
+pub new-octets : (i bits : ℕ) (bs new : List ℕ) → newRecord (categoryAt i) (frnsOf bits) bs ≡ ok new → new ≡ fspecAt i bits ++ bs
+unfolding newRecord fspecAt
+new-octets i bits bs new h =
+    need-elim _ _ _ h λ s h₁.
+    need-elim _ _ _ h₁ λ u h₂.
+    bind-elim _ _ h₂ λ x p h₃.
+    bind-elim _ _ h₃ λ y q h₄.
+    bind-elim _ _ h₄ λ z r h₅.
+    sym (ok-inj h₅) ∙ ap (λ l. octetsOf l ++ bs) (sym (need-in _ 8 u refl))
 
 -- ---- the steps of the code: m are the FRNs of the profile, t whether the set is within them
 

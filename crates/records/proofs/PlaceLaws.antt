@@ -1,24 +1,21 @@
 -- A refusal inside an item stands at the item's start, and an item that is whole lies within its part.
 --
 -- In order: answers; fields; layouts; the item at an FRN. Assumes nothing.
-use Prim.Native.Nat.{ℕ, zero, suc, _+_, _-_, _*_, _/_, _%_, _^_, _≤_, _<_}
-use mathlib.Core.Path.{_≡_, refl, sym, ap, _∙_, subst}
+use Prim.Native.Nat.{ℕ, zero, suc, _-_, _≤_, _<_}
+use mathlib.Core.Path.{_≡_, sym, subst}
 use mathlib.Core.Bool.{Bool, true, false}
 use mathlib.Core.Option.{Option, none, some}
-use mathlib.Core.List.{List, [], _∷_, map}
+use mathlib.Core.List.{List, [], _∷_}
 use native.Mathlib.Omega.{arith}
-use lib.Dec.{eqb, ltb}
-use lib.IntN.{ℤ, pos, negsuc}
 use lib.ListN.{length, getD}
 use Rattle.rules.specs.Answer.{Answer, ok, refused, _>>=_, need_or_then_, if_then_else_, expect_or_}
-use Rattle.rules.specs.Field.{Field, spare, value, Kind, unsigned, signed, half, get, unpack}
-use Rattle.rules.specs.Layout.{Layout, fixed, repeated, led, extended, Values, concat, readNum, readMany, readChain, readParts, unpackAll, readItem}
+use Rattle.rules.specs.Field.{Field, spare, value, Kind, unsigned, signed, get, unpack}
+use Rattle.rules.specs.Layout.{Layout, fixed, repeated, led, extended, concat, readNum, readMany, readChain, readParts, unpackAll, readItem}
 use Rattle.rules.specs.Presence.{placeAt}
-use Rattle.rules.specs.Record.{Place, places}
+use Rattle.rules.specs.Record.{Place}
 use Rattle.rules.specs.Entry.{categories, profileAt}
-use Rattle.rules.proofs.AnswerLaws.{refused-ok, ok-inj, bind-elim, expect-elim, none-some, some-inj}
+use Rattle.rules.proofs.AnswerLaws.{refused-ok, ok-inj, bind-elim, expect-elim, none-some}
 use Rattle.items.specs.Answers.{sizeOf, checkAt}
-use Rattle.records.specs.Sets.{categoryAt}
 use Rattle.records.proofs.ProfileLaws.{profile-at, places-few}
 
 -- ---- answers

@@ -1,29 +1,28 @@
 -- A record read as the code reads it, its FSPEC, its items and its message type one after the other, is the rules' record, and its map is theirs.
 --
 -- In order: what an FSPEC leaves; the law; where a record ends; the steps of checking a record. Assumes nothing.
-use Prim.Native.Nat.{ℕ, zero, suc, _+_, _-_, _^_, _≤_, _<_}
+use Prim.Native.Nat.{ℕ, _+_, _-_, _^_, _≤_, _<_}
 use mathlib.Core.Path.{_≡_, refl, sym, ap, ap₂, _∙_, subst}
 use mathlib.Core.Logic.{⊎-elim}
-use mathlib.Core.Bool.{Bool, true, false}
-use mathlib.Core.Option.{Option, none, some}
-use mathlib.Core.List.{List, [], _∷_, _++_, map}
+use mathlib.Core.Bool.{Bool}
+use mathlib.Core.Option.{Option}
+use mathlib.Core.List.{List, [], _∷_, map}
 use native.Mathlib.Omega.{arith}
 use native.Mathlib.Nat.{add-assoc, add-zero, zero-add}
-use lib.Dec.{T}
-use lib.ListN.{length, take, drop, getD, replicate, length-append, length-map}
+use lib.ListN.{length, take, drop, getD, replicate, length-append}
 use lib.Seq.{drop-at}
 use mir.Syntax.{w8}
 use mir.Val.{Fits}
-use Rattle.rules.specs.Answer.{Answer, ok, refused, _>>=_, later, octetsOf}
-use Rattle.rules.specs.Layout.{Values, concat, readChain}
-use Rattle.rules.specs.Presence.{flags, present, usable, numbers, writePresence, readPresence, readRows, readPlaces, writeRows}
-use Rattle.rules.specs.Record.{Place, Category, Record, places, typeOf, judge, readPlace, writePlace, writeRecord, readRecord}
-use Rattle.rules.specs.Entry.{RecordMap, Numbered, mapOf, over, laid, startOf, countOf}
+use Rattle.rules.specs.Answer.{Answer, ok, refused, octetsOf}
+use Rattle.rules.specs.Layout.{concat, readChain}
+use Rattle.rules.specs.Presence.{flags, numbers, writePresence, readPresence, readRows, readPlaces}
+use Rattle.rules.specs.Record.{Place, Record, places, judge, readPlace, writeRecord, readRecord}
+use Rattle.rules.specs.Entry.{RecordMap, mapOf, over, laid, startOf, countOf}
 use Rattle.rules.proofs.AnswerLaws.{refused-ok, ok-inj, bind-in, bind-out, bind-elim, need-elim, later-in, later-out, later-inv, octetsOf-ok, Octets, Split, after}
-use Rattle.rules.proofs.PresenceLaws.{presence-laws, rows-forth}
-use Rattle.rules.proofs.RecordLaws.{place-laws, record-laws, record-starts}
-use Rattle.rules.proofs.EntryLaws.{itemOctets, Written, RecordWritten, record-written, rows-written, presence-count}
-use Rattle.records.specs.Sets.{categoryAt, bitsOf, within, setAt}
+use Rattle.rules.proofs.PresenceLaws.{presence-laws}
+use Rattle.rules.proofs.RecordLaws.{record-laws, record-starts}
+use Rattle.rules.proofs.EntryLaws.{presence-count}
+use Rattle.records.specs.Sets.{categoryAt, bitsOf, setAt}
 use Rattle.records.specs.Walk.{Came, walk, startAt, judgeSet, recordBy}
 use Rattle.records.specs.Answers.{setOf, setNumber, judgedOf, judgedNumber, cameBy, cameOf, checkedNumber, checkedPlace, endOf, absent, mapIn, Walked, recordAt}
 use Rattle.records.specs.declared.ItemSet.{ItemSet}

@@ -1,8 +1,8 @@
 -- Walking over flags is reading the rules' rows.
 --
 -- In order: places counted on; one row; rows end to end; the items of a set. Assumes nothing.
-use Prim.Native.Nat.{ℕ, zero, suc, _+_, _-_, _≤_, _<_}
-use mathlib.Core.Path.{_≡_, refl, sym, ap, ap₂, _∙_, subst}
+use Prim.Native.Nat.{ℕ, zero, suc, _+_, _-_, _≤_}
+use mathlib.Core.Path.{_≡_, refl, sym, ap, ap₂, _∙_}
 use mathlib.Core.Bool.{Bool, true, false, _&&_}
 use mathlib.Core.Option.{Option, none, some}
 use mathlib.Core.List.{List, [], _∷_, _++_, map, append-assoc}
@@ -12,21 +12,21 @@ use native.Mathlib.Numerals.{add-one}
 use lib.Dec.{T}
 use lib.ListN.{length, take, drop, getD, replicate, length-append, length-map}
 use lib.Seq.{take-at, drop-at, drop-drop, getD-drop}
-use Rattle.rules.specs.Answer.{Answer, ok, refused, _>>=_, later, octetsOf, expect_or_}
-use Rattle.rules.specs.Layout.{Values, concat, readItem}
-use Rattle.rules.specs.Presence.{flags, present, usable, placeAt, readRow, readRows}
+use Rattle.rules.specs.Answer.{Answer, ok, refused, _>>=_, later, octetsOf}
+use Rattle.rules.specs.Layout.{Values, concat}
+use Rattle.rules.specs.Presence.{flags, present, usable, readRow, readRows}
 use Rattle.rules.specs.Record.{Place, Record, places, readPlace, writePlace}
 use Rattle.rules.specs.Entry.{categories, profileAt}
-use Rattle.rules.proofs.AnswerLaws.{ok-inj, bind-in, bind-out, bind-cong, later-in, later-out, later-inv, expect-in, octetsOf-ok, Octets, Split, after}
+use Rattle.rules.proofs.AnswerLaws.{bind-in, bind-out, bind-cong, later-in, later-out, expect-in, octetsOf-ok, Octets, Split, after}
 use Rattle.rules.proofs.PresenceLaws.{usable-length, row-forth}
 use Rattle.rules.proofs.RecordLaws.{place-laws}
-use Rattle.rules.proofs.EntryLaws.{itemOctets, RowWritten, row-written}
+use Rattle.rules.proofs.EntryLaws.{RowWritten, row-written}
 use Rattle.items.specs.Answers.{sizeOf, checkAt}
 use Rattle.records.specs.Sets.{categoryAt, bitsOf, within}
 use Rattle.records.specs.Walk.{Came, passed, walk, startAt}
 use Rattle.records.proofs.FlagLaws.{over-pad, bits-flags-tail, within-append}
 use Rattle.records.proofs.ProfileLaws.{profile-at, places-few}
-use Rattle.records.proofs.SetLaws.{bind-same, usable-within, map-append}
+use Rattle.records.proofs.SetLaws.{usable-within, map-append}
 use Rattle.records.proofs.CameLaws.{comes, comes-none, comes-append, comes-here}
 
 -- ---- places counted on

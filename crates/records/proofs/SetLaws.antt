@@ -1,7 +1,7 @@
 -- The FSPEC read octet by octet, as the code reads it, is the rules' reading of presence octets.
 --
 -- In order: binds, octets; octets chained by FX bits; the set that they make; which of its FRNs are usable; the law; the steps of the loop. Assumes nothing.
-use Prim.Native.Nat.{ℕ, zero, suc, _+_, _-_, _*_, _/_, _%_, _^_, _≤_, _<_}
+use Prim.Native.Nat.{ℕ, suc, _+_, _-_, _*_, _/_, _%_, _^_, _≤_, _<_}
 use mathlib.Core.Path.{_≡_, refl, sym, ap, ap₂, _∙_, subst}
 use mathlib.Core.Logic.{⊎-elim}
 use mathlib.Core.Bool.{Bool, true, false, _&&_, not}
@@ -10,7 +10,7 @@ use mathlib.Core.List.{List, [], _∷_, _++_, map}
 use native.Mathlib.Omega.{arith}
 use native.Mathlib.Nat.{mul-le-mul-right, sub-zero}
 use lib.Pow.{pow-add}
-use lib.Dec.{leb, ltb, eqb}
+use lib.Dec.{eqb}
 use borrow.Author.Tests.{le-leb, lt-ltb, eqb-true, eq-eqb, ne-eqb, not-true, not-false}
 use lib.ListN.{length, take, drop, getD, replicate, length-append, length-map, length-drop, length-replicate}
 use lib.Seq.{take-all}
@@ -20,7 +20,6 @@ use Rattle.rules.specs.Answer.{Answer, ok, refused, _>>=_, need_or_then_, if_th
 use Rattle.rules.specs.Layout.{concat, joined, readNum, readChain}
 use Rattle.rules.specs.Presence.{flags, number, present, usable, house, flagRows, readPresence}
 use Rattle.rules.specs.Record.{Place, places}
-use Rattle.rules.specs.Entry.{over}
 use Rattle.rules.proofs.AnswerLaws.{refused-ok, ok-inj, bind-in, bind-elim, bind-assoc, if-inv, if-true, if-false, both-left, both-right, Octets}
 use Rattle.rules.proofs.PresenceLaws.{flags-length, number-flags}
 use Rattle.records.specs.Sets.{categoryAt, bitsOf, within, setAt}

@@ -3,15 +3,15 @@
 -- In order: the next FRN of a set; the steps of the loop. Assumes nothing.
 use Prim.Native.Nat.{ℕ, zero, suc, _+_, _-_, _*_, _/_, _%_, _^_, _≤_, _<_}
 use mathlib.Core.Path.{_≡_, refl, sym, ap, ap₂, _∙_, subst}
-use mathlib.Core.Bool.{Bool, true, false}
-use mathlib.Core.List.{List, [], _∷_, _++_}
+use mathlib.Core.Bool.{true, false}
+use mathlib.Core.List.{List, _∷_}
 use native.Mathlib.Omega.{arith}
 use native.Mathlib.Nat.{mod-eq-of-lt, mod-eq-sub-mod, pow-suc, sub-zero}
 use lib.Pow.{pow-pos}
-use lib.Dec.{leb, eqb}
+use lib.Dec.{eqb}
 use borrow.Author.Tests.{le-leb, lt-leb}
 use lib.ListN.{length, take, drop, getD, set, replicate, length-drop, length-set}
-use Rattle.rules.specs.Answer.{Answer, ok, refused, _>>=_, if_then_else_, later}
+use Rattle.rules.specs.Answer.{Answer, ok, refused, if_then_else_}
 use Rattle.rules.specs.Presence.{flags}
 use Rattle.rules.proofs.AnswerLaws.{bind-in, bind-out, later-in, later-out}
 use Rattle.items.specs.declared.ItemCheck.{ItemCheck}

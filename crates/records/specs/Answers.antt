@@ -1,8 +1,7 @@
 -- What each function of this crate answers, in the words of the rules. Assumes nothing.
 use Prim.Native.Nat.{ℕ}
 use mathlib.Core.Path.{_≡_}
-use mathlib.Core.Bool.{Bool, true, false}
-use mathlib.Core.List.{List, [], _∷_}
+use mathlib.Core.List.{List}
 use lib.ListN.{length, replicate}
 use Rattle.rules.specs.Answer.{Answer, ok, refused, _>>=_, later}
 use Rattle.rules.specs.Record.{readRecord}
@@ -10,7 +9,6 @@ use Rattle.rules.specs.Entry.{mapOf, newRecord}
 use Rattle.rules.specs.Entry as entry
 use Rattle.records.specs.Sets.{categoryAt, frnsOf}
 use Rattle.records.specs.Walk.{Came}
-use Rattle.records.specs.declared.ItemSet.{ItemSet}
 use Rattle.records.specs.declared.SetRead.{SetRead}
 use Rattle.records.specs.declared.SetRead.the-variants.{Items, Refused}
 use Rattle.records.specs.declared.messages.MessageRow.{MessageRow}

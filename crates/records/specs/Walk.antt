@@ -8,7 +8,7 @@ use lib.Dec.{ltb, eqb}
 use lib.ListN.{length, take, drop, getD, set, replicate}
 use Rattle.rules.specs.Answer.{Answer, ok, refused, _>>=_, need_or_then_, if_then_else_, later}
 use Rattle.rules.specs.Presence.{flags, present, has}
-use Rattle.rules.specs.Record.{Place, Message, Category, places, messageOf}
+use Rattle.rules.specs.Record.{Place, places, messageOf}
 use Rattle.rules.specs.Entry.{RecordMap}
 use Rattle.items.specs.Answers.{frnAs, checkAt}
 use Rattle.records.specs.Sets.{categoryAt, bitsOf, within, setAt}

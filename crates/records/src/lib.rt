@@ -15,7 +15,7 @@ ghost use Rattle.rules.specs.Answer.{if_then_else_};
 ghost use Rattle.rules.specs.Presence.{flags};
 ghost use Rattle.records.specs.Sets.{categoryAt, within, setAt, fspecAt};
 ghost use Rattle.records.specs.Walk.{usableBits, ended, typeFrn, judgeSet, walk, startAt, rowsLeft};
-ghost use Rattle.records.specs.Answers.{setOf, setNumber, judgedOf, judgedNumber, itemNumber, itemPlace, endOf, cameOf, absent, checkedNumber, checkedPlace, Walked, recordAt, newOf, newAt};
+ghost use Rattle.records.specs.Answers.{setOf, setNumber, judgedOf, judgedNumber, itemNumber, itemPlace, cameOf, absent, checkedNumber, checkedPlace, Walked, recordAt, newOf, newAt};
 
 // A set of FRNs: FRN f, 0 to 63, is bit 63 - f. FRN 0 is none, and no profile has one above 35.
 pub struct ItemSet {

@@ -1,5 +1,5 @@
 -- `records::check_record` meets its contract: at each `return` the functions called say which step of the rules ended the work. Assumes nothing.
-use Prim.Native.Nat.{_+_, _^_, _≤_, _<_}
+use Prim.Native.Nat.{_^_, _≤_, _<_}
 use mathlib.Core.Path.{_≡_, refl, sym, ap, _∙_}
 use native.Mathlib.Omega.{arith}
 use lib.ListN.{length}

@@ -4,8 +4,6 @@ use borrow.Author.Needs.{needs}
 use Rattle.records.proofs.FspecLaws.{set-low, set-within, fspec-none, fspec-counted}
 use Rattle.records.proofs.fspec_octets.Statement.{statement}
 use Rattle.records.proofs.fspec_octets.Tie as tie
-use Rattle.records.proofs.fspec_octets.Reads as reads
-use Rattle.records.proofs.fspec_octets.Lts as lts
 
 usable-requires : tie.Need-usable-requires
 usable-requires c κs = search needs

@@ -1,13 +1,10 @@
 -- `records::octets_of` meets its contract: at each turn, counting on from what is left gives what the whole gives. Assumes nothing.
 use Prim.Native.Nat.{_-_}
-use mathlib.Core.Path.{sym}
 use native.Mathlib.Omega.{arith}
 use lib.Pow.{pow-pos}
 use Rattle.records.proofs.FspecLaws.{Counting, count-first, count-less, count-next, count-end}
 use Rattle.records.proofs.octets_of.Statement.{statement}
 use Rattle.records.proofs.octets_of.Tie as tie
-use Rattle.records.proofs.octets_of.Reads as reads
-use Rattle.records.proofs.octets_of.Lts as lts
 
 abbrev Inv-loop : tie.InvT-loop
 Inv-loop bits left₀ n₀ left n = Counting bits left n

@@ -1,7 +1,5 @@
 -- `records::messages::row_of` meets its contract: each profile has its own rows. Assumes nothing.
-use mathlib.Core.Path.{sym, ap, _∙_}
 use borrow.Author.Needs.{needs}
-use Rattle.records.specs.Walk.{rowAt}
 use Rattle.records.proofs.ProfileLaws.{category-none}
 use Rattle.records.proofs.JudgeLaws.{row-none}
 use Rattle.records.proofs.messages.row_of.Statement.{statement}
