@@ -3,3 +3,4 @@ pub mod HeadLaws
 pub mod RecordLaws
 pub mod FindLaws
 pub mod LeastLaws
+pub mod InsideLaws
