@@ -4,20 +4,23 @@
 use Prim.Native.Nat.{ℕ, zero, suc, _+_, _-_, _*_, _^_, _≤_, _<_, min, max}
 use mathlib.Core.Path.{_≡_, refl, sym, ap, ap₂, _∙_, subst}
 use mathlib.Core.Bool.{Bool, true, false}
-use mathlib.Core.List.{List, [], _∷_, _++_}
+use mathlib.Core.List.{List, [], _∷_, _++_, append-nil}
 use native.Mathlib.Omega.{arith}
-use native.Mathlib.Nat.{min-eq-left, max-eq-left, max-eq-right}
+use native.Mathlib.Nat.{zero-add, le-refl, min-eq-left, max-eq-left, max-eq-right}
 use lib.Dec.{leb, eqb, le→leb}
 use borrow.Author.Tests.{le-leb, lt-leb, leb-true, eqb-true, eqb-false}
 use lib.ListN.{length, take, drop, getD, length-append, length-drop, List·getD-append}
-use lib.Seq.{take-append-le, drop-append-le}
+use lib.Seq.{drop-at, take-append-le, drop-append-le}
 use Rattle.rules.specs.Answer.{Answer, ok, refused, _>>=_, need_or_then_, if_then_else_, expect_or_}
+use Rattle.rules.specs.Layout.{concat}
 use Rattle.rules.specs.Block.{Head, categoryOf}
 use Rattle.rules.specs.Entry.{categories, Counts, checkRecording}
-use Rattle.rules.proofs.AnswerLaws.{refused-ok, ok-inj, bind-in, bind-out, bind-elim, need-in, if-true, if-false}
+use Rattle.rules.proofs.AnswerLaws.{refused-ok, ok-inj, bind-in, bind-out, bind-elim, need-in, later-in, later-out, if-true, if-false, Octets, octets-left, octets-right}
 use Rattle.blocks.specs.Read.{lenAt, headAt, headBy, countFrom, bodyAt, Front, checkFront}
 use Rattle.blocks.proofs.HeadLaws.{by-no-head, by-head, Headed, headed, front-refused, front-empty, front-body}
+use Rattle.blocks.proofs.InsideLaws.{front-inside}
 use Rattle.recordings.specs.Feed.{capped, SoFar, placed, fed, finished, blockLength}
+use Rattle.recordings.proofs.CountLaws.{FrontTaken, front-taken, counts, countsFrom, counts-start, counts-end, counts-stop, counts-turn, counts-on, counts-few, place-few}
 
 -- ---- the length of a piece
 
@@ -59,6 +62,17 @@ fed-more a piece k h = bind-in _ (ap (placed (a .place)) h) refl
 pub fed-bad : (a : SoFar) (piece : List ℕ) (n p : ℕ) → checkRecording piece ≡ refused n p → fed (ok a) piece ≡ refused n (capped (a .place + p))
 unfolding fed _>>=_
 fed-bad a piece n p h = bind-out _ (ap (placed (a .place)) h)
+
+-- as the code sums
+pub fed-on : (s : Answer SoFar) (a : SoFar) (piece : List ℕ) (k : Counts) (x y z : ℕ) → s ≡ ok a → checkRecording piece ≡ ok k
+    → x ≡ capped (a .place + length piece) → y ≡ capped (a .blocks + k .blocks) → z ≡ capped (a .records + k .records) → ok (sofar x y z) ≡ fed s piece
+fed-on s a piece k x y z e h p q r =
+    ap (λ n. ok (sofar n y z)) p
+    ∙ ap₂ (λ m n. ok (sofar (capped (a .place + length piece)) m n)) q r
+    ∙ sym (ap (λ t. fed t piece) e ∙ fed-more a piece k h)
+
+pub fed-off : (s : Answer SoFar) (a : SoFar) (piece : List ℕ) (n p x : ℕ) → s ≡ ok a → checkRecording piece ≡ refused n p → x ≡ capped (a .place + p) → refused n x ≡ fed s piece
+fed-off s a piece n p x e h q = ap (refused n) q ∙ sym (ap (λ t. fed t piece) e ∙ fed-bad a piece n p h)
 
 -- ---- a whole block before the rest
 
@@ -129,6 +143,7 @@ module _ (p rest : List ℕ) (whole : Whole p) where
           front-body (p ++ rest) h (same-by ∙ e) (eqb-false (h .len) 3 q)
           ∙ ap (λ z. countFrom (h .category) 0 3 z >>= λ n. ok (record { len = h .len; records = n })) (same-body h e)
           ∙ sym (front-body p h e (eqb-false (h .len) 3 q))
+
       go : (x : Answer Head) → headBy leb p ≡ x → checkFront (p ++ rest) ≡ checkFront p
       go (refused n q) e = front-refused (p ++ rest) n q (same-by ∙ e) ∙ sym (front-refused p n q e)
       go (ok h) e = by-len h (eqb (h .len) 3) e refl
@@ -141,6 +156,130 @@ module _ (p rest : List ℕ) (whole : Whole p) where
       by-len h false e q =
           bind-elim _ _ (sym (front-body p h e (eqb-false (h .len) 3 q)) ∙ k) λ n r z.
           ap (λ y. y .len) (sym (ok-inj z)) ∙ whole-len leb h e
+
       go : (x : Answer Head) → headBy leb p ≡ x → f .len ≡ length p
       go (refused n q) e = refused-ok (sym (front-refused p n q e) ∙ k)
       go (ok h) e = by-len h (eqb (h .len) 3) e refl
+
+-- ---- pieces
+
+-- by what an answer is
+by-answer : {A : Type 0} (x : Answer A) (P : Type 0) → ((a : A) → x ≡ ok a → P) → ((n p : ℕ) → x ≡ refused n p → P) → P
+by-answer (ok a) P f g = f a refl
+by-answer (refused n p) P f g = g n p refl
+
+-- one after another
+abbrev pub feedAll : Answer SoFar → List (List ℕ) → Answer SoFar
+feedAll s [] = s
+feedAll s (p ∷ ps) = feedAll (fed s p) ps
+
+-- each but the last is as long as its head says; the last is what is left over
+abbrev pub Pieces : List (List ℕ) → Type 0
+Pieces [] = Unit {0}
+Pieces (p ∷ []) = Unit {0}
+Pieces (p ∷ (q ∷ ps)) = Whole p × Pieces (q ∷ ps)
+
+feed-refused : (n p : ℕ) (ps : List (List ℕ)) → feedAll (refused n p) ps ≡ refused n p
+feed-refused n p [] = refl
+feed-refused n p (q ∷ ps) = ap (λ s. feedAll s ps) (fed-stop n p q) ∙ feed-refused n p ps
+
+finish-ok : (a : SoFar) → finished (ok a) ≡ ok (counts (a .blocks) (a .records))
+unfolding finished _>>=_
+finish-ok a = refl
+
+finish-refused : (n p : ℕ) → finished (refused n p) ≡ refused n p
+unfolding finished _>>=_
+finish-refused n p = refl
+
+-- what is known so far, with so many octets to come, stays in 64 bits
+record Room (a : SoFar) (n : ℕ) : Type 0 where
+  place : a .place + n < 2 ^ 64
+  blocks : a .blocks + n < 2 ^ 64
+  records : a .records + n < 2 ^ 64
+
+fed-within : (a : SoFar) (piece : List ℕ) (k : Counts) (n : ℕ) → Room a n → length piece ≤ n → k .blocks ≤ n → k .records ≤ n → checkRecording piece ≡ ok k
+    → fed (ok a) piece ≡ ok (sofar (a .place + length piece) (a .blocks + k .blocks) (a .records + k .records))
+fed-within a piece k n r l u v h =
+    fed-more a piece k h
+    ∙ ap (λ x. ok (sofar x (capped (a .blocks + k .blocks)) (capped (a .records + k .records)))) (capped-is (a .place + length piece) (omega (arith, r .place)))
+    ∙ ap₂ (λ x y. ok (sofar (a .place + length piece) x y)) (capped-is (a .blocks + k .blocks) (omega (arith, r .blocks))) (capped-is (a .records + k .records) (omega (arith, r .records)))
+
+fed-out : (a : SoFar) (piece : List ℕ) (m p n : ℕ) → Room a n → p ≤ n → checkRecording piece ≡ refused m p → fed (ok a) piece ≡ refused m (a .place + p)
+fed-out a piece m p n r l h = fed-bad a piece m p h ∙ ap (refused m) (capped-is (a .place + p) (omega (arith, r .place)))
+
+-- the last piece
+fed-last : (a : SoFar) (p : List ℕ) → Octets p → Room a (length p) → finished (fed (ok a) p) ≡ countsFrom (a .blocks) (a .records) (a .place) p
+fed-last a p o r = go (checkRecording p) refl
+  where
+    go : (x : Answer Counts) → checkRecording p ≡ x → finished (fed (ok a) p) ≡ countsFrom (a .blocks) (a .records) (a .place) p
+    go (ok k) e =
+        let (u, v) = counts-few p k o e in
+        ap finished (fed-within a p k (length p) r (le-refl _) u v e)
+        ∙ finish-ok _
+        ∙ sym (counts-on (a .blocks) (a .records) (a .place) p ∙ bind-in _ (later-in (a .place) e) refl)
+    go (refused n q) e =
+        ap finished (fed-out a p n q (length p) r (place-few p o n q e) e)
+        ∙ finish-refused n (a .place + q)
+        ∙ sym (counts-on (a .blocks) (a .records) (a .place) p ∙ bind-out _ (later-out (a .place) e))
+
+-- a whole block alone
+whole-alone : (p : List ℕ) (f : Front) → Octets p → FrontTaken p f → f .len ≡ length p → checkRecording p ≡ ok (counts 1 (f .records))
+whole-alone p f o t e =
+    sym (counts-start p)
+    ∙ counts-turn 0 0 0 p (drop (f .len) p) f o t refl
+    ∙ counts-end (0 + 1) (0 + f .records) (0 + f .len) (drop (f .len) p) (length-drop (f .len) p ∙ omega arith)
+    ∙ ap (λ n. ok (counts 1 n)) (zero-add (f .records))
+
+module _ (a : SoFar) (p : List ℕ) (q : List ℕ) (ps : List (List ℕ)) (whole : Whole p) (o : Octets (concat (p ∷ (q ∷ ps)))) (r : Room a (length (concat (p ∷ (q ∷ ps))))) where
+  abbrev later-on : List ℕ
+  later-on = concat (q ∷ ps)
+
+  p-octets : Octets p
+  p-octets = octets-left p later-on o
+
+  all-length : length (p ++ later-on) ≡ length p + length later-on
+  all-length = length-append p later-on
+
+  -- the piece is refused, and so is the whole
+  first-refused : (n s : ℕ) → checkFront p ≡ refused n s → finished (feedAll (fed (ok a) p) (q ∷ ps)) ≡ countsFrom (a .blocks) (a .records) (a .place) (p ++ later-on)
+  first-refused n s e =
+      let l : 0 < length p = omega (arith, long p later-on whole) in
+      let i : s ≤ length p = front-inside p p-octets n s e in
+      ap (λ z. finished (feedAll z (q ∷ ps)))
+      (fed-out a p n s (length (p ++ later-on)) r (omega (arith, all-length)) (sym (counts-start p) ∙ counts-stop 0 0 0 p n s l e ∙ ap (refused n) (zero-add s)))
+      ∙ ap finished (feed-refused n (a .place + s) (q ∷ ps))
+      ∙ finish-refused n (a .place + s)
+      ∙ sym (counts-stop (a .blocks) (a .records) (a .place) (p ++ later-on) n s (omega (arith, all-length)) (same-front p later-on whole ∙ e))
+
+  -- the piece is accepted, and the rest is fed
+  first-accepted : (f : Front) → checkFront p ≡ ok f
+      → ((b : SoFar) → Room b (length later-on) → finished (feedAll (ok b) (q ∷ ps)) ≡ countsFrom (b .blocks) (b .records) (b .place) later-on)
+      → finished (feedAll (fed (ok a) p) (q ∷ ps)) ≡ countsFrom (a .blocks) (a .records) (a .place) (p ++ later-on)
+  first-accepted f e ih =
+      let t : FrontTaken p f = front-taken p f p-octets e in
+      let n : f .len ≡ length p = front-whole p later-on whole f e in
+      let u : FrontTaken (p ++ later-on) f = front-taken (p ++ later-on) f o (same-front p later-on whole ∙ e) in
+      let m : f .records ≤ length p = omega (arith, t .few) in
+      ap (λ z. finished (feedAll z (q ∷ ps)))
+      (fed-within a p (counts 1 (f .records)) (length (p ++ later-on)) r (omega (arith, all-length)) (omega (arith, all-length, long p later-on whole)) (omega (arith, all-length)) (whole-alone p f p-octets t n))
+      ∙ ih (sofar (a .place + length p) (a .blocks + 1) (a .records + f .records))
+      (record { place = omega (arith, all-length, r .place); blocks = omega (arith, all-length, r .blocks, long p later-on whole); records = omega (arith, all-length, r .records) })
+      ∙ ap (λ k. countsFrom (a .blocks + 1) (a .records + f .records) (a .place + k) later-on) (sym n)
+      ∙ sym (counts-turn (a .blocks) (a .records) (a .place) (p ++ later-on) later-on f o u (sym (drop-at p later-on (f .len) (sym n))))
+
+-- from any state on
+fed-all : (a : SoFar) (ps : List (List ℕ)) → Octets (concat ps) → Room a (length (concat ps)) → Pieces ps
+    → finished (feedAll (ok a) ps) ≡ countsFrom (a .blocks) (a .records) (a .place) (concat ps)
+fed-all a [] o r w = finish-ok a ∙ sym (counts-end (a .blocks) (a .records) (a .place) [] refl)
+fed-all a (p ∷ []) o r w =
+    let e : p ++ [] ≡ p = append-nil p in
+    fed-last a p (subst Octets e o) (subst (λ z. Room a (length z)) e r) ∙ ap (countsFrom (a .blocks) (a .records) (a .place)) (sym e)
+fed-all a (p ∷ (q ∷ ps)) o r w =
+    by-answer (checkFront p) _
+    (λ f e. first-accepted a p q ps (w .0) o r f e (λ b s. fed-all b (q ∷ ps) (octets-right p (concat (q ∷ ps)) o) s (w .1)))
+    (λ n s e. first-refused a p q ps (w .0) o r n s e)
+
+-- FEEDING IS CHECKING: however a recording is cut at its blocks' ends, the last piece being what is left over, the answer is that of the whole
+pub feeding : (ps : List (List ℕ)) → Octets (concat ps) → length (concat ps) < 2 ^ 64 → Pieces ps → finished (feedAll (ok (sofar 0 0 0)) ps) ≡ checkRecording (concat ps)
+feeding ps o l w =
+    fed-all (sofar 0 0 0) ps o (record { place = omega arith; blocks = omega arith; records = omega arith }) w ∙ counts-start (concat ps)

@@ -149,7 +149,10 @@ impl RecordingState {
                 blocks,
                 records,
             } => RecordingChecked::Accepted { blocks, records },
-            RecordingState::Refused { number, place } => RecordingChecked::Refused { number, place },
+            RecordingState::Refused { number, place } => RecordingChecked::Refused {
+                number,
+                place,
+            },
         }
     }
 }

@@ -1,4 +1,9 @@
+-- `RecordingState::feed` meets its contract. Assumes nothing.
+use mathlib.Core.Path.{sym, ap, _∙_}
 use borrow.Author.Needs.{needs}
+use Rattle.recordings.specs.Feed.{fed}
+use Rattle.recordings.specs.Answers.{countsOf, stateOf}
+use Rattle.recordings.proofs.FeedLaws.{fed-stop, fed-on, fed-off}
 use Rattle.recordings.proofs.RecordingState.feed.Statement.{statement}
 use Rattle.recordings.proofs.RecordingState.feed.Tie as tie
 use Rattle.recordings.proofs.RecordingState.feed.Reads as reads
@@ -16,7 +21,7 @@ enum-told c = search needs
 
 -- src/lib.rt:123:13
 returns : tie.Need-returns
-returns c = ?
+returns c = ap stateOf (c .enum-told .given .1) ∙ sym (ap (λ s. fed s (c .before .before .before .args .piece .now)) (ap stateOf (c .enum-told .given .1)) ∙ fed-stop _ _ _)
 
 -- src/lib.rt:125:13
 check-recording-requires : tie.Need-check-recording-requires
@@ -48,11 +53,13 @@ add-requires-4 c κs = search needs
 
 -- src/lib.rt:113:5
 returns-2 : tie.Need-returns-2
-returns-2 c = ?
+returns-2 c =
+    fed-on _ _ _ _ _ _ _ (ap stateOf (c .before .before .before .before .before .before .before .before .state .given .1)) (sym (c .before .before .before .before .before .before .check-recording .ensures) ∙ ap countsOf (c .before .before .before .before .checked .given .1)) (c .before .before .add .ensures) (c .before .add2 .ensures) (c .add3 .ensures)
 
 -- src/lib.rt:113:5
 returns-3 : tie.Need-returns-3
-returns-3 c = ?
+returns-3 c =
+    fed-off _ _ _ _ _ _ (ap stateOf (c .before .before .before .before .before .before .state .given .1)) (sym (c .before .before .before .before .check-recording .ensures) ∙ ap countsOf (c .before .before .checked2 .given .1)) (c .add4 .ensures)
 
 pub feed-spec : {M : Type 1} → statement M
 feed-spec =
