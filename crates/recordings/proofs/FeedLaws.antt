@@ -1,21 +1,23 @@
 -- Feeding a recording piece by piece: the answer at the end is the rules' answer of all the pieces end to end, however many there are.
 --
--- In order: the length of a piece; numbers in 64 bits; a step; a whole block before the rest; pieces. Assumes nothing.
+-- In order: the length of a piece; numbers in 64 bits; a step; a whole block before the rest; pieces; pieces as they are cut from the front.
+-- Assumes nothing.
 use Prim.Native.Nat.{ℕ, zero, suc, _+_, _-_, _*_, _^_, _≤_, _<_, min, max}
 use mathlib.Core.Path.{_≡_, refl, sym, ap, ap₂, _∙_, subst}
+use mathlib.Core.Logic.{⊎-elim}
 use mathlib.Core.Bool.{Bool, true, false}
 use mathlib.Core.List.{List, [], _∷_, _++_, append-nil}
 use native.Mathlib.Omega.{arith}
-use native.Mathlib.Nat.{zero-add, le-refl, min-eq-left, max-eq-left, max-eq-right}
-use lib.Dec.{leb, eqb, le→leb}
-use borrow.Author.Tests.{le-leb, lt-leb, leb-true, eqb-true, eqb-false}
-use lib.ListN.{length, take, drop, getD, length-append, length-drop, List·getD-append}
-use lib.Seq.{drop-at, take-append-le, drop-append-le}
+use native.Mathlib.Nat.{zero-add, le-refl, le-max-left, min-eq-left, max-eq-left, max-eq-right}
+use lib.Dec.{leb, ltb, eqb, le→leb}
+use borrow.Author.Tests.{le-leb, lt-leb, leb-true, ltb-true, eqb-true, eqb-false}
+use lib.ListN.{length, take, drop, getD, length-append, length-drop, take-append-drop, List·getD-append}
+use lib.Seq.{length-take-le, getD-take, drop-at, take-append-le, drop-append-le}
 use Rattle.rules.specs.Answer.{Answer, ok, refused, _>>=_, need_or_then_, if_then_else_, expect_or_}
 use Rattle.rules.specs.Layout.{concat}
 use Rattle.rules.specs.Block.{Head, categoryOf}
 use Rattle.rules.specs.Entry.{categories, Counts, checkRecording}
-use Rattle.rules.proofs.AnswerLaws.{refused-ok, ok-inj, bind-in, bind-out, bind-elim, need-in, later-in, later-out, if-true, if-false, Octets, octets-left, octets-right}
+use Rattle.rules.proofs.AnswerLaws.{refused-ok, ok-inj, bind-in, bind-out, bind-elim, need-in, later-in, later-out, if-inv, if-true, if-false, Octets, octets-left, octets-right}
 use Rattle.blocks.specs.Read.{lenAt, headAt, headBy, countFrom, bodyAt, Front, checkFront}
 use Rattle.blocks.proofs.HeadLaws.{by-no-head, by-head, Headed, headed, front-refused, front-empty, front-body}
 use Rattle.blocks.proofs.InsideLaws.{front-inside}
@@ -39,6 +41,10 @@ unfolding blockLength
 length-good bs l p q m =
     let e : 3 ≤ lenAt bs = rw (← p, ← q) m in
     if-true _ (le-leb 3 (length bs) l) (max-eq-right e ∙ ap₂ (λ x y. x * 256 + y) (sym p) (sym q))
+
+length-by : (bs : List ℕ) → 3 ≤ length bs → blockLength bs ≡ max 3 (lenAt bs)
+unfolding blockLength
+length-by bs l = if-true 3 (le-leb 3 (length bs) l) refl
 
 -- ---- numbers in 64 bits
 
@@ -283,3 +289,55 @@ fed-all a (p ∷ (q ∷ ps)) o r w =
 pub feeding : (ps : List (List ℕ)) → Octets (concat ps) → length (concat ps) < 2 ^ 64 → Pieces ps → finished (feedAll (ok (sofar 0 0 0)) ps) ≡ checkRecording (concat ps)
 feeding ps o l w =
     fed-all (sofar 0 0 0) ps o (record { place = omega arith; blocks = omega arith; records = omega arith }) w ∙ counts-start (concat ps)
+
+-- ---- cut as it is read: a head, and then as many octets as it says, or what there is of them
+
+abbrev pub cutFrom : ℕ → List ℕ → List (List ℕ)
+cutFrom zero bs = bs ∷ []
+cutFrom (suc f) bs = if ltb (blockLength bs) (length bs) then take (blockLength bs) bs ∷ cutFrom f (drop (blockLength bs) bs) else bs ∷ []
+
+cut-joins : (f : ℕ) (bs : List ℕ) → concat (cutFrom f bs) ≡ bs
+cut-joins zero bs = append-nil bs
+cut-joins (suc f) bs =
+    ⊎-elim
+    (λ (e, g). ap concat (sym g) ∙ ap (λ z. take (blockLength bs) bs ++ z) (cut-joins f (drop (blockLength bs) bs)) ∙ take-append-drop (blockLength bs) bs)
+    (λ (e, g). ap concat (sym g) ∙ append-nil bs)
+    (if-inv (ltb (blockLength bs) (length bs)) (take (blockLength bs) bs ∷ cutFrom f (drop (blockLength bs) bs)) (bs ∷ []) refl)
+
+least-by : (t : Bool) (n : ℕ) → 3 ≤ (if t then max 3 n else 3)
+unfolding if_then_else_
+least-by true n = le-max-left 3 n
+least-by false n = le-refl 3
+
+least-three : (bs : List ℕ) → 3 ≤ blockLength bs
+unfolding blockLength
+least-three bs = least-by (leb 3 (length bs)) (lenAt bs)
+
+-- the head of a piece is the head of what it was cut from
+cut-whole : (bs : List ℕ) → blockLength bs < length bs → Whole (take (blockLength bs) bs)
+cut-whole bs l =
+    let n : length (take (blockLength bs) bs) ≡ blockLength bs = length-take-le (blockLength bs) bs (omega arith) in
+    let t : 3 ≤ length bs = omega (arith, least-three bs) in
+    let u : 3 ≤ length (take (blockLength bs) bs) = omega (arith, least-three bs) in
+    n
+    ∙ length-by bs t
+    ∙ sym (length-by (take (blockLength bs) bs) u
+    ∙ ap₂ (λ x y. max 3 (x * 256 + y)) (getD-take (blockLength bs) bs 1 0 (omega (arith, least-three bs))) (getD-take (blockLength bs) bs 2 0 (omega (arith, least-three bs))))
+
+-- a piece more in front
+pieces-cons : (p : List ℕ) (ps : List (List ℕ)) → Whole p → Pieces ps → Pieces (p ∷ ps)
+pieces-cons p [] w h = tt
+pieces-cons p (q ∷ ps) w h = (w, h)
+
+cut-pieces : (f : ℕ) (bs : List ℕ) → Pieces (cutFrom f bs)
+cut-pieces zero bs = tt
+cut-pieces (suc f) bs =
+    ⊎-elim
+    (λ (e, g). subst Pieces g (pieces-cons (take (blockLength bs) bs) (cutFrom f (drop (blockLength bs) bs)) (cut-whole bs (ltb-true (blockLength bs) (length bs) e)) (cut-pieces f (drop (blockLength bs) bs))))
+    (λ (e, g). subst Pieces g tt)
+    (if-inv (ltb (blockLength bs) (length bs)) (take (blockLength bs) bs ∷ cutFrom f (drop (blockLength bs) bs)) (bs ∷ []) refl)
+
+pub cutting : (bs : List ℕ) → Octets bs → length bs < 2 ^ 64 → finished (feedAll (ok (sofar 0 0 0)) (cutFrom (length bs) bs)) ≡ checkRecording bs
+cutting bs o l =
+    let e : concat (cutFrom (length bs) bs) ≡ bs = cut-joins (length bs) bs in
+    feeding (cutFrom (length bs) bs) (subst Octets (sym e) o) (subst (λ z. length z < 2 ^ 64) (sym e) l) (cut-pieces (length bs) bs) ∙ ap checkRecording e
