@@ -7,7 +7,7 @@ use mathlib.Core.Path.{_≡_, refl, sym, ap, ap₂, _∙_, subst}
 use mathlib.Core.Bool.{Bool, true, false, _&&_}
 use mathlib.Core.List.{List, [], _∷_, _++_}
 use native.Mathlib.Omega.{arith}
-use native.Mathlib.Nat.{zero-mul, zero-add, add-zero, suc-sub-suc, sub-zero, mod-lt, mod-eq-of-lt, mod-eq-sub-mod, pow-suc, div-eq-of-lt, add-left-cancel}
+use native.Mathlib.Nat.{zero-mul, zero-add, add-zero, suc-sub-suc, sub-zero, mod-lt, mod-eq-of-lt, mod-eq-sub-mod, pow-suc, div-eq-of-lt, add-left-cancel, suc-add, le-div-iff-mul-le, div-lt-iff-lt-mul}
 use lib.Pow.{pow-pos, pow-add, split, high, field, mod-mod-pow}
 use lib.Dec.{leb, eqb}
 use lib.Bits.{bitAnd, and-zero-l, and-le-r, and-block}
@@ -31,6 +31,22 @@ pub number-none : (n : ℕ) → number (replicate n false) ≡ 0
 unfolding number
 number-none zero = refl
 number-none (suc n) = number-none n
+
+-- the flags of a number are those of its higher bits, then those of its lower
+pub flags-split : (j k n : ℕ) → n < 2 ^ (j + k) → flags (j + k) n ≡ flags j (n / 2 ^ k) ++ flags k (n % 2 ^ k)
+unfolding flags
+flags-split zero k n h = rw (zero-add k) (ap (flags k) (sym (mod-eq-of-lt (subst (λ m. n < 2 ^ m) (zero-add k) h))))
+flags-split (suc j) k n h =
+    rw (suc-add j k)
+    (ap₂ _∷_ (high-flag j k n)
+    (flags-split j k (n % 2 ^ (j + k)) (mod-lt n (pow-pos (j + k))) ∙ ap₂ (λ a b. flags j a ++ flags k b) (field n j k) (mod-mod-pow n j k)))
+  where
+    high-flag : (j k n : ℕ) → leb (2 ^ (j + k)) n ≡ leb (2 ^ j) (n / 2 ^ k)
+    high-flag j k n = go (leb (2 ^ (j + k)) n) refl
+      where
+        go : (t : Bool) → leb (2 ^ (j + k)) n ≡ t → t ≡ leb (2 ^ j) (n / 2 ^ k)
+        go true e = sym (le-leb (2 ^ j) (n / 2 ^ k) (le-div-iff-mul-le (pow-pos k) .1 (subst (λ m. m ≤ n) (pow-add 2 j k) (leb-true _ _ e))))
+        go false e = sym (lt-leb (2 ^ j) (n / 2 ^ k) (div-lt-iff-lt-mul (pow-pos k) .1 (subst (λ m. n < m) (pow-add 2 j k) (leb-false _ _ e))))
 
 -- ---- flags over none
 

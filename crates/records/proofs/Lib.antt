@@ -8,3 +8,6 @@ pub mod CameLaws
 pub mod RowLaws
 pub mod ItemLaws
 pub mod RecordLaws
+pub mod FspecLaws
+pub mod NewLaws
+pub mod Unique

@@ -215,11 +215,11 @@ record-read i k bs m o h =
 set-refused : (x : SetRead) (a : Answer (ℕ × ℕ)) (n number : ℕ) → setOf x ≡ a → x ≡ set.Refused n → number ≡ setNumber x → a ≡ refused number 0
 set-refused x a n number h e m = sym h ∙ ap setOf e ∙ ap (λ z. refused z 0) (sym (m ∙ ap setNumber e))
 
-came-refused : (x : ItemsWalked) (a : Answer Came) (n p number place : ℕ) → cameOf x ≡ a → x .checked ≡ checked.Refused n p → number ≡ checkedNumber (x .checked) → place ≡ checkedPlace (x .checked)
+pub came-refused : (x : ItemsWalked) (a : Answer Came) (n p number place : ℕ) → cameOf x ≡ a → x .checked ≡ checked.Refused n p → number ≡ checkedNumber (x .checked) → place ≡ checkedPlace (x .checked)
     → a ≡ refused number place
 came-refused x a n p number place h e m q = sym h ∙ ap (λ c. cameBy c x) e ∙ ap₂ refused (sym (m ∙ ap checkedNumber e)) (sym (q ∙ ap checkedPlace e))
 
-judged-refused : (x : Judgement) (a : Answer (Unit {0})) (n number : ℕ) → judgedOf x ≡ a → x ≡ judgement.Refused n → number ≡ judgedNumber x → a ≡ refused number 0
+pub judged-refused : (x : Judgement) (a : Answer (Unit {0})) (n number : ℕ) → judgedOf x ≡ a → x ≡ judgement.Refused n → number ≡ judgedNumber x → a ≡ refused number 0
 judged-refused x a n number h e m = sym h ∙ ap judgedOf e ∙ ap (λ z. refused z 0) (sym (m ∙ ap judgedNumber e))
 
 walked-refused : (w : RecordWalked) (a : Answer RecordMap) (n p : ℕ) → a ≡ refused n p → (w .checked ≡ checked.Refused n p) × (w .map ≡ absent) → Walked w a

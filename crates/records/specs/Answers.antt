@@ -3,12 +3,12 @@ use Prim.Native.Nat.{ℕ}
 use mathlib.Core.Path.{_≡_}
 use mathlib.Core.Bool.{Bool, true, false}
 use mathlib.Core.List.{List, [], _∷_}
-use lib.ListN.{replicate}
+use lib.ListN.{length, replicate}
 use Rattle.rules.specs.Answer.{Answer, ok, refused, _>>=_, later}
 use Rattle.rules.specs.Record.{readRecord}
-use Rattle.rules.specs.Entry.{mapOf}
+use Rattle.rules.specs.Entry.{mapOf, newRecord}
 use Rattle.rules.specs.Entry as entry
-use Rattle.records.specs.Sets.{categoryAt}
+use Rattle.records.specs.Sets.{categoryAt, frnsOf}
 use Rattle.records.specs.Walk.{Came}
 use Rattle.records.specs.declared.ItemSet.{ItemSet}
 use Rattle.records.specs.declared.SetRead.{SetRead}
@@ -22,6 +22,8 @@ use Rattle.records.specs.declared.RecordChecked.{RecordChecked}
 use Rattle.records.specs.declared.RecordChecked.the-variants as checked
 use Rattle.records.specs.declared.RecordWalked.{RecordWalked}
 use Rattle.records.specs.declared.ItemsWalked.{ItemsWalked}
+use Rattle.records.specs.declared.NewChecked.{NewChecked}
+use Rattle.records.specs.declared.NewChecked.the-variants as new
 use Rattle.items.specs.declared.ItemCheck.{ItemCheck}
 use Rattle.items.specs.declared.ItemCheck.the-variants as item
 
@@ -101,3 +103,13 @@ pub record Walked (w : RecordWalked) (a : Answer entry.RecordMap) : Type 0 where
 -- the map of the record that starts octets, which stand at a place
 unfoldable pub recordAt : ℕ → ℕ → List ℕ → Answer entry.RecordMap
 recordAt i k bs = later k (readRecord (categoryAt i) bs >>= λ x. ok (mapOf (categoryAt i) (record { start = k; value = x .0 })))
+
+-- ---- a new record
+
+abbrev pub newOf : NewChecked → Answer ℕ
+newOf (new.Length n) = ok n
+newOf (new.Refused n p) = refused n p
+
+-- the length of the record that a set and its items make
+unfoldable pub newAt : ℕ → ℕ → List ℕ → Answer ℕ
+newAt i bits bs = newRecord (categoryAt i) (frnsOf bits) bs >>= λ new. ok (length new)

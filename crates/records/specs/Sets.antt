@@ -4,9 +4,9 @@ use Prim.Native.Nat.{ℕ, zero, suc, _-_}
 use mathlib.Core.Bool.{Bool, true, false, _&&_}
 use mathlib.Core.List.{List, [], _∷_}
 use lib.ListN.{length, replicate}
-use Rattle.rules.specs.Answer.{Answer, ok, _>>=_}
+use Rattle.rules.specs.Answer.{Answer, ok, _>>=_, need_or_then_, octetsOf}
 use Rattle.rules.specs.Layout.{concat}
-use Rattle.rules.specs.Presence.{flags, number, readPresence}
+use Rattle.rules.specs.Presence.{flags, number, writePresence, readPresence, allUsable, setFlags}
 use Rattle.rules.specs.Record.{Category}
 use Rattle.rules.specs.Entry.{categories, over}
 
@@ -46,3 +46,8 @@ unfoldable pub setAt : ℕ → List ℕ → Answer (ℕ × ℕ)
 setAt i bs = do
   (ts, rest) ← readPresence 5 (categoryAt i .profile) bs
   ok (bitsOf (concat ts), length bs - length rest)
+
+-- the octets of a set's FSPEC; none where the set is empty or names an FRN that the profile lacks
+unfoldable pub fspecAt : ℕ → ℕ → List ℕ
+fspecAt i bits =
+    octetsOf (need allUsable (categoryAt i .profile) (frnsOf bits) or 8 then writePresence (categoryAt i .profile) (setFlags 1 (categoryAt i .profile) (frnsOf bits)))

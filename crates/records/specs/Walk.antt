@@ -1,5 +1,5 @@
 -- The rules of a record as the code follows them: octet by octet and item by item, with what was found so far handed on, and places counted on.
--- `proofs/SetLaws`, `JudgeLaws`, `WalkLaws` and `NewLaws` have that these are the rules' own. Assumes nothing.
+-- `proofs/SetLaws`, `JudgeLaws`, `RowLaws`, `RecordLaws` and `NewLaws` have that these are the rules' own. Assumes nothing.
 use Prim.Native.Nat.{ℕ, zero, suc, _+_, _-_, _*_, _/_, _%_, _^_}
 use mathlib.Core.Bool.{Bool, true, false}
 use mathlib.Core.Option.{Option, none, some}
@@ -107,3 +107,20 @@ recordBy i k bs = do
   w ← walk i (flags 63 bits) 1 (drop used bs) (startAt (k + used))
   s ← later k (judgeSet i bits (w .kind))
   ok (record { start = k; starts = w .starts; end = w .here; count = w .count })
+
+-- ---- a new record
+
+-- how many octets the FSPEC of a set has: at most so many still to come, the octets so far, and the FRNs left
+unfoldable pub rowsLeft : ℕ → ℕ → ℕ → ℕ
+rowsLeft zero n left = n
+rowsLeft (suc l) n left = if eqb left 0 then n else rowsLeft l (n + 1) (left % 2 ^ (63 - 7 * (n + 1)))
+
+-- the length of the record that a set and its items make: 7, 8; 9 to 11; 18; 12 to 15
+unfoldable pub newBy : ℕ → ℕ → List ℕ → Answer ℕ
+newBy i bits bs =
+    need ltb 0 bits or 7 then
+    need within (flags 64 bits) (flags 64 (usableBits i)) or 8 then do
+      w ← walk i (flags 63 bits) 1 bs (startAt 0)
+      e ← later (w .here) (need eqb (w .here) (length bs) or 18 then ok (tt {0}))
+      s ← judgeSet i bits (w .kind)
+      ok (rowsLeft 9 0 bits + length bs)

@@ -13,9 +13,9 @@ ghost use lib.ListN.{length, getD, set};
 ghost use lib.Dec.{eqb};
 ghost use Rattle.rules.specs.Answer.{if_then_else_};
 ghost use Rattle.rules.specs.Presence.{flags};
-ghost use Rattle.records.specs.Sets.{categoryAt, within, setAt};
-ghost use Rattle.records.specs.Walk.{usableBits, ended, typeFrn, judgeSet, walk, startAt};
-ghost use Rattle.records.specs.Answers.{setOf, setNumber, judgedOf, judgedNumber, itemNumber, itemPlace, endOf, cameOf, absent, checkedNumber, checkedPlace, Walked, recordAt};
+ghost use Rattle.records.specs.Sets.{categoryAt, within, setAt, fspecAt};
+ghost use Rattle.records.specs.Walk.{usableBits, ended, typeFrn, judgeSet, walk, startAt, rowsLeft};
+ghost use Rattle.records.specs.Answers.{setOf, setNumber, judgedOf, judgedNumber, itemNumber, itemPlace, endOf, cameOf, absent, checkedNumber, checkedPlace, Walked, recordAt, newOf, newAt};
 
 // A set of FRNs: FRN f, 0 to 63, is bit 63 - f. FRN 0 is none, and no profile has one above 35.
 pub struct ItemSet {
@@ -399,4 +399,97 @@ pub fn check_record(profile: usize, part: &[u8], at: usize) -> RecordWalked
         checked: c,
         map: RecordMap { starts, end, count },
     }
+}
+
+// ---- a new record
+
+// What checking a new record answers.
+pub enum NewChecked {
+    // How many octets the record has, its FSPEC among them.
+    Length(usize),
+    // The number of the refusal and its place, counted from the items' start.
+    Refused { number: u8, place: usize },
+}
+
+// How many octets name the FRNs of a set, of which none is 0.
+fn octets_of(bits: u64) -> usize
+    requires { ⌜ bits < 2 ^ 63 ⌝ }
+    ensures { λ r. ⌜ (r ≡ rowsLeft 9 0 bits) × (r ≤ 9) ⌝ }
+{
+    let mut left = bits;
+    let mut n: usize = 0;
+    while left != 0 {
+        n = n + 1;
+        left = left % weight(7 * n);
+    }
+    n
+}
+
+// How many octets the FSPEC of a set has; 0 where the set is empty or names an FRN that the profile lacks.
+pub fn fspec_octets(profile: usize, set: ItemSet) -> usize
+    ensures { λ r. ⌜ r ≡ length (fspecAt profile (set .bits)) ⌝ }
+{
+    if !set.is_within(usable(profile)) {
+        return 0;
+    }
+    let bits = set.bits;
+    octets_of(bits)
+}
+
+// The octet at a place of a set's FSPEC, counted from 0; 0 past its end.
+pub fn fspec_octet(profile: usize, set: ItemSet, place: usize) -> u8
+    ensures { λ r. ⌜ r ≡ getD (fspecAt profile (set .bits)) place 0 ⌝ }
+{
+    let count = fspec_octets(profile, set);
+    if count <= place {
+        return 0;
+    }
+    let bits = set.bits;
+    let row = (bits >> (56 - 7 * place)) % 128;
+    if place + 1 < count {
+        (row * 2 + 1) as u8
+    } else {
+        (row * 2) as u8
+    }
+}
+
+// The record that a set and its items, end to end, make: 7, 8; 9 to 11 of each item; 18; 12 to 15.
+pub fn check_new(profile: usize, set: ItemSet, items: &[u8]) -> NewChecked
+    ensures { λ r. ⌜ newOf r ≡ newAt profile (set .bits) (now (items .entry)) ⌝ }
+{
+    let bits = set.bits;
+    if bits == 0 {
+        return NewChecked::Refused {
+            number: 7,
+            place: 0,
+        };
+    }
+    if !set.is_within(usable(profile)) {
+        return NewChecked::Refused {
+            number: 8,
+            place: 0,
+        };
+    }
+    let w = walk_items(profile, set, items, 0);
+    let c = w.checked;
+    let RecordChecked::Ends { end } = c else {
+        return NewChecked::Refused {
+            number: checked_number(c),
+            place: checked_place(c),
+        };
+    };
+    if end != items.len() {
+        return NewChecked::Refused {
+            number: 18,
+            place: end,
+        };
+    }
+    let j = judge(profile, set, w.kind);
+    let Judgement::Right = j else {
+        return NewChecked::Refused {
+            number: judged_number(j),
+            place: 0,
+        };
+    };
+    NewChecked::Length(octets_of(bits) + items.len())
 }
