@@ -2,5 +2,6 @@ pub mod LoopLaws
 pub mod HeadLaws
 pub mod RecordLaws
 pub mod FindLaws
+pub mod AddLaws
 pub mod LeastLaws
 pub mod InsideLaws
