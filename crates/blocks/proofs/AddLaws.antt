@@ -24,6 +24,7 @@ use Rattle.blocks.proofs.FindLaws.{made-refused}
 use Rattle.rules.proofs.LayoutLaws.{octets-take}
 use Rattle.records.specs.Sets.{categoryAt, frnsOf, fspecAt}
 use Rattle.records.specs.Answers.{newAt}
+use Rattle.records.proofs.NewLaws.{new-octets}
 use Rattle.blocks.specs.declared.add.RecordAdded.the-variants as recordAdded
 use Rattle.blocks.specs.Added.{addedOf, laid}
 
@@ -119,21 +120,6 @@ module _ (out : List ℕ) (used : ℕ) (three : 3 ≤ used) (room : used ≤ len
 
 -- ---- the answers of adding
 
--- a new record is its FSPEC and its items
-pub record NewMade (c : Category) (fs items new : List ℕ) : Type 0 where
-  pub usable : T (allUsable (c .profile) fs)
-  pub octets : new ≡ octetsOf (writePresence (c .profile) (setFlags 1 (c .profile) fs)) ++ items
-
-pub new-made : (c : Category) (fs items new : List ℕ) → newRecord c fs items ≡ ok new → NewMade c fs items new
-unfolding newRecord
-new-made c fs items new h =
-    need-elim _ _ _ h λ t h₁.
-    need-elim _ _ _ h₁ λ u h₂.
-    bind-elim _ _ h₂ λ x p h₃.
-    bind-elim _ _ h₃ λ s q h₄.
-    bind-elim _ _ h₄ λ r g h₅.
-    record { usable = u; octets = sym (ok-inj h₅) }
-
 module _ (out : List ℕ) (used : ℕ) (fs items : List ℕ) where
   pub add-none : length out < used → addRecord out used fs items ≡ refusedOld 16 0
   unfolding addRecord
@@ -201,18 +187,12 @@ pub new-refused : (i bits : ℕ) (items : List ℕ) (n p : ℕ) → newAt i bits
 unfolding newAt
 new-refused i bits items n p h = made-refused (newRecord (categoryAt i) (frnsOf bits) items) length n p h
 
-fspec-is : (i bits : ℕ) → T (allUsable (categoryAt i .profile) (frnsOf bits))
-    → fspecAt i bits ≡ octetsOf (writePresence (categoryAt i .profile) (setFlags 1 (categoryAt i .profile) (frnsOf bits)))
-unfolding fspecAt
-fspec-is i bits u = ap octetsOf (need-in _ 8 u refl)
-
 pub new-whole : (i bits : ℕ) (items : List ℕ) (n : ℕ) → newAt i bits items ≡ ok n
     → (newRecord (categoryAt i) (frnsOf bits) items ≡ ok (fspecAt i bits ++ items)) × (n ≡ length (fspecAt i bits) + length items)
 unfolding newAt
 new-whole i bits items n h =
     bind-elim _ _ h λ new p q.
-    let m : NewMade (categoryAt i) (frnsOf bits) items new = new-made (categoryAt i) (frnsOf bits) items new p in
-    let e : new ≡ fspecAt i bits ++ items = m .octets ∙ ap (λ z. z ++ items) (sym (fspec-is i bits (m .usable))) in
+    let e : new ≡ fspecAt i bits ++ items = new-octets i bits items new p in
     (p ∙ ap ok e, sym (ok-inj q) ∙ ap length e ∙ length-append (fspecAt i bits) items)
 
 module _ (out : List ℕ) (used i bits n : ℕ) (items : List ℕ) (o : Opening) (same : o .category ≡ categoryAt i) (room : used ≤ length out)
