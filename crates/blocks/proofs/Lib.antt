@@ -4,5 +4,6 @@ pub mod RecordLaws
 pub mod FindLaws
 pub mod AddLaws
 pub mod SetLaws
+pub mod AddedLaws
 pub mod LeastLaws
 pub mod InsideLaws
