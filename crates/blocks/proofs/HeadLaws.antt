@@ -314,7 +314,7 @@ module _ (bs : List ℕ) where
   front-len : (n : ℕ) → 3 ≤ n → n ≤ length bs → length bs - length (drop (n - 3) (drop 3 bs)) ≡ n
   front-len n l m = rw (length-drop (n - 3) (drop 3 bs), length-drop 3 bs) (omega arith)
 
-  front-body : (h : Head) → headBy leb bs ≡ ok h → (h .len ≡ 3 → ⊥)
+  pub front-body : (h : Head) → headBy leb bs ≡ ok h → (h .len ≡ 3 → ⊥)
       → checkFront bs ≡ (countFrom (h .category) 0 3 (bodyAt h bs) >>= λ n. ok (record { len = h .len; records = n }))
   unfolding checkFront countFrom _>>=_
   front-body h e l =

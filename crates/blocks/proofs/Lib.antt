@@ -2,4 +2,8 @@ pub mod LoopLaws
 pub mod HeadLaws
 pub mod RecordLaws
 pub mod FindLaws
+pub mod AddLaws
+pub mod SetLaws
+pub mod AddedLaws
 pub mod LeastLaws
+pub mod InsideLaws

@@ -13,7 +13,7 @@ use mir.Syntax.{w8}
 use mir.Val.{Fits}
 use Rattle.rules.specs.Answer.{Answer, ok, refused, _>>=_, later, Read, Write}
 use Rattle.rules.specs.Block.{readUpTo, readAll}
-use Rattle.rules.proofs.AnswerLaws.{bind-in, bind-out, Octets, octets-right, Split, Laws, Starts, after}
+use Rattle.rules.proofs.AnswerLaws.{refused-ok, ok-inj, bind-in, bind-elim, later-inv, Octets, octets-right, Split, Laws, Starts, after}
 
 -- ---- answers further on
 
@@ -106,6 +106,21 @@ module _ {A : Type 0} {r : Read A} {w : Write A} (laws : Laws r w) (starts : Sta
       let s : Split w (y .0) (b ∷ bs) (y .1) = laws .forth (y .0) (b ∷ bs) (y .1) o e in
       ap (λ z. later (suc (length bs) - length (y .1)) z >>= λ as′. ok (y .0 ∷ as′))
       (upTo-enough f g (y .1) (after s o) (omega (arith, t .some)) (omega (arith, t .some)))
+
+  -- there are no more of them than octets
+  upTo-few : (f : ℕ) (bs : List ℕ) (vs : List A) → readUpTo r f bs ≡ ok vs → length vs ≤ f
+  unfolding readUpTo
+  upTo-few zero [] vs h = rw (← ok-inj h) (omega arith)
+  upTo-few zero (b ∷ bs) vs h = refused-ok h
+  upTo-few (suc f) [] vs h = rw (← ok-inj h) (omega arith)
+  upTo-few (suc f) (b ∷ bs) vs h =
+      bind-elim _ _ h λ y p h₁.
+      bind-elim _ _ h₁ λ us q h₂.
+      rw (← ok-inj h₂) (omega (arith, upTo-few f (y .1) us (later-inv _ _ q)))
+
+  pub all-few : (bs : List ℕ) (vs : List A) → readAll r bs ≡ ok vs → length vs ≤ length bs
+  unfolding readAll
+  all-few bs vs h = upTo-few (length bs) bs vs h
 
   -- ---- one turn of a loop, whatever is then made of the things
 

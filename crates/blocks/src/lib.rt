@@ -1,10 +1,13 @@
 // One block of categories 017 and 018: checking it, finding a record and an item in it, adding a record to it (document 01, "Block, record, item"
 // and "Refusal numbers and their order"). Profile 0 is category 017, edition 1.3; profile 1 is category 018, edition 1.6.
+mod add;
 mod check;
 mod find;
 mod head;
 mod least;
 
+pub use add::RecordAdded;
+pub use add::add_record;
 pub use check::BlockChecked;
 pub use check::FrontChecked;
 pub use check::check_block;
