@@ -1,0 +1,4 @@
+-- The laws that the proofs of this crate and of its callers cite.
+pub mod PageLaws
+pub mod SignLaws
+pub mod NumberLaws

@@ -1,0 +1,58 @@
+use Rattle.lines.proofs.octet.all_hex.Statement.{statement}
+use Rattle.lines.proofs.octet.all_hex.Tie as tie
+use Rattle.lines.proofs.octet.all_hex.Reads as reads
+use Rattle.lines.proofs.octet.all_hex.Lts as lts
+use Rattle.lines.proofs.octet.digit_of.Reads as digit-of-reads
+
+abbrev Inv-loop : tie.InvT-loop
+Inv-loop word i₀ i = ?
+
+abbrev μ-loop : tie.MeasureT-loop
+μ-loop word i₀ i = ?
+
+-- src/octet.rt:47:5
+loop-holds : tie.Need-loop-holds Inv-loop μ-loop
+loop-holds c = ?
+
+-- src/octet.rt:48:27
+shared-slice-read-digit-of : tie.Need-shared-slice-read-digit-of Inv-loop μ-loop
+shared-slice-read-digit-of c = ?
+
+-- src/octet.rt:48:18
+digit-of-requires : tie.Need-digit-of-requires Inv-loop μ-loop
+digit-of-requires c κs = ?
+
+-- src/octet.rt:49:13
+returns : tie.Need-returns Inv-loop μ-loop
+returns c = ?
+
+-- src/octet.rt:51:9
+add-i : tie.Need-add-i Inv-loop μ-loop
+add-i c = ?
+
+-- src/octet.rt:47:5
+loop-less : tie.Need-loop-less Inv-loop μ-loop
+loop-less c = ?
+
+-- src/octet.rt:47:5
+loop-again : tie.Need-loop-again Inv-loop μ-loop
+loop-again c = ?
+
+-- src/octet.rt:43:1
+returns-2 : tie.Need-returns-2 Inv-loop μ-loop
+returns-2 c = ?
+
+pub all-hex-spec : {M : Type 1} → statement M
+all-hex-spec =
+    tie.close
+    (tie.spec
+    Inv-loop
+    μ-loop
+    loop-holds
+    shared-slice-read-digit-of
+    digit-of-requires
+    returns
+    add-i
+    loop-less
+    loop-again
+    returns-2)

@@ -1,0 +1,64 @@
+-- Words with a separator between, and lists of numbers with commas between. Assumes nothing.
+use Prim.Native.Nat.{ℕ, zero, suc, _^_, _-_}
+use mathlib.Core.Bool.{Bool, true, false, cond}
+use mathlib.Core.Option.{Option, none, some}
+use mathlib.Core.List.{List, [], _∷_, _++_, map}
+use lib.Dec.{ltb, eqb}
+use lib.IntN.{ℤ, pos, negsuc}
+use Rattle.lines.specs.Page.{codes, Page, page, puts}
+use Rattle.lines.specs.Number.{integerOf, integerText}
+use Rattle.lines.specs.Octet.{isNone}
+use Rattle.lines.specs.declared.word.ListRead.{ListRead}
+
+-- ---- words
+
+abbrev pub within : {A : Type 0} → A → List (List A) → List (List A)
+within c [] = (c ∷ []) ∷ []
+within c (w ∷ ws) = (c ∷ w) ∷ ws
+
+-- the words of a line: one more than it has separators
+unfoldable pub words : ℕ → List ℕ → List (List ℕ)
+words d [] = [] ∷ []
+words d (c ∷ s) = cond (eqb c d) ([] ∷ words d s) (within c (words d s))
+
+-- ---- a word's list
+
+abbrev pub listed : {A : Type 0} → Option A → Option (List A) → Option (List A)
+listed none zs = none
+listed (some z) none = none
+listed (some z) (some zs) = some (z ∷ zs)
+
+unfoldable pub integersOf : List (List ℕ) → Option (List ℤ)
+integersOf [] = some []
+integersOf (w ∷ ws) = listed (integerOf w) (integersOf ws)
+
+-- a minus alone; or numbers with commas between
+unfoldable pub listOf : List ℕ → Option (List ℤ)
+listOf s = cond (isNone s) (some []) (integersOf (words 44 s))
+
+-- the nearest number that 64 bits hold
+unfoldable pub nearest : ℤ → ℤ
+nearest (pos n) = cond (ltb n (2 ^ 63)) (pos n) (pos (2 ^ 63 - 1))
+nearest (negsuc n) = cond (ltb n (2 ^ 63)) (negsuc n) (negsuc (2 ^ 63 - 1))
+
+-- the buffer with them at its start, and how many there is room for
+unfoldable pub laidList : List ℤ → List ℤ → Page ℤ
+laidList zs l = puts (map nearest zs) (page l 0)
+
+unfoldable pub listRead : Option (List ℤ) → List ℤ → ListRead
+listRead none l = ListRead.NotList
+listRead (some zs) l = ListRead.Values (laidList zs l .at)
+
+unfoldable pub listLeft : Option (List ℤ) → List ℤ → List ℤ
+listLeft none l = l
+listLeft (some zs) l = laidList zs l .held
+
+-- ---- a list as text
+
+unfoldable pub moreText : List ℤ → List ℕ
+moreText [] = []
+moreText (z ∷ zs) = codes "," ++ integerText z ++ moreText zs
+
+unfoldable pub listText : List ℤ → List ℕ
+listText [] = codes "-"
+listText (z ∷ zs) = integerText z ++ moreText zs
