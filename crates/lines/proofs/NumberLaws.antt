@@ -7,15 +7,15 @@ use mathlib.Core.Path.{_≡_, refl, sym, ap, _∙_, subst}
 use mathlib.Core.Bool.{Bool, cond, true, false, _&&_}
 use mathlib.Core.Option.{Option, none, some}
 use mathlib.Core.List.{List, [], _∷_, _++_}
-use native.Mathlib.Numerals.{add-one}
 use native.Mathlib.Nat.{pow-suc, mod-eq-of-lt}
 use native.Mathlib.Omega.{arith}
 use borrow.Author.Tests.{eq-eqb, ne-eqb, lt-ltb, le-ltb, le-leb, lt-leb, ltb-true, ltb-false}
 use lib.ListN.{length, take, drop, getD, drop-of-length-le}
-use lib.Seq.{drop-cons, take-all}
+use lib.Seq.{take-all}
 use lib.Dec.{ltb, leb, eqb}
 use Rattle.lines.specs.declared.number.Decimal.{Decimal}
 use Rattle.lines.specs.declared.number.Decimal.the-variants.{Number, Large}
+use Rattle.lines.proofs.ListLaws.{drop-next}
 use lib.IntN.{ℤ, pos, negℤ}
 use Rattle.io.specs.Digits.{glyph, digits, Fewest}
 use Rattle.lines.specs.declared.number.Integer.{Integer}
@@ -126,7 +126,7 @@ reading-next s d d₁ i r h k = record {
   sofar = numberFrom (r .sofar) (getD s i 0 ∷ []);
   is = k (r .sofar) (r .is);
   within = omega arith;
-  same = from-cons (r .sofar) (getD s i 0) (drop (i + 1) s) ∙ rw (drop-cons s i 0, ← add-one i) at (r .same);
+  same = from-cons (r .sofar) (getD s i 0) (drop (i + 1) s) ∙ rw (drop-next s i 0 h) at (r .same);
 }
 
 pub number-nothing : (s : List ℕ) → length s ≡ 0 → Decimal.NotNumber ≡ decimalAs (numberOf s)

@@ -3,12 +3,11 @@ use Prim.Native.Nat.{ℕ, suc, _+_, _<_, _≤_}
 use mathlib.Core.Path.{_≡_, refl, sym, ap, _∙_}
 use mathlib.Core.Bool.{cond, true, false}
 use mathlib.Core.List.{List, [], _∷_, _++_}
-use native.Mathlib.Numerals.{add-one}
 use borrow.Author.Tests.{lt-ltb, le-ltb}
 use native.Mathlib.Omega.{arith}
 use lib.ListN.{length, set, drop, getD, drop-of-length-le}
-use lib.Seq.{drop-cons}
 use lib.Dec.{ltb}
+use Rattle.lines.proofs.ListLaws.{drop-next}
 use Rattle.lines.specs.Page.{Page, page, put, puts}
 
 -- ---- one character
@@ -36,28 +35,31 @@ module _ {A : Type 0} where
   pub instead : (p : Page A) {q : Page A} {t u : List A} → q ≡ puts t p → t ≡ u → q ≡ puts u p
   instead p h e = h ∙ ap (λ (t : List A). puts t p) e
 
-  -- ---- a loop over a text: what is left of it, put on the page so far, gives what the whole text gives
+-- ---- a loop that puts the text of one element after another: the text of what is left, put on the page so far, gives the page meant
 
-  pub record Putting (s l₀ : List A) (n₀ : ℕ) (l : List A) (n i : ℕ) : Type 0 where
-    pub within : i ≤ length s
-    pub size : length l ≡ length l₀
-    pub same : puts (drop i s) (page l n) ≡ puts s (page l₀ n₀)
+pub record Spelling {A B : Type 0} (f : List B → List A) (s : List B) (l₀ : List A) (q : Page A) (l : List A) (n i : ℕ) : Type 0 where
+  pub within : i ≤ length s
+  pub size : length l ≡ length l₀
+  pub same : puts (f (drop i s)) (page l n) ≡ q
 
-  pub putting-first : (s l : List A) (n : ℕ) → Putting s l n l n 0
-  putting-first s l n = record { within = omega arith; size = refl; same = refl }
+module _ {A B : Type 0} (f : List B → List A) (s : List B) (l₀ : List A) where
+  pub spelling-first : (n₀ : ℕ) → Spelling f s l₀ (puts (f s) (page l₀ n₀)) l₀ n₀ 0
+  spelling-first n₀ = record { within = omega arith; size = refl; same = refl }
 
-  pub putting-next : (s l₀ : List A) (n₀ : ℕ) (l : List A) (n i : ℕ) (l₁ : List A) (n₁ : ℕ) (d : A)
-      → Putting s l₀ n₀ l n i → i < length s → length l₁ ≡ length l
-      → page l₁ n₁ ≡ puts (getD s i d ∷ []) (page l n) → Putting s l₀ n₀ l₁ n₁ (i + 1)
-  unfolding puts
-  putting-next s l₀ n₀ l n i l₁ n₁ d p h e k = record {
+  -- g is the text of an element
+  pub spelling-next : (q : Page A) (g : B → List A) → ((b : B) (bs : List B) → f (b ∷ bs) ≡ g b ++ f bs)
+      → (l : List A) (n i : ℕ) (l₁ : List A) (n₁ : ℕ) (d : B) → Spelling f s l₀ q l n i → i < length s → length l₁ ≡ length l
+      → page l₁ n₁ ≡ puts (g (getD s i d)) (page l n) → Spelling f s l₀ q l₁ n₁ (i + 1)
+  spelling-next q g step l n i l₁ n₁ d p h e k = record {
     within = omega arith;
     size = e ∙ p .size;
     same =
-      ap (puts (drop (i + 1) s)) k
-      ∙ rw (drop-cons s i d, ← add-one i) at (p .same);
+      ap (puts (f (drop (i + 1) s))) k
+      ∙ sym (puts-append (g (getD s i d)) (f (drop (i + 1) s)) (page l n))
+      ∙ ap (λ (t : List A). puts t (page l n)) (sym (ap f (drop-next s i d h) ∙ step (getD s i d) (drop (i + 1) s)))
+      ∙ p .same;
   }
 
-  pub putting-last : (s l₀ : List A) (n₀ : ℕ) (l : List A) (n i : ℕ) → Putting s l₀ n₀ l n i → length s ≤ i → page l n ≡ puts s (page l₀ n₀)
+  pub spelling-last : (q : Page A) → f [] ≡ [] → (l : List A) (n i : ℕ) → Spelling f s l₀ q l n i → length s ≤ i → page l n ≡ q
   unfolding puts
-  putting-last s l₀ n₀ l n i p h = rw (drop-of-length-le s h) at (p .same)
+  spelling-last q none l n i p h = rw (drop-of-length-le s h, none) at (p .same)

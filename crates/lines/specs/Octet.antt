@@ -30,16 +30,18 @@ pairs (a ∷ []) = []
 pairs (a ∷ (b ∷ s)) = (digitOf a * 16 + digitOf b) ∷ pairs s
 
 -- a minus alone stands for nothing
-abbrev pub isNone : List ℕ → Bool
+unfoldable pub isNone : List ℕ → Bool
 isNone [] = false
 isNone (c ∷ []) = eqb c 45
 isNone (c ∷ (d ∷ s)) = false
 
--- a minus alone; or pairs of digits, one or more
+-- pairs of digits, one or more
+unfoldable pub areOctets : List ℕ → Bool
+areOctets s = not (eqb (length s) 0) && (eqb (length s % 2) 0 && allHex s)
+
+-- a minus alone, or pairs of digits
 unfoldable pub octetsOf : List ℕ → Option (List ℕ)
-octetsOf s =
-    cond (isNone s) (some [])
-    (cond (ltb 0 (length s) && (eqb (length s % 2) 0 && allHex s)) (some (pairs s)) none)
+octetsOf s = cond (isNone s) (some []) (cond (areOctets s) (some (pairs s)) none)
 
 -- what is answered of them where a buffer has room for so many, and what it then holds
 unfoldable pub octetsRead : Option (List ℕ) → ℕ → OctetsRead
@@ -55,9 +57,12 @@ octetsLeft (some bs) l = cond (leb (length bs) (length l)) (puts bs (page l 0) .
 abbrev pub glyphOf : ℕ → ℕ
 glyphOf d = cond (ltb d 10) (48 + d) (55 + d)
 
+abbrev pub octetText : ℕ → List ℕ
+octetText b = glyphOf (b / 16) ∷ (glyphOf (b % 16) ∷ [])
+
 unfoldable pub hexText : List ℕ → List ℕ
 hexText [] = []
-hexText (b ∷ bs) = glyphOf (b / 16) ∷ (glyphOf (b % 16) ∷ hexText bs)
+hexText (b ∷ bs) = octetText b ++ hexText bs
 
 unfoldable pub octetsText : List ℕ → List ℕ
 octetsText [] = codes "-"

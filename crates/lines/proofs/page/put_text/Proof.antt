@@ -1,9 +1,12 @@
+use Rattle.lines.specs.Page.{page, puts}
+use mathlib.Core.List.{[], _∷_}
+use mathlib.Core.Path.{refl}
+use Rattle.lines.proofs.PageLaws.{Spelling, spelling-first, spelling-next, spelling-last}
 -- `page::put_text` meets its contract: what is left of the text, put on the page so far, gives what the whole text gives. Assumes nothing.
 use borrow.Author.Needs.{needs}
 use native.Mathlib.Omega.{arith}
 use Prim.Native.Nat.{_-_}
 use lib.ListN.{length}
-use Rattle.lines.proofs.PageLaws.{Putting, putting-first, putting-next, putting-last}
 use Rattle.lines.proofs.page.put_text.Statement.{statement}
 use Rattle.lines.proofs.page.put_text.Tie as tie
 use Rattle.lines.proofs.page.put_text.Reads as reads
@@ -11,14 +14,14 @@ use Rattle.lines.proofs.page.put_text.Lts as lts
 use Rattle.lines.proofs.page.put.Reads as put-reads
 
 abbrev Inv-loop : tie.InvT-loop
-Inv-loop out₀ at text i₀ p₀ out i p = Putting text out₀ at out p i
+Inv-loop out₀ at text i₀ p₀ out i p = Spelling (λ t. t) text out₀ (puts text (page out₀ at)) out p i
 
 abbrev μ-loop : tie.MeasureT-loop
 μ-loop out₀ at text i₀ p₀ out i p = length text - i
 
 -- src/page.rt:24:5
 loop-holds : tie.Need-loop-holds Inv-loop μ-loop
-loop-holds c = putting-first _ _ _
+loop-holds c = spelling-first _ _ _ _
 
 -- src/page.rt:25:25
 shared-slice-read-put : tie.Need-shared-slice-read-put Inv-loop μ-loop
@@ -38,7 +41,7 @@ loop-less c = search needs
 
 -- src/page.rt:24:5
 loop-again : tie.Need-loop-again Inv-loop μ-loop
-loop-again c = putting-next _ _ _ _ _ _ _ _ 0 (c .before .before .before .before .before .before .loop .inv) (c .before .before .before .before .before .loop-test .taken) (c .before .before .put .kept .0) (c .before .before .put .ensures)
+loop-again c = spelling-next _ _ _ _ (λ b. b ∷ []) (λ b bs. refl) _ _ _ _ _ 0 (c .before .before .before .before .before .before .loop .inv) (c .before .before .before .before .before .loop-test .taken) (c .before .before .put .kept .0) (c .before .before .put .ensures)
 
 -- src/page.rt:19:1
 same-length : tie.Need-same-length Inv-loop μ-loop
@@ -46,7 +49,7 @@ same-length c = c .before .loop .inv .size
 
 -- src/page.rt:19:1
 returns : tie.Need-returns Inv-loop μ-loop
-returns c = putting-last _ _ _ _ _ _ (c .before .loop .inv) (c .loop-test .left)
+returns c = spelling-last _ _ _ _ refl _ _ _ (c .before .loop .inv) (c .loop-test .left)
 
 pub put-text-spec : {M : Type 1} → statement M
 put-text-spec =
