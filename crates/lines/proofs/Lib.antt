@@ -4,3 +4,4 @@ pub mod PageLaws
 pub mod SignLaws
 pub mod NumberLaws
 pub mod OctetLaws
+pub mod WordLaws

@@ -86,7 +86,7 @@ laying-next s l₀ l i b p h room e =
     let n : suc (2 * i) < length s = omega arith in
     let r : i < length l = omega (arith, p .size) in
     let q : pairs (drop (2 * i) s) ≡ b ∷ pairs (drop (2 * (i + 1)) s) =
-        pairs-two s (2 * i) n ∙ λ j. sym e j ∷ pairs (drop (k j) s) in
+    pairs-two s (2 * i) n ∙ λ j. sym e j ∷ pairs (drop (k j) s) in
     record {
       within = omega arith;
       size = length-set l i b ∙ p .size;

@@ -43,8 +43,11 @@ pub record Spelling {A B : Type 0} (f : List B → List A) (s : List B) (l₀ : 
   pub same : puts (f (drop i s)) (page l n) ≡ q
 
 module _ {A B : Type 0} (f : List B → List A) (s : List B) (l₀ : List A) where
+  pub spelling-from : (n₀ i : ℕ) → i ≤ length s → Spelling f s l₀ (puts (f (drop i s)) (page l₀ n₀)) l₀ n₀ i
+  spelling-from n₀ i h = record { within = h; size = refl; same = refl }
+
   pub spelling-first : (n₀ : ℕ) → Spelling f s l₀ (puts (f s) (page l₀ n₀)) l₀ n₀ 0
-  spelling-first n₀ = record { within = omega arith; size = refl; same = refl }
+  spelling-first n₀ = spelling-from n₀ 0 (omega arith)
 
   -- g is the text of an element
   pub spelling-next : (q : Page A) (g : B → List A) → ((b : B) (bs : List B) → f (b ∷ bs) ≡ g b ++ f bs)
@@ -54,10 +57,10 @@ module _ {A B : Type 0} (f : List B → List A) (s : List B) (l₀ : List A) whe
     within = omega arith;
     size = e ∙ p .size;
     same =
-      ap (puts (f (drop (i + 1) s))) k
-      ∙ sym (puts-append (g (getD s i d)) (f (drop (i + 1) s)) (page l n))
-      ∙ ap (λ (t : List A). puts t (page l n)) (sym (ap f (drop-next s i d h) ∙ step (getD s i d) (drop (i + 1) s)))
-      ∙ p .same;
+        ap (puts (f (drop (i + 1) s))) k
+        ∙ sym (puts-append (g (getD s i d)) (f (drop (i + 1) s)) (page l n))
+        ∙ ap (λ (t : List A). puts t (page l n)) (sym (ap f (drop-next s i d h) ∙ step (getD s i d) (drop (i + 1) s)))
+        ∙ p .same;
   }
 
   pub spelling-last : (q : Page A) → f [] ≡ [] → (l : List A) (n i : ℕ) → Spelling f s l₀ q l n i → length s ≤ i → page l n ≡ q

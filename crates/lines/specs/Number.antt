@@ -7,7 +7,7 @@ use lib.Dec.{leb, ltb, eqb}
 use lib.IntN.{ℤ, pos, negsuc, negℤ}
 use Rattle.lines.specs.Page.{codes}
 use Rattle.lines.specs.declared.number.Decimal.{Decimal}
-use Rattle.lines.specs.declared.number.Decimal.the-variants.{Number, Large} 
+use Rattle.lines.specs.declared.number.Decimal.the-variants.{Number, Large}
 use Rattle.lines.specs.declared.number.Integer.{Integer}
 
 -- ---- a word's number

@@ -23,6 +23,10 @@ words d (c ∷ s) = cond (eqb c d) ([] ∷ words d s) (within c (words d s))
 
 -- ---- a word's list
 
+abbrev pub isSome : {A : Type 0} → Option A → Bool
+isSome none = false
+isSome (some a) = true
+
 abbrev pub listed : {A : Type 0} → Option A → Option (List A) → Option (List A)
 listed none zs = none
 listed (some z) none = none
@@ -41,6 +45,14 @@ unfoldable pub nearest : ℤ → ℤ
 nearest (pos n) = cond (ltb n (2 ^ 63)) (pos n) (pos (2 ^ 63 - 1))
 nearest (negsuc n) = cond (ltb n (2 ^ 63)) (negsuc n) (negsuc (2 ^ 63 - 1))
 
+-- of a word; 0 where it is no number
+abbrev pub nearestOr : Option ℤ → ℤ
+nearestOr none = pos 0
+nearestOr (some z) = nearest z
+
+unfoldable pub nearestIn : List ℕ → ℤ
+nearestIn w = nearestOr (integerOf w)
+
 -- the buffer with them at its start, and how many there is room for
 unfoldable pub laidList : List ℤ → List ℤ → Page ℤ
 laidList zs l = puts (map nearest zs) (page l 0)
@@ -57,7 +69,7 @@ listLeft (some zs) l = laidList zs l .held
 
 unfoldable pub moreText : List ℤ → List ℕ
 moreText [] = []
-moreText (z ∷ zs) = codes "," ++ integerText z ++ moreText zs
+moreText (z ∷ zs) = (codes "," ++ integerText z) ++ moreText zs
 
 unfoldable pub listText : List ℤ → List ℕ
 listText [] = codes "-"

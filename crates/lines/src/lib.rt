@@ -8,11 +8,11 @@ mod word;
 
 pub use number::Decimal;
 pub use number::Integer;
-pub use number::read_decimal;
-pub use number::read_integer;
 pub use number::put_decimal;
 pub use number::put_digits;
 pub use number::put_integer;
+pub use number::read_decimal;
+pub use number::read_integer;
 pub use octet::OctetsRead;
 pub use octet::put_octets;
 pub use octet::read_octets;
