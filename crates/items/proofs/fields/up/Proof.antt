@@ -1,0 +1,17 @@
+-- `items::fields::up` meets its contract. Assumes nothing.
+use mir.Syntax.{w64}
+use mir.ValLaws.{toZ-pos}
+use borrow.Author.Needs.{needs}
+use Rattle.items.proofs.fields.up.Statement.{statement}
+use Rattle.items.proofs.fields.up.Tie as tie
+use Rattle.items.proofs.fields.up.Reads as reads
+use Rattle.items.proofs.fields.up.Lts as lts
+
+cast-result : tie.Need-cast-result
+cast-result c = search needs
+
+returns : tie.Need-returns
+returns c = toZ-pos w64 (c .args .n) (c .pre)
+
+pub up-spec : {M : Type 1} → statement M
+up-spec = tie.close (tie.spec cast-result returns)

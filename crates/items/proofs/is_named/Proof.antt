@@ -1,0 +1,29 @@
+-- `items::is_named` meets its contract. Assumes nothing.
+use mathlib.Core.Path.{_≡_, ap, _∙_, sym}
+use mathlib.Core.Bool.{not, _&&_}
+use lib.Dec.{eqb}
+use borrow.Author.Tests.{eq-eqb, ne-eqb}
+use Rattle.items.specs.Answers.{isNamed}
+use Rattle.items.proofs.TableLaws.{place-named}
+use borrow.Author.Needs.{needs}
+use Rattle.items.proofs.is_named.Statement.{statement}
+use Rattle.items.proofs.is_named.Tie as tie
+use Rattle.items.proofs.is_named.Reads as reads
+use Rattle.items.proofs.is_named.Lts as lts
+use Rattle.items.proofs.place_of.Reads as place-of-reads
+
+place-of-requires : tie.Need-place-of-requires
+place-of-requires c κs = search needs
+
+returns : tie.Need-returns
+returns c =
+    let r = c .before .before .place-of in
+    sym (ap (isNamed _) (sym (r .ensures .0)) ∙ place-named _ (r .result) (r .ensures .1) ∙ rw (eq-eqb (r .result .0) 0 (c .if1 .taken)))
+
+returns-2 : tie.Need-returns-2
+returns-2 c =
+    let r = c .before .before .before .place-of in
+    sym (ap (isNamed _) (sym (r .ensures .0)) ∙ place-named _ (r .result) (r .ensures .1) ∙ rw (ne-eqb (r .result .0) 0 (c .before .if1 .left)))
+
+pub is-named-spec : {M : Type 1} → statement M
+is-named-spec = tie.close (tie.spec place-of-requires returns returns-2)

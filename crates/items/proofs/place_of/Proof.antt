@@ -1,0 +1,38 @@
+-- `items::place_of` meets its contract: the row of the table stands for what the profile has there. Assumes nothing.
+use Prim.Native.Nat.{_<_, _*_, _+_}
+use mathlib.Core.Path.{_≡_, ap, _∙_, sym, subst}
+use lib.Dec.{lit<}
+use Rattle.items.specs.Tables.{placeIs}
+use Rattle.items.proofs.TableLaws.{place-is, place-row, place-none, none-past, none-other}
+use borrow.Author.Needs.{needs}
+use Rattle.items.proofs.place_of.Statement.{statement}
+use Rattle.items.proofs.place_of.Tie as tie
+use Rattle.items.proofs.place_of.Reads as reads
+use Rattle.items.proofs.place_of.Lts as lts
+use Rattle.items.proofs.tables.place_at.Reads as place-at-reads
+
+mul-place-at : tie.Need-mul-place-at
+mul-place-at c = search needs
+
+add-place-at : tie.Need-add-place-at
+add-place-at c = search needs
+
+place-at-requires : tie.Need-place-at-requires
+place-at-requires c κs = search needs
+
+returns : tie.Need-returns
+returns c =
+    let s = c .before .before .before in (
+      ap placeIs (c .place-at .ensures) ∙ place-is (s .args .profile) (s .args .frn) (c .before .before .if1 .taken) (c .before .if2 .taken),
+      subst (λ r. r .0 < 51) (sym (c .place-at .ensures)) (place-row (s .args .profile * 36 + s .args .frn)),
+    )
+
+returns-2 : tie.Need-returns-2
+returns-2 c = (none-past (c .before .before .args .profile) (c .before .before .args .frn) (c .if2 .left), lit< tt)
+
+returns-3 : tie.Need-returns-3
+returns-3 c = (none-other (c .before .args .profile) (c .before .args .frn) (c .if1 .left), lit< tt)
+
+pub place-of-spec : {M : Type 1} → statement M
+place-of-spec =
+    tie.close (tie.spec mul-place-at add-place-at place-at-requires returns returns-2 returns-3)

@@ -1,0 +1,157 @@
+// One item of categories 017 and 018: its layout by table.
+mod fields;
+mod parts;
+mod tables;
+
+use parts::Shape;
+use parts::item_store;
+use parts::whole_of;
+use tables::FRNS;
+use tables::PROFILES;
+use tables::PlaceRow;
+use tables::layout_at;
+use tables::place_at;
+ghost use mathlib.Core.Path.{_≡_};
+ghost use mathlib.Core.List.{List};
+ghost use Prim.Native.Nat.{_<_, _≤_, _+_};
+ghost use Rattle.rules.specs.Layout.{concat};
+ghost use Rattle.rules.specs.Presence.{present, placeAt};
+ghost use Rattle.rules.specs.Answer.{expect_or_};
+ghost use Rattle.rules.specs.Entry.{categories, profileAt, layoutOf, readOne, leaves};
+ghost use Rattle.items.specs.Tables.{placeIs, layoutIs, layoutAt};
+ghost use Rattle.items.specs.Answers.{isNamed, frnAs, frnOf, checkedOf, checkAt, profileIn, readOf, countOf};
+
+// ---- where an item stands
+
+// What a profile has at an FRN.
+fn place_of(profile: usize, frn: usize) -> PlaceRow
+    ensures { λ r. ⌜ (placeIs r ≡ placeAt (profileAt categories profile) frn) × (r .0 < 51) ⌝ }
+{
+    if profile < PROFILES {
+        if frn < FRNS {
+            return place_at(profile * FRNS + frn);
+        }
+    }
+    PlaceRow(0, 0)
+}
+
+// Whether a profile has an item at an FRN.
+pub fn is_usable(profile: usize, frn: usize) -> bool
+    ensures { λ r. ⌜ r ≡ present (placeAt (profileAt categories profile) frn) ⌝ }
+{
+    let p = place_of(profile, frn);
+    p.0 != 0
+}
+
+// Whether the item of a profile at an FRN has a reference.
+fn is_named(profile: usize, frn: usize, reference: u16) -> bool
+    ensures { λ r. ⌜ r ≡ isNamed reference (placeAt (profileAt categories profile) frn) ⌝ }
+{
+    let p = place_of(profile, frn);
+    if p.0 == 0 {
+        return false;
+    }
+    reference == p.1
+}
+
+// The FRN of an item of a profile.
+pub enum FrnFound {
+    Frn(usize),
+    // The reference names no item of the profile.
+    NoItem,
+}
+
+// The FRN of the item with a reference: the number after its slash.
+pub fn frn_of(profile: usize, reference: u16) -> FrnFound
+    ensures { λ r. ⌜ frnOf r ≡ frnAs reference 1 (concat (profileAt categories profile)) ⌝ }
+{
+    let mut frn: usize = 1;
+    while frn < FRNS {
+        if is_named(profile, frn, reference) {
+            return FrnFound::Frn(frn);
+        }
+        frn += 1;
+    }
+    FrnFound::NoItem
+}
+
+// ---- checking an item
+
+// What checking an item answers.
+pub enum ItemCheck {
+    // Its octets are there and its fields are legal: how many octets it takes.
+    Whole(usize),
+    // The number of the refusal, and its place, counted from the item's start.
+    Refused { number: u8, place: usize },
+}
+
+// How many octets the item of a profile at an FRN takes, which starts the part: 21 where the profile has none there; 9, 10, 9 of the body, 11.
+pub fn check_item(profile: usize, frn: usize, part: &[u8]) -> ItemCheck
+    ensures { λ r. ⌜ checkedOf r ≡ checkAt profile frn (now (part .entry)) ⌝ }
+{
+    let p = place_of(profile, frn);
+    match whole_of(layout_at(p.0), part) {
+        Shape::Parts { count: _, long } => ItemCheck::Whole(long),
+        Shape::Refused { number } => ItemCheck::Refused { number, place: 0 },
+    }
+}
+
+// ---- reading an item
+
+// The index of a category's profile: past the last for any other category.
+pub fn profile_of(category: u8) -> usize
+    ensures { λ r. ⌜ r ≡ profileIn category categories ⌝ }
+{
+    if category == 17 {
+        return 0;
+    }
+    if category == 18 {
+        return 1;
+    }
+    PROFILES
+}
+
+// The place of the layout of an item, by its category and reference: that of no item where there is none.
+fn layout_of(category: u8, reference: u16) -> usize
+    ensures { λ r. ⌜ (r < 51) × ((expect layoutIs (layoutAt r) or 21) ≡ layoutOf category reference) ⌝ }
+{
+    let profile = profile_of(category);
+    match frn_of(profile, reference) {
+        FrnFound::Frn(frn) => {
+            let p = place_of(profile, frn);
+            p.0
+        }
+        FrnFound::NoItem => 0,
+    }
+}
+
+// What reading an item answers.
+pub enum ItemRead {
+    // How many fields it has.
+    Fields { count: usize },
+    // The number of the refusal, and its place, counted from the item's start.
+    Refused { number: u8, place: usize },
+}
+
+// The fields of an item that is all of the octets lent, from its highest bit down, at the start of the output: 21 for a reference that is no
+// item of the category, and for any other category; 9, 10, 9 of the body, 11; 18 where octets follow. A refusal changes nothing.
+pub fn read_item(category: u8, reference: u16, item: &[u8], fields: &mut [i64; 8192]) -> ItemRead
+    ensures answer { λ r. ⌜ readOf r ≡ countOf (readOne category reference (now (item .entry))) ⌝ }
+    ensures left { λ r. ⌜ now (fields .exit) ≡ leaves (readOne category reference (now (item .entry))) (now (fields .entry)) ⌝ }
+{
+    let l = layout_at(layout_of(category, reference));
+    match whole_of(l, item) {
+        Shape::Refused { number } => ItemRead::Refused { number, place: 0 },
+        Shape::Parts { count, long } => {
+            if long < item.len() {
+                return ItemRead::Refused {
+                    number: 18,
+                    place: long,
+                };
+            }
+            ItemRead::Fields {
+                count: item_store(l, item, count, fields),
+            }
+        }
+    }
+}
