@@ -1,7 +1,9 @@
 // One item of categories 017 and 018: its layout by table.
 mod fields;
+mod layouts;
 mod parts;
 mod tables;
+mod write;
 
 use parts::Shape;
 use parts::item_store;
@@ -11,6 +13,8 @@ use tables::PROFILES;
 use tables::PlaceRow;
 use tables::layout_at;
 use tables::place_at;
+pub use write::ItemWritten;
+pub use write::write_item;
 ghost use mathlib.Core.Path.{_≡_};
 ghost use mathlib.Core.List.{List};
 ghost use Prim.Native.Nat.{_<_, _≤_, _+_};

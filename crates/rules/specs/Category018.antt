@@ -1,12 +1,10 @@
 -- Category 018, Mode S Datalink Function Messages, edition 1.6: the layout of each item (section 5.2), the User Application Profile (5.3.1,
 -- Table 9) and the items of each message type (5.3.2). An item is named by the number after the slash of its reference.
 -- Where the document contradicts itself, docs/DECISIONS.md has the reading. Assumes nothing.
-use Prim.Native.Nat.{ℕ}
-use mathlib.Core.Option.{Option, none, some}
-use mathlib.Core.List.{List, [], _∷_}
-use Rattle.rules.specs.Field.{Field, spare, any, within, twos}
+use mathlib.Core.List.{[], _∷_}
+use Rattle.rules.specs.Field.{spare, any, within, twos}
 use Rattle.rules.specs.Layout.{Layout, led, extended, group, item, list}
-use Rattle.rules.specs.Record.{Place, Message, Category, at, message}
+use Rattle.rules.specs.Record.{Category, at, message}
 
 -- ---- 5.2, Description of Standard Data Items
 

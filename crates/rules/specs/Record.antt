@@ -1,13 +1,12 @@
 -- A category (its profile and its message types, as its document prints them) and a record of it: the FSPEC, then the items in rising FRN
 -- (document 01, "Block, record, item"; sections 5.3.1 and 5.3.2 of each category document). Assumes nothing.
-use Prim.Native.Nat.{ℕ, zero, suc, _+_, _-_}
-use mathlib.Core.Bool.{Bool, true, false, _&&_, _||_}
+use Prim.Native.Nat.{ℕ}
+use mathlib.Core.Bool.{Bool, true, _&&_}
 use mathlib.Core.Option.{Option, none, some}
-use mathlib.Core.List.{List, [], _∷_, _++_, map}
+use mathlib.Core.List.{List, [], _∷_, _++_}
 use lib.Dec.{eqb}
-use lib.ListN.{length}
-use lib.IntN.{ℤ, pos, negsuc}
-use Rattle.rules.specs.Answer.{Answer, ok, refused, _>>=_, need_or_then_, if_then_else_, expect_or_, Read, Write}
+use lib.IntN.{pos, negsuc}
+use Rattle.rules.specs.Answer.{Answer, ok, refused, _>>=_, need_or_then_, if_then_else_, Read, Write}
 use Rattle.rules.specs.Layout.{Layout, Values, concat, readItem, writeItem}
 use Rattle.rules.specs.Presence.{has, writePlaces, readPlaces}
 
