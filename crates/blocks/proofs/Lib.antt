@@ -1,0 +1,4 @@
+pub mod LoopLaws
+pub mod HeadLaws
+pub mod RecordLaws
+pub mod FindLaws

@@ -1,0 +1,19 @@
+-- `check::check_block` meets its contract: checking a block is opening it. Assumes nothing.
+use borrow.Author.Needs.{needs}
+use Rattle.blocks.proofs.HeadLaws.{check-is}
+use Rattle.blocks.proofs.check.check_block.Statement.{statement}
+use Rattle.blocks.proofs.check.check_block.Tie as tie
+use Rattle.blocks.proofs.check.check_block.Reads as reads
+use Rattle.blocks.proofs.check.check_block.Lts as lts
+use Rattle.blocks.proofs.check.open_block.Reads as open-block-reads
+
+-- src/check.rt:111:9
+open-block-requires : tie.Need-open-block-requires
+open-block-requires c κs = search needs
+
+-- src/check.rt:108:1
+returns : tie.Need-returns
+returns c = check-is _ (c .open-block .result .profile) (c .open-block .result .checked) (c .open-block .ensures)
+
+pub check-block-spec : {M : Type 1} → statement M
+check-block-spec = tie.close (tie.spec open-block-requires returns)
