@@ -1,0 +1,111 @@
+-- What each function of this crate answers, in the words of the rules. Assumes nothing.
+use Prim.Native.Nat.{ℕ, _-_}
+use mathlib.Core.Path.{_≡_}
+use mathlib.Core.Bool.{Bool, true, false}
+use mathlib.Core.List.{List, [], _∷_}
+use lib.ListN.{length, replicate}
+use Rattle.rules.specs.Answer.{Answer, ok, refused, _>>=_, later}
+use Rattle.rules.specs.Layout.{concat}
+use Rattle.rules.specs.Presence.{readPresence}
+use Rattle.rules.specs.Record.{readRecord}
+use Rattle.rules.specs.Entry.{mapOf}
+use Rattle.rules.specs.Entry as entry
+use Rattle.records.specs.Sets.{categoryAt, bitsOf}
+use Rattle.records.specs.Walk.{Came}
+use Rattle.records.specs.declared.ItemSet.{ItemSet}
+use Rattle.records.specs.declared.SetRead.{SetRead}
+use Rattle.records.specs.declared.SetRead.the-variants.{Items, Refused}
+use Rattle.records.specs.declared.messages.MessageRow.{MessageRow}
+use Rattle.records.specs.declared.messages.MessageRow.the-variants.{Known, Unknown}
+use Rattle.records.specs.declared.Judgement.{Judgement}
+use Rattle.records.specs.declared.Judgement.the-variants as judgement
+use Rattle.records.specs.declared.RecordMap.{RecordMap}
+use Rattle.records.specs.declared.RecordChecked.{RecordChecked}
+use Rattle.records.specs.declared.RecordChecked.the-variants as checked
+use Rattle.records.specs.declared.RecordWalked.{RecordWalked}
+use Rattle.records.specs.declared.ItemsWalked.{ItemsWalked}
+use Rattle.items.specs.declared.ItemCheck.{ItemCheck}
+use Rattle.items.specs.declared.ItemCheck.the-variants as item
+
+-- ---- the FSPEC
+
+-- a set, and how many octets its FSPEC has
+abbrev pub setOf : SetRead → Answer (ℕ × ℕ)
+setOf (Items s n) = ok (s .bits, n)
+setOf (Refused n) = refused n 0
+
+-- the number of a refusal, 0 where there is none
+abbrev pub setNumber : SetRead → ℕ
+setNumber (Items s n) = 0
+setNumber (Refused n) = n
+
+-- the FSPEC that starts octets, of the category with an index: 5, 6, 7, 8
+unfoldable pub setAt : ℕ → List ℕ → Answer (ℕ × ℕ)
+setAt i bs = do
+  (ts, rest) ← readPresence 5 (categoryAt i .profile) bs
+  ok (bitsOf (concat ts), length bs - length rest)
+
+-- ---- what the message type asks for
+
+-- the sets of a message type: what it must have, and what it must or may have
+abbrev pub rowOf : MessageRow → Answer (ℕ × ℕ)
+rowOf (Known must may) = ok (must, may)
+rowOf Unknown = refused 13 0
+
+abbrev pub judgedOf : Judgement → Answer (Unit {0})
+judgedOf judgement.Right = ok tt
+judgedOf (judgement.Refused n) = refused n 0
+
+abbrev pub judgedNumber : Judgement → ℕ
+judgedNumber judgement.Right = 0
+judgedNumber (judgement.Refused n) = n
+
+-- ---- the items
+
+abbrev pub itemNumber : ItemCheck → ℕ
+itemNumber (item.Whole n) = 0
+itemNumber (item.Refused n p) = n
+
+abbrev pub itemPlace : ItemCheck → ℕ
+itemPlace (item.Whole n) = 0
+itemPlace (item.Refused n p) = p
+
+-- how far a walk came, or the refusal that ended it
+abbrev pub cameBy : RecordChecked → ItemsWalked → Answer Came
+cameBy (checked.Ends e) w = ok (record { here = e; count = w .count; starts = w .starts; kind = w .kind })
+cameBy (checked.Refused n p) w = refused n p
+
+abbrev pub cameOf : ItemsWalked → Answer Came
+cameOf w = cameBy (w .checked) w
+
+-- ---- a record
+
+abbrev pub checkedNumber : RecordChecked → ℕ
+checkedNumber (checked.Ends e) = 0
+checkedNumber (checked.Refused n p) = n
+
+abbrev pub checkedPlace : RecordChecked → ℕ
+checkedPlace (checked.Ends e) = 0
+checkedPlace (checked.Refused n p) = p
+
+-- where a record ends
+abbrev pub endOf : RecordChecked → Answer ℕ
+endOf (checked.Ends e) = ok e
+endOf (checked.Refused n p) = refused n p
+
+-- the map with every place absent, and the map that an answer leaves
+abbrev pub absent : RecordMap
+absent = record { starts = replicate 35 0; end = 0; count = 0 }
+
+abbrev pub mapIn : Answer entry.RecordMap → RecordMap
+mapIn (ok m) = record { starts = m .starts; end = m .end; count = m .count }
+mapIn (refused n p) = absent
+
+-- what the code answers is what a rule answers: the record's end and its map; or the refusal, and every place absent
+pub record Walked (w : RecordWalked) (a : Answer entry.RecordMap) : Type 0 where
+  pub answer : endOf (w .checked) ≡ (a >>= λ m. ok (m .end))
+  pub map : w .map ≡ mapIn a
+
+-- the map of the record that starts octets, which stand at a place
+unfoldable pub recordAt : ℕ → ℕ → List ℕ → Answer entry.RecordMap
+recordAt i k bs = later k (readRecord (categoryAt i) bs >>= λ x. ok (mapOf (categoryAt i) (record { start = k; value = x .0 })))

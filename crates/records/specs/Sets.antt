@@ -1,0 +1,40 @@
+-- Sets of FRNs as the code holds them: FRN f, 0 to 63, is bit 63 - f of a number of 64 bits, so that `flags 64` of the number has at index f
+-- whether FRN f is in the set. FRN 0 is none. Assumes nothing.
+use Prim.Native.Nat.{ℕ, zero, suc}
+use mathlib.Core.Bool.{Bool, true, false, _&&_}
+use mathlib.Core.List.{List, [], _∷_}
+use lib.ListN.{replicate}
+use Rattle.rules.specs.Presence.{flags, number}
+use Rattle.rules.specs.Record.{Category}
+use Rattle.rules.specs.Entry.{categories, over}
+
+-- the category with an index; any other index has no profile and no messages
+abbrev pub categoryIn : List Category → ℕ → Category
+categoryIn [] i = record { cat = 0; profile = []; messages = [] }
+categoryIn (c ∷ cs) zero = c
+categoryIn (c ∷ cs) (suc i) = categoryIn cs i
+
+unfoldable pub categoryAt : ℕ → Category
+categoryAt i = categoryIn categories i
+
+-- the number of a set whose flags are given from FRN 1 on
+unfoldable pub bitsOf : List Bool → ℕ
+bitsOf ts = number (over (false ∷ ts) (replicate 64 false))
+
+-- the FRNs whose flags are set, the first flag's FRN given
+abbrev pub frnsFrom : ℕ → List Bool → List ℕ
+frnsFrom f [] = []
+frnsFrom f (false ∷ ts) = frnsFrom (suc f) ts
+frnsFrom f (true ∷ ts) = f ∷ frnsFrom (suc f) ts
+
+-- the FRNs of a set
+unfoldable pub frnsOf : ℕ → List ℕ
+frnsOf bits = frnsFrom 0 (flags 64 bits)
+
+-- every flag that is set in the first list is set in the second
+abbrev pub within : List Bool → List Bool → Bool
+within [] us = true
+within (false ∷ ts) [] = within ts []
+within (true ∷ ts) [] = false
+within (false ∷ ts) (u ∷ us) = within ts us
+within (true ∷ ts) (u ∷ us) = u && within ts us
