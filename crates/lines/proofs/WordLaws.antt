@@ -1,26 +1,26 @@
 -- What holds of words and of lists of numbers.
 --
--- In order: the first word of a line; what the answer for a word's number says; a list word by word; its numbers laid in a buffer; a list as text.
+-- In order: the first word of a line; two words compared; what the answer for a word's number says; a list word by word; its numbers laid in a buffer; a list as text.
 -- Assumes nothing.
 use Prim.Native.Nat.{ℕ, zero, suc, _+_, _-_, _^_, _<_, _≤_, min}
 use mathlib.Core.Path.{_≡_, refl, sym, ap, _∙_, subst}
-use mathlib.Core.Bool.{Bool, cond, true, false, not, _&&_}
+use mathlib.Core.Bool.{Bool, cond, true, false, _&&_, and-false}
 use mathlib.Core.Option.{Option, none, some}
 use mathlib.Core.List.{List, [], _∷_, _++_, map}
 use native.Mathlib.Omega.{arith}
 use borrow.Author.Tests.{leb-true, leb-false, eq-eqb, ne-eqb, lt-ltb, le-ltb}
-use lib.ListN.{length, take, drop, getD, length-take, length-drop}
+use lib.ListN.{length, take, drop, getD, length-take, length-drop, drop-of-length-le}
 use lib.Seq.{take-length, take-all, getD-take, length-take-le}
 use lib.Dec.{leb, ltb, eqb, eqb·zero-suc, eqb·suc-suc}
 use lib.IntN.{ℤ, pos, negsuc}
 use Rattle.bytes.specs.Bytes.{slice, indexOf, indexAfter}
 use Rattle.lines.specs.Page.{Page, page, puts}
 use Rattle.lines.specs.Number.{integerOf, integerAs, integerText}
-use Rattle.lines.specs.Word.{within, words, isSome, listed, integersOf, nearest, nearestOr, nearestIn, listOf, laidList, listRead, listLeft, moreText, listText}
+use Rattle.lines.specs.Word.{same, within, words, isSome, listed, integersOf, nearest, nearestOr, nearestIn, listOf, laidList, listRead, listLeft, moreText, listText}
 use Rattle.lines.specs.Octet.{isNone}
 use Rattle.lines.specs.declared.number.Integer.{Integer}
 use Rattle.lines.specs.declared.word.ListRead.{ListRead}
-use Rattle.lines.proofs.ListLaws.{front, back}
+use Rattle.lines.proofs.ListLaws.{drop-next, front, back}
 use Rattle.lines.proofs.PageLaws.{puts-append}
 
 -- ---- the first word of a line
@@ -47,6 +47,42 @@ pub words-cons : (d : ℕ) (s : List ℕ) → words d s ≡ take (indexOf d s) s
 unfolding words indexOf
 words-cons d [] = refl
 words-cons d (c ∷ s) = step (eqb c d) d c s (indexOf d s) (words-cons d s)
+
+-- ---- two words, character by character: what is left of them says what all says
+
+pub record Comparing (s t : List ℕ) (i : ℕ) : Type 0 where
+  pub within : i ≤ length s
+  pub is : same (drop i s) (drop i t) ≡ same s t
+
+pub comparing-first : (s t : List ℕ) → Comparing s t 0
+comparing-first s t = record { within = omega arith; is = refl }
+
+same-step : (s t : List ℕ) (i : ℕ) → length s ≡ length t → i < length s
+    → same (drop i s) (drop i t) ≡ (eqb (getD s i 0) (getD t i 0) && same (drop (i + 1) s) (drop (i + 1) t))
+unfolding same
+same-step s t i e h = λ j. same (drop-next s i 0 h j) (drop-next t i 0 (omega arith) j)
+
+pub comparing-next : (s t : List ℕ) (i : ℕ) → Comparing s t i → length s ≡ length t → i < length s → getD s i 0 ≡ getD t i 0 → Comparing s t (i + 1)
+comparing-next s t i p e h k = record {
+  within = omega arith;
+  is = sym (same-step s t i e h ∙ rw (eq-eqb (getD s i 0) (getD t i 0) k)) ∙ p .is;
+}
+
+pub comparing-stop : (s t : List ℕ) (i : ℕ) → Comparing s t i → length s ≡ length t → i < length s → (getD s i 0 ≡ getD t i 0 → ⊥) → false ≡ same s t
+comparing-stop s t i p e h k = sym (same-step s t i e h ∙ rw (ne-eqb (getD s i 0) (getD t i 0) k)) ∙ p .is
+
+pub comparing-last : (s t : List ℕ) (i : ℕ) → Comparing s t i → length s ≡ length t → length s ≤ i → true ≡ same s t
+unfolding same
+comparing-last s t i p e h =
+    let k : length t ≤ i = omega arith in
+    rw (drop-of-length-le s h, drop-of-length-le t k) at (p .is)
+
+pub comparing-not : (s t : List ℕ) → (length s ≡ length t → ⊥) → false ≡ same s t
+unfolding same
+comparing-not [] [] h = absurd (h refl)
+comparing-not [] (d ∷ t) h = refl
+comparing-not (c ∷ s) [] h = refl
+comparing-not (c ∷ s) (d ∷ t) h = rw (← comparing-not s t (λ e. h (ap suc e))) (sym (and-false (eqb c d)))
 
 -- ---- what the answer for a word's number says of the number
 

@@ -1,6 +1,6 @@
 -- Words with a separator between, and lists of numbers with commas between. Assumes nothing.
 use Prim.Native.Nat.{ℕ, zero, suc, _^_, _-_}
-use mathlib.Core.Bool.{Bool, true, false, cond}
+use mathlib.Core.Bool.{Bool, true, false, cond, _&&_}
 use mathlib.Core.Option.{Option, none, some}
 use mathlib.Core.List.{List, [], _∷_, _++_, map}
 use lib.Dec.{ltb, eqb}
@@ -20,6 +20,13 @@ within c (w ∷ ws) = (c ∷ w) ∷ ws
 unfoldable pub words : ℕ → List ℕ → List (List ℕ)
 words d [] = [] ∷ []
 words d (c ∷ s) = cond (eqb c d) ([] ∷ words d s) (within c (words d s))
+
+-- whether two words are the same, character by character
+unfoldable pub same : List ℕ → List ℕ → Bool
+same [] [] = true
+same [] (d ∷ t) = false
+same (c ∷ s) [] = false
+same (c ∷ s) (d ∷ t) = eqb c d && same s t
 
 -- ---- a word's list
 

@@ -11,13 +11,30 @@ ghost use lib.ListN.{length, take, drop};
 ghost use Rattle.bytes.specs.Bytes.{indexOf};
 ghost use Rattle.lines.specs.Page.{codes, page, puts};
 ghost use Rattle.lines.specs.Number.{integerOf, integerText};
-ghost use Rattle.lines.specs.Word.{words, isSome, integersOf, nearestIn, listOf, listRead, listLeft, moreText, listText};
+ghost use Rattle.lines.specs.Word.{same, words, isSome, integersOf, nearestIn, listOf, listRead, listLeft, moreText, listText};
 
 // Where the first word of a line ends: at the first separator, or at the line's end.
 pub fn end_of(line: &[u8], separator: u8) -> usize
     ensures { λ r. ⌜ (r ≡ indexOf separator (now (line .entry))) × (r ≤ length (now (line .entry))) ⌝ }
 {
     bytes::scan::find(line, 0, line.len(), separator)
+}
+
+// Whether two words have the same characters.
+pub fn is_same(a: &[u8], b: &[u8]) -> bool
+    ensures { λ r. ⌜ r ≡ same (now (a .entry)) (now (b .entry)) ⌝ }
+{
+    if a.len() != b.len() {
+        return false;
+    }
+    let mut i = 0;
+    while i < a.len() {
+        if a[i] != b[i] {
+            return false;
+        }
+        i += 1;
+    }
+    true
 }
 
 // What a word is as a list of numbers.
