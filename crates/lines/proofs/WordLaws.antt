@@ -157,13 +157,13 @@ some-listed (some a) none = refl
 some-listed (some a) (some b) = refl
 
 module _ (d : ℕ) (s : List ℕ) (e : ℕ) (h : e ≡ indexOf d s) where
-  first-is : words d s ≡ take e s ∷ later d s e
+  pub first-is : words d s ≡ take e s ∷ later d s e
   first-is = words-cons d s ∙ ap (λ (n : ℕ). take n s ∷ later d s n) (sym h)
 
-  none-later : e ≡ length s → later d s e ≡ []
+  pub none-later : e ≡ length s → later d s e ≡ []
   none-later k = rw (eq-eqb e (length s) k)
 
-  some-later : (e ≡ length s → ⊥) → later d s e ≡ words d (take (length s - (e + 1)) (drop (e + 1) s))
+  pub some-later : (e ≡ length s → ⊥) → later d s e ≡ words d (take (length s - (e + 1)) (drop (e + 1) s))
   some-later k = rw (ne-eqb e (length s) k, back s (e + 1))
 
   pub shorter : e ≤ length s → (e ≡ length s → ⊥) → length (take (length s - (e + 1)) (drop (e + 1) s)) < length s

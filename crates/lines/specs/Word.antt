@@ -5,12 +5,17 @@ use mathlib.Core.Option.{Option, none, some}
 use mathlib.Core.List.{List, [], _∷_, _++_, map}
 use lib.Dec.{ltb, eqb}
 use lib.IntN.{ℤ, pos, negsuc}
+use Rattle.bytes.specs.Bytes.{indexOf}
 use Rattle.lines.specs.Page.{codes, Page, page, puts}
 use Rattle.lines.specs.Number.{integerOf, integerText}
 use Rattle.lines.specs.Octet.{isNone}
 use Rattle.lines.specs.declared.word.ListRead.{ListRead}
 
 -- ---- words
+
+-- how many characters stand before the first separator, all of them where there is none
+abbrev pub wordEnd : ℕ → List ℕ → ℕ
+wordEnd d s = indexOf d s
 
 abbrev pub within : {A : Type 0} → A → List (List A) → List (List A)
 within c [] = (c ∷ []) ∷ []

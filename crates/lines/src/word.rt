@@ -8,14 +8,13 @@ ghost use mathlib.Core.Path.{_≡_};
 ghost use mathlib.Core.List.{[], _∷_, map, _++_};
 ghost use Prim.Native.Nat.{_≤_, min};
 ghost use lib.ListN.{length, take, drop};
-ghost use Rattle.bytes.specs.Bytes.{indexOf};
 ghost use Rattle.lines.specs.Page.{codes, page, puts};
 ghost use Rattle.lines.specs.Number.{integerOf, integerText};
-ghost use Rattle.lines.specs.Word.{same, words, isSome, integersOf, nearestIn, listOf, listRead, listLeft, moreText, listText};
+ghost use Rattle.lines.specs.Word.{wordEnd, same, words, isSome, integersOf, nearestIn, listOf, listRead, listLeft, moreText, listText};
 
 // Where the first word of a line ends: at the first separator, or at the line's end.
 pub fn end_of(line: &[u8], separator: u8) -> usize
-    ensures { λ r. ⌜ (r ≡ indexOf separator (now (line .entry))) × (r ≤ length (now (line .entry))) ⌝ }
+    ensures { λ r. ⌜ (r ≡ wordEnd separator (now (line .entry))) × (r ≤ length (now (line .entry))) ⌝ }
 {
     bytes::scan::find(line, 0, line.len(), separator)
 }
