@@ -1,3 +1,4 @@
+pub mod Stores
 pub mod WriteRefusals
 pub mod WriteSound
 pub mod WriteFields
@@ -13,7 +14,6 @@ pub mod Turns
 pub mod OctetLaws
 pub mod PartLaws
 pub mod ShapeLaws
-pub mod LayoutPlaces
 pub mod WriteItem
 pub mod ReadLaws
 pub mod CheckLaws

@@ -5,7 +5,7 @@ use Prim.Native.Nat.{ℕ, zero, suc, _+_, _-_, _*_, _%_, _^_, _<_, _≤_}
 use mathlib.Core.Path.{_≡_, refl, sym, ap, _∙_}
 use mathlib.Core.Bool.{Bool, true, false, true≢false, false≢true}
 use mathlib.Core.List.{List}
-use native.Mathlib.Nat.{pow-suc, not-suc-le-zero, one-mul, mod-eq-of-lt}
+use native.Mathlib.Nat.{not-suc-le-zero, one-mul, mod-eq-of-lt}
 use native.Mathlib.Omega.{arith}
 use borrow.Author.Tests.{lt-ltb, le-ltb, le-leb, lt-leb, ltb-true, ltb-false}
 use lib.Dec.{ltb}
@@ -22,7 +22,8 @@ use Rattle.rules.specs.Field.{Kind, unsigned, signed, Field, spare, value, half
 use Rattle.items.specs.Tables.{fieldRow, fieldAt, minus}
 use Rattle.items.specs.Write.{fieldIn, widthOf, kindOf, codeFor}
 use Rattle.items.specs.declared.tables.FieldRow.{FieldRow}
-use Rattle.items.proofs.WriteSound.{SoundField}
+use Rattle.items.proofs.FieldCodes.{twice}
+use Rattle.items.proofs.WriteSound.{SoundField, width-few}
 use Rattle.items.proofs.WriteTables.{field-row, field-in-sound}
 
 -- ---- a kind's least and greatest value
@@ -60,18 +61,10 @@ held (spare w) s = pow-pos w
 held (value w (unsigned lo hi)) s = s .1
 held (value w (signed lo hi)) s = (s .0 .0, s .1)
 
-width-lt : (f : Field) → SoundField f → widthOf f < 64
-width-lt (spare w) s = s
-width-lt (value w k) s = s .0 .1
-
 -- ---- a value below, above, and within them
 
 codeOf : ℕ → Kind → ℤ → Answer ℕ
 codeOf w k v = put w k v >>= (λ c. need ltb c (2 ^ w) or 11 then ok c)
-
-two-halves : (w : ℕ) → 1 ≤ w → half w + half w ≡ 2 ^ w
-two-halves zero h = absurd (not-suc-le-zero h)
-two-halves (suc w) h = let e : suc w - 1 ≡ w = omega arith in rw (e, pow-suc 2 w) (omega arith)
 
 -- of two tests the first fails, the second fails, or both pass
 first-no : {A B : Type 0} {a : Bool} (x : Answer A) (f : A → Answer B) → a ≡ false → ((need a or 11 then x) >>= f) ≡ refused 11 0
@@ -111,7 +104,7 @@ code-plain w (unsigned lo hi) (pos n) s l h z =
     ∙ ap (λ t. need t or 11 then ok n) (lt-ltb n (2 ^ w) (omega arith))
 code-plain w (signed lo hi) (pos n) s l h z =
     let b : n ≤ hi = ltb-false hi n h in
-    let e = two-halves w (s .0) in
+    let e = twice w (s .0) in
     both-yes (ok n) (λ c. need ltb c (2 ^ w) or 11 then ok c) (lt-ltb n (half w) (omega (arith, s .1 .1))) (le-leb n hi b)
     ∙ ap (λ t. need t or 11 then ok n) (lt-ltb n (2 ^ w) (omega (arith, s .1 .1)))
 code-plain w k (negsuc n) s l h z = absurd (true≢false z)
@@ -124,7 +117,7 @@ code-minus w (unsigned lo hi) (negsuc n) s l z = absurd (true≢false l)
 code-minus w (signed zero hi) (negsuc n) s l z = absurd (true≢false l)
 code-minus w (signed (suc lo) hi) (negsuc n) s l z =
     let b : n ≤ lo = ltb-false lo n l in
-    let e = two-halves w (s .0) in
+    let e = twice w (s .0) in
     let p : n < half w = omega (arith, s .1 .0) in
     let d : half w + half w - suc n ≡ 2 ^ w - 1 - n = omega arith in
     let c : 2 ^ w - 1 - n < 2 ^ w = omega arith in (
@@ -148,28 +141,34 @@ pub code-none : (i : ℕ) (vs : List ℤ) (at : ℕ) → length vs ≤ at → re
 unfolding codeFor
 code-none i vs at h = sym (ap (codeFor (fieldIn i)) (drop-of-length-le vs h))
 
-module _ (i : ℕ) (vs : List ℤ) (at : ℕ) (r : FieldRow) (er : r ≡ fieldAt i) (h : at < length vs) (fv : SFits w64 (getD vs at (pos 0))) where
+-- the value at a place, and the row of the field that it is for
+pub record Taken (i : ℕ) (vs : List ℤ) (at : ℕ) (r : FieldRow) : Type 0 where
+  pub row : r ≡ fieldAt i
+  pub there : at < length vs
+  pub fits : SFits w64 (getD vs at (pos 0))
+
+module _ {i : ℕ} {vs : List ℤ} {at : ℕ} {r : FieldRow} (t : Taken i vs at r) where
   code-is : codeFor (fieldIn i) (drop at vs) ≡ codeOf (widthOf (fieldIn i)) (kindOf (fieldIn i)) (getD vs at (pos 0))
   unfolding codeFor codeOf
-  code-is = ap (codeFor (fieldIn i)) (drop-cons vs at (pos 0) h)
+  code-is = ap (codeFor (fieldIn i)) (drop-cons vs at (pos 0) (t .there))
 
   width-is : r .0 ≡ widthOf (fieldIn i)
-  width-is = ap (λ x. x .0) (er ∙ field-row i) ∙ row-width (fieldIn i)
+  width-is = ap (λ x. x .0) (t .row ∙ field-row i) ∙ row-width (fieldIn i)
 
   low-is : r .2 ≡ lowOf (kindOf (fieldIn i))
-  low-is = ap (λ x. x .2) (er ∙ field-row i) ∙ row-low (fieldIn i)
+  low-is = ap (λ x. x .2) (t .row ∙ field-row i) ∙ row-low (fieldIn i)
 
   high-is : r .3 ≡ highOf (kindOf (fieldIn i))
-  high-is = ap (λ x. x .3) (er ∙ field-row i) ∙ row-high (fieldIn i)
+  high-is = ap (λ x. x .3) (t .row ∙ field-row i) ∙ row-high (fieldIn i)
 
   low-test : SFits w64 (r .2) → ltZ (getD vs at (pos 0)) (lowOf (kindOf (fieldIn i))) ≡ ltZ (again (getD vs at (pos 0))) (again (r .2))
-  low-test fl = ap (ltZ (getD vs at (pos 0))) (sym low-is) ∙ sym (lt-again (getD vs at (pos 0)) (r .2) fv fl)
+  low-test fl = ap (ltZ (getD vs at (pos 0))) (sym low-is) ∙ sym (lt-again (getD vs at (pos 0)) (r .2) (t .fits) fl)
 
   high-test : SFits w64 (r .3) → ltZ (highOf (kindOf (fieldIn i))) (getD vs at (pos 0)) ≡ ltZ (again (r .3)) (again (getD vs at (pos 0)))
-  high-test fh = ap (λ x. ltZ x (getD vs at (pos 0))) (sym high-is) ∙ sym (lt-again (r .3) (getD vs at (pos 0)) fh fv)
+  high-test fh = ap (λ x. ltZ x (getD vs at (pos 0))) (sym high-is) ∙ sym (lt-again (r .3) (getD vs at (pos 0)) fh (t .fits))
 
   zero-test : ltZ (getD vs at (pos 0)) (pos 0) ≡ ltZ (again (getD vs at (pos 0))) (pos 0)
-  zero-test = ap (λ x. ltZ x (pos 0)) (sym (toZ-ofZ w64 (getD vs at (pos 0)) fv))
+  zero-test = ap (λ x. ltZ x (pos 0)) (sym (toZ-ofZ w64 (getD vs at (pos 0)) (t .fits)))
 
   pub code-low : SFits w64 (r .2) → ltZ (again (getD vs at (pos 0))) (again (r .2)) ≡ true → refused 11 0 ≡ codeFor (fieldIn i) (drop at vs)
   code-low fl e = sym (code-is ∙ code-below _ _ _ (low-test fl ∙ e))
@@ -179,7 +178,7 @@ module _ (i : ℕ) (vs : List ℤ) (at : ℕ) (r : FieldRow) (er : r ≡ fieldAt
 
   module _ (s : i < 113) (fl : SFits w64 (r .2)) (l : ltZ (again (getD vs at (pos 0))) (again (r .2)) ≡ false) where
     pub bits-few : r .0 < 64
-    bits-few = rw width-is (width-lt (fieldIn i) (field-in-sound i s))
+    bits-few = rw width-is (width-few (fieldIn i) (field-in-sound i s))
 
     -- the power of two that the code makes
     shifted : 1 * 2 ^ r .0 % 2 ^ 64 ≡ 2 ^ r .0
@@ -193,12 +192,12 @@ module _ (i : ℕ) (vs : List ℤ) (at : ℕ) (r : FieldRow) (er : r ≡ fieldAt
     code-neg {m} z em =
         let v = getD vs at (pos 0) in
         let (a, b) = code-minus (widthOf (fieldIn i)) (kindOf (fieldIn i)) v (held (fieldIn i) (field-in-sound i s)) (low-test fl ∙ l) (zero-test ∙ z) in
-        let e : m ≡ mag v = em ∙ ap mag (toZ-ofZ w64 v fv) in
+        let e : m ≡ mag v = em ∙ ap mag (toZ-ofZ w64 v (t .fits)) in
         rw (shifted, width-is, e) (omega arith, sym (code-is ∙ b))
 
     pub code-pos : {m : ℕ} → SFits w64 (r .3) → ltZ (again (r .3)) (again (getD vs at (pos 0))) ≡ false → ltZ (again (getD vs at (pos 0))) (pos 0) ≡ false → m ≡ mag (again (getD vs at (pos 0)))
         → ok m ≡ codeFor (fieldIn i) (drop at vs)
     code-pos {m} fh u z em =
         let v = getD vs at (pos 0) in
-        let e : m ≡ mag v = em ∙ ap mag (toZ-ofZ w64 v fv) in
+        let e : m ≡ mag v = em ∙ ap mag (toZ-ofZ w64 v (t .fits)) in
         rw e (sym (code-is ∙ code-plain (widthOf (fieldIn i)) (kindOf (fieldIn i)) v (held (fieldIn i) (field-in-sound i s)) (low-test fl ∙ l) (high-test fh ∙ u) (zero-test ∙ z)))

@@ -23,13 +23,15 @@ use Rattle.rules.specs.Entry.{categories, layoutOf, writeOne, over, leaves}
 use Rattle.rules.proofs.AnswerLaws.{refused-ok, ok-inj, bind-elim, bind-in, bind-cong, octetsOf-ok}
 use Rattle.items.specs.declared.tables.LayoutRow.{LayoutRow}
 use Rattle.items.specs.Tables.{fields, groups, layouts, groupRows, groupAt, groupIs, layoutRows, layoutAt, layoutBy, layoutIs}
-use Rattle.items.specs.Write.{partsOf, chained, headOf, partsAt, chainedAt, headAt, groupIn, numbersOf, marked, laidParts, parts, countParts, layParts, lengthOf}
+use Rattle.items.specs.Answers.{countOf}
+use Rattle.items.specs.Write.{partsOf, chained, headOf, partsAt, chainedAt, headAt, groupIn, numbersOf, marked, laidParts, parts, countParts, layParts}
 use Rattle.items.proofs.TableLaws.{layout-none, layout-some}
+use Rattle.items.proofs.Stores.{sets-append, sets-over}
 use Rattle.items.proofs.WriteSound.{All, SoundGroup, Sound}
 use Rattle.items.proofs.WriteRefusals.{Eleven, done, not-done, eleven-bind, partsFrom-eleven, packAll-eleven}
 use Rattle.items.proofs.WriteTables.{layout-row-is}
 use Rattle.items.proofs.WriteLaid.{fields-laid, fit-length, numbers-fit}
-use Rattle.items.proofs.WriteTurns.{sets-append, length-octets}
+use Rattle.items.proofs.WriteTurns.{length-octets}
 
 -- ---- the head
 
@@ -54,14 +56,14 @@ module _ (i k : ℕ) {r : LayoutRow} (er : r ≡ layoutAt i) where
   pub list-laid : (out : List ℕ) {b : ℕ} → r .0 ≡ 2 → b ≡ k + 0 → set out 0 b ≡ sets out 0 (headAt i k)
   list-laid out e d = rw (d, add-zero k, head-list e)
 
-  pub list-room : (out : List ℕ) → r .0 ≡ 2 → length (headAt i k) ≤ length out → 0 < length out
-  list-room out e h = omega (arith, ap length (head-list e))
+  pub list-room : {n : ℕ} → r .0 ≡ 2 → length (headAt i k) ≤ n → 0 < n
+  list-room e h = omega (arith, ap length (head-list e))
 
   pub led-laid : (out : List ℕ) {b : ℕ} → (r .0 ≡ 2 → ⊥) → r .0 ≡ 3 → b ≡ k + 1 → set out 0 b ≡ sets out 0 (headAt i k)
   led-laid out e f d = rw (d, add-one k, head-led e f .0)
 
-  pub led-room : (out : List ℕ) → (r .0 ≡ 2 → ⊥) → r .0 ≡ 3 → length (headAt i k) ≤ length out → 0 < length out
-  led-room out e f h = omega (arith, ap length (head-led e f .0))
+  pub led-room : {n : ℕ} → (r .0 ≡ 2 → ⊥) → r .0 ≡ 3 → length (headAt i k) ≤ n → 0 < n
+  led-room e f h = omega (arith, ap length (head-led e f .0))
 
   pub none-laid : (out : List ℕ) → (r .0 ≡ 2 → ⊥) → (r .0 ≡ 3 → ⊥) → out ≡ sets out 0 (headAt i k)
   none-laid out e f = rw (head-none e f)
@@ -138,30 +140,16 @@ written-by i l vs t =
 
 -- ---- a refusal, and an item
 
-sets-suc : (vs l : List ℕ) (x i : ℕ) → sets (x ∷ l) (suc i) vs ≡ x ∷ sets l i vs
-sets-suc [] l x i = refl
-sets-suc (v ∷ vs) l x i = sets-suc vs (set l i v) x (suc i)
-
-sets-nil : (vs : List ℕ) (i : ℕ) → _≡_ {A = List ℕ} (sets [] i vs) []
-sets-nil [] i = refl
-sets-nil (v ∷ vs) i = sets-nil vs (suc i)
-
--- a list stored at the start
-sets-over : (vs l : List ℕ) → sets l 0 vs ≡ over vs l
-sets-over [] l = refl
-sets-over (v ∷ vs) [] = sets-nil vs 1
-sets-over (v ∷ vs) (x ∷ l) = sets-suc vs l v 0 ∙ ap (λ r. v ∷ r) (sets-over vs l)
-
 -- what the function answers and what the output then holds
 abbrev pub Answers : Answer ℕ → List ℕ → Answer (List ℕ) → List ℕ → Type 0
-Answers r out′ m out = (r ≡ lengthOf m) × (out′ ≡ leaves m out)
+Answers r out′ m out = (r ≡ countOf m) × (out′ ≡ leaves m out)
 
 refusal : {m : Answer (List ℕ)} (n p : ℕ) (out : List ℕ) → m ≡ refused n p → Answers (refused n p) out m out
-unfolding lengthOf _>>=_
+unfolding countOf _>>=_
 refusal n p out e = rw e (refl, refl)
 
 item : {m : Answer (List ℕ)} {n : ℕ} {bs out′ : List ℕ} (out : List ℕ) → m ≡ ok bs → n ≡ length bs → out′ ≡ over bs out → Answers (ok n) out′ m out
-unfolding lengthOf _>>=_
+unfolding countOf _>>=_
 item out e d o = rw e (ap ok d, o)
 
 -- ---- the tests

@@ -23,7 +23,7 @@ use Rattle.items.specs.Write.{marked, packFirst, codeFor, widthOf, kindO
 use Rattle.items.specs.Tables.{fields, fieldRow, fieldAt, groupAt}
 use Rattle.items.specs.declared.tables.FieldRow.{FieldRow}
 use Rattle.items.specs.declared.tables.GroupRow.{GroupRow}
-use Rattle.items.proofs.WriteSound.{SoundField}
+use Rattle.items.proofs.WriteSound.{width-few}
 use Rattle.items.proofs.WriteTables.{fields-length, field-row, field-in-sound, group-end, group-in-sound}
 use Rattle.items.proofs.WriteLaid.{pow-256}
 
@@ -178,15 +178,6 @@ value-is (value w (signed lo hi)) h = refl
 
 grown : (u w n c : ℕ) → n < 2 ^ u → c < 2 ^ w → n * 2 ^ w + c < 2 ^ (u + w)
 grown u w n c h k = rw (pow-add 2 u w) (digits-lt h k)
-
-width-row : (f : Field) → fieldRow f .0 ≡ widthOf f
-width-row (spare w) = refl
-width-row (value w (unsigned lo hi)) = refl
-width-row (value w (signed lo hi)) = refl
-
-width-few : (f : Field) → SoundField f → widthOf f < 64
-width-few (spare w) s = s
-width-few (value w k) s = s .0 .1
 
 -- one field more: what the code asks of it, and what is then left
 pub record Added (fs : List Field) (vs : List ℤ) (at e i n k w c k′ : ℕ) : Type 0 where

@@ -10,6 +10,7 @@ use lib.Dec.{T, leb, ltb, leb→le, ltb→lt}
 use lib.ListN.{length, drop, getD}
 use Rattle.rules.specs.Field.{Kind, unsigned, signed, Field, spare, value, bits, half}
 use Rattle.rules.specs.Layout.{Group}
+use Rattle.items.specs.Write.{widthOf}
 
 -- ---- fields, groups, parts
 
@@ -24,6 +25,10 @@ SoundKind w (signed lo hi) = (lo ≤ half w) × (hi < half w)
 abbrev pub SoundField : Field → Type 0
 SoundField (spare w) = w < 64
 SoundField (value w k) = ((1 ≤ w) × (w < 64)) × SoundKind w k
+
+pub width-few : (f : Field) → SoundField f → widthOf f < 64
+width-few (spare w) s = s
+width-few (value w k) s = s .0 .1
 
 -- the bit that says whether another part follows
 abbrev pub markBits : Bool → ℕ

@@ -6,12 +6,12 @@ use mathlib.Core.Path.{_≡_, refl, sym, ap, ap₂, _∙_, subst}
 use mathlib.Core.Bool.{Bool, true, false}
 use mathlib.Core.List.{List, [], _∷_, _++_}
 use native.Mathlib.Omega.{arith}
-use native.Mathlib.Nat.{add-zero, suc-add, add-suc, lt-of-lt-of-le}
+use native.Mathlib.Nat.{lt-of-lt-of-le}
 use native.Mathlib.Numerals.{add-one}
 use borrow.Author.Tests.{ltb-true, ltb-false, lt-ltb, le-ltb}
 use lib.Dec.{ltb, eqb}
 use lib.IntN.{ℤ}
-use lib.ListN.{length, getD, drop, set, length-append, length-drop, drop-of-length-le}
+use lib.ListN.{length, getD, drop, length-append, length-drop, drop-of-length-le}
 use lib.Pow.{pow-mono}
 use lib.Seq.{sets, drop-cons, drop-drop, length-sets}
 use Rattle.rules.specs.Answer.{Answer, ok, refused, _>>=_, octetsOf}
@@ -22,6 +22,7 @@ use Rattle.items.specs.Tables.{groupAt, layoutAt}
 use Rattle.items.specs.declared.tables.GroupRow.{GroupRow}
 use Rattle.items.specs.declared.tables.LayoutRow.{LayoutRow}
 use Rattle.items.specs.Write.{noGroup, groupIn, packFirst, numbersOf, marked, laidParts, partsAt, chainedAt, part, packFrom, Parts, parts, countParts, layParts}
+use Rattle.items.proofs.Stores.{sets-append}
 use Rattle.items.proofs.WriteSound.{All, SoundGroup, all-drop}
 use Rattle.items.proofs.WriteTables.{layout-row-is, group-in-sound}
 use Rattle.items.proofs.WriteRefusals.{Eleven, done, not-done}
@@ -203,12 +204,6 @@ placing l vs count size start out er h t =
       room = omega (arith, ap length o);
       same = ap (sets out start) (sym o);
     }
-
--- a list stored after another
-pub sets-append : {A : Type 0} (xs ys l : List A) (q : ℕ) → sets l q (xs ++ ys) ≡ sets (sets l q xs) (q + length xs) ys
-sets-append [] ys l q = ap (λ k. sets l k ys) (sym (add-zero q))
-sets-append (x ∷ xs) ys l q =
-    sets-append xs ys (set l q x) (suc q) ∙ ap (λ k. sets (sets (set l q x) (suc q) xs) k ys) (suc-add q (length xs) ∙ sym (add-suc q (length xs)))
 
 -- whether another part follows
 more-is : (i m : ℕ) → ltb (i + 1) (i + suc m) ≡ ltb 0 m

@@ -153,9 +153,3 @@ layParts fx gs vs = do
 abbrev pub writtenAs : ItemWritten → Answer ℕ
 writtenAs (written.Length n) = ok n
 writtenAs (written.Refused n p) = refused n p
-
--- how many octets there are
-unfoldable pub lengthOf : Answer (List ℕ) → Answer ℕ
-lengthOf m = do
-  bs ← m
-  ok (length bs)

@@ -1,6 +1,5 @@
 // One item of categories 017 and 018: its layout by table.
 mod fields;
-mod layouts;
 mod parts;
 mod tables;
 mod write;

@@ -1,6 +1,6 @@
 // Writing one item: its fields, a list of whole numbers, to octets. All fields are checked before any octet is laid, so that a refusal changes
 // nothing. The parts of an item are packed one after another, by the groups of its layout; no item has code of its own.
-use super::layouts::layout_of;
+use super::layout_of;
 use super::tables::EXTENDED;
 use super::tables::LED;
 use super::tables::REPEATED;
@@ -16,7 +16,8 @@ ghost use lib.Seq.{sets};
 ghost use Rattle.rules.specs.Answer.{ok, octetsOf};
 ghost use Rattle.rules.specs.Layout.{octets};
 ghost use Rattle.rules.specs.Entry.{writeOne, leaves};
-ghost use Rattle.items.specs.Write.{fieldIn, groupIn, noGroup, partsAt, chainedAt, codeFor, packFrom, countParts, parts, layParts, headAt, marked, codedAs, packedAs, countedAs, writtenAs, lengthOf};
+ghost use Rattle.items.specs.Write.{fieldIn, groupIn, noGroup, partsAt, chainedAt, codeFor, packFrom, countParts, parts, layParts, headAt, marked, codedAs, packedAs, countedAs, writtenAs};
+ghost use Rattle.items.specs.Answers.{countOf};
 
 // ---- one value
 
@@ -262,8 +263,8 @@ pub enum ItemWritten {
 
 // An item from its fields: 21 where the category has no such item, 11 where they are not the fields of one, 16 where the output has no room.
 pub fn write_item(category: u8, reference: u16, fields: &[i64], out: &mut [u8]) -> ItemWritten
-    ensures exact { λ r. ⌜ writtenAs r ≡ lengthOf (writeOne category reference (now (fields .entry)) (length (now (out .entry)))) ⌝ }
-    ensures output { λ _. ⌜ now (out .exit) ≡ leaves (writeOne category reference (now (fields .entry)) (length (now (out .entry)))) (now (out .entry)) ⌝ }
+    ensures answer { λ r. ⌜ writtenAs r ≡ countOf (writeOne category reference (now (fields .entry)) (length (now (out .entry)))) ⌝ }
+    ensures left { λ _. ⌜ now (out .exit) ≡ leaves (writeOne category reference (now (fields .entry)) (length (now (out .entry)))) (now (out .entry)) ⌝ }
 {
     let layout = layout_of(category, reference);
     if layout == 0 {

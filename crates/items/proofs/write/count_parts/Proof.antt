@@ -1,6 +1,6 @@
 -- `items::write::count_parts` meets its contract. The loop's invariant: the parts so far and those that are left make the count of all (`Counting`).
 -- The measure is how many parts there may still be. Assumes nothing.
-use Prim.Native.Nat.{_-_}
+use Prim.Native.Nat.{_+_, _-_, _*_, _≤_, _<_}
 use mathlib.Core.Path.{sym, ap, _∙_}
 use native.Mathlib.Omega.{arith}
 use borrow.Author.Needs.{needs}
@@ -14,6 +14,15 @@ Inv-loop layout values most count₀ size₀ at₀ count size at = Counting layo
 
 abbrev μ-loop : tie.MeasureT-loop
 μ-loop layout values most count₀ size₀ at₀ count size at = most - count
+
+-- the sizes of the parts so far
+fits-at : (c : tie.After-struct-known Inv-loop μ-loop)
+    → (c .before .before .before .before .before .before .before .before .before .loop .size + c .before .group-at .result .0 ≤ 8 * (c .before .before .before .before .before .before .before .before .before .loop .count + 1))
+    × (c .before .before .before .before .before .before .before .before .before .loop .count < 255)
+fits-at c =
+    size-fits _ _ _ _ _ _ (c .before .before .before .before .before .before .before .before .before .loop .inv)
+    (c .before .before .before .before .before .before .before .before .loop-test .taken) (c .before .before .before .before .before .before .before .if1 .left) _
+    (c .before .before .before .before .before .before .part-group .ensures .1) (c .before .group-at .ensures)
 
 layout-at-requires : tie.Need-layout-at-requires Inv-loop μ-loop
 layout-at-requires c κs =
@@ -47,7 +56,9 @@ enum-told c =
 -- a part that cannot be packed
 returns-2 : tie.Need-returns-2 Inv-loop μ-loop
 returns-2 c =
-    count-no _ _ _ _ _ _ (c .before .before .before .before .before .before .loop .inv) (c .before .before .before .before .before .loop-test .taken) (c .before .before .before .before .if1 .left) _ (c .before .before .before .part-group .ensures .1) (sym (ap packedAs (c .enum-told .given .1)) ∙ c .before .before .pack-part .ensures)
+    count-no _ _ _ _ _ _ (c .before .before .before .before .before .before .loop .inv) (c .before .before .before .before .before .loop-test .taken)
+    (c .before .before .before .before .if1 .left) _ (c .before .before .before .part-group .ensures .1)
+    (sym (ap packedAs (c .enum-told .given .1)) ∙ c .before .before .pack-part .ensures)
 
 group-at-requires : tie.Need-group-at-requires Inv-loop μ-loop
 group-at-requires c κs =
@@ -55,11 +66,11 @@ group-at-requires c κs =
 
 add-size : tie.Need-add-size Inv-loop μ-loop
 add-size c =
-    omega (arith, size-fits _ _ _ _ _ _ (c .before .before .before .before .before .before .before .before .before .loop .inv) (c .before .before .before .before .before .before .before .before .loop-test .taken) (c .before .before .before .before .before .before .before .if1 .left) _ (c .before .before .before .before .before .before .part-group .ensures .1) (c .before .group-at .ensures))
+    omega (arith, fits-at c)
 
 add-count : tie.Need-add-count Inv-loop μ-loop
 add-count c =
-    omega (arith, size-fits _ _ _ _ _ _ (c .before .before .before .before .before .before .before .before .before .loop .inv) (c .before .before .before .before .before .before .before .before .loop-test .taken) (c .before .before .before .before .before .before .before .if1 .left) _ (c .before .before .before .before .before .before .part-group .ensures .1) (c .before .group-at .ensures))
+    omega (arith, fits-at c)
 
 loop-less : tie.Need-loop-less Inv-loop μ-loop
 loop-less c =
@@ -67,7 +78,10 @@ loop-less c =
 
 loop-again : tie.Need-loop-again Inv-loop μ-loop
 loop-again c =
-    counted _ _ _ _ _ _ (c .before .before .before .before .before .before .before .before .before .loop .inv) (c .before .before .before .before .before .before .before .before .loop-test .taken) (c .before .before .before .before .before .before .before .if1 .left) _ (c .before .before .before .before .before .before .part-group .ensures .1) (c .before .group-at .ensures) (sym (ap packedAs (c .before .before .before .next .given .1)) ∙ c .before .before .before .before .before .pack-part .ensures)
+    counted _ _ _ _ _ _ (c .before .before .before .before .before .before .before .before .before .loop .inv)
+    (c .before .before .before .before .before .before .before .before .loop-test .taken) (c .before .before .before .before .before .before .before .if1 .left) _
+    (c .before .before .before .before .before .before .part-group .ensures .1) (c .before .group-at .ensures)
+    (sym (ap packedAs (c .before .before .before .next .given .1)) ∙ c .before .before .before .before .before .pack-part .ensures)
 
 -- no value is left
 returns-3 : tie.Need-returns-3 Inv-loop μ-loop

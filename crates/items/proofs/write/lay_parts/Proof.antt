@@ -4,8 +4,10 @@ use Prim.Native.Nat.{_-_, _*_, _^_, _<_}
 use mathlib.Core.Path.{sym, ap, _∙_, subst}
 use native.Mathlib.Omega.{arith}
 use borrow.Author.Needs.{needs}
+use denote.Ref.{now}
+use lib.Dec.{eqb}
 use Rattle.items.specs.Write.{packedAs}
-use Rattle.items.proofs.WriteTurns.{Placing, placing, group-in, packs, placed, placed-all}
+use Rattle.items.proofs.WriteTurns.{Placing, placing, group-in, packs, Placed, placed, placed-all}
 use Rattle.items.proofs.write.lay_parts.Statement.{statement}
 use Rattle.items.proofs.write.lay_parts.Tie as tie
 
@@ -14,6 +16,23 @@ Inv-loop layout values count out₀ start chained part₀ from₀ at₀ out part
 
 abbrev μ-loop : tie.MeasureT-loop
 μ-loop layout values count out₀ start chained part₀ from₀ at₀ out part from at = count - part
+
+-- a part was packed
+placed-at : (c : tie.After-group-at Inv-loop μ-loop)
+    → Placed (c .before .before .before .before .before .before .before .before .before .before .before .args .layout)
+    (now (c .before .before .before .before .before .before .before .before .before .before .before .args .values))
+    (c .before .before .before .before .before .before .before .before .before .before .before .args .count)
+    (c .before .before .before .before .before .before .before .before .before .before .before .args .start)
+    (now (c .before .before .before .before .before .before .before .before .before .before .before .args .out))
+    (eqb (c .before .before .before .before .before .before .before .before .before .layout-at .result .0) 4)
+    (c .before .before .before .before .before .before .before .loop .out)
+    (c .before .before .before .before .before .before .before .loop .part) (c .before .before .before .before .before .before .before .loop .from)
+    (c .before .before .before .before .before .before .before .loop .at) (c .before .before .number .given .0 .0) (c .before .before .number .given .0 .1 .0)
+    (c .group-at .result .0)
+placed-at c =
+    placed _ _ _ _ _ _ _ _ _ _ (c .before .before .before .before .before .before .before .loop .inv) (c .before .before .before .before .before .before .loop-test .taken) _
+    (c .before .before .before .before .before .part-group .ensures .1) (c .group-at .ensures)
+    (sym (ap packedAs (c .before .before .number .given .1)) ∙ c .before .before .before .before .pack-part .ensures)
 
 layout-at-requires : tie.Need-layout-at-requires Inv-loop μ-loop
 layout-at-requires c κs =
@@ -41,12 +60,14 @@ enum-told c =
 
 same-length : tie.Need-same-length Inv-loop μ-loop
 same-length c =
-    packs _ _ _ _ _ _ _ _ _ _ (c .before .before .before .before .before .loop .inv) (c .before .before .before .before .loop-test .taken) _ (c .before .before .before .part-group .ensures .1) (sym (ap packedAs (c .enum-told .given .1)) ∙ c .before .before .pack-part .ensures)
+    packs _ _ _ _ _ _ _ _ _ _ (c .before .before .before .before .before .loop .inv) (c .before .before .before .before .loop-test .taken) _
+    (c .before .before .before .part-group .ensures .1) (sym (ap packedAs (c .enum-told .given .1)) ∙ c .before .before .pack-part .ensures)
 
 -- every part was packed before: this does not happen
 returns : tie.Need-returns Inv-loop μ-loop
 returns c =
-    packs _ _ _ _ _ _ _ _ _ _ (c .before .before .before .before .before .loop .inv) (c .before .before .before .before .loop-test .taken) _ (c .before .before .before .part-group .ensures .1) (sym (ap packedAs (c .enum-told .given .1)) ∙ c .before .before .pack-part .ensures)
+    packs _ _ _ _ _ _ _ _ _ _ (c .before .before .before .before .before .loop .inv) (c .before .before .before .before .loop-test .taken) _
+    (c .before .before .before .part-group .ensures .1) (sym (ap packedAs (c .enum-told .given .1)) ∙ c .before .before .pack-part .ensures)
 
 group-at-requires : tie.Need-group-at-requires Inv-loop μ-loop
 group-at-requires c κs =
@@ -58,16 +79,17 @@ add-part c =
 
 mark-requires : tie.Need-mark-requires Inv-loop μ-loop
 mark-requires c κs =
-    placed _ _ _ _ _ _ _ _ _ _ (c .before .before .before .before .before .before .before .loop .inv) (c .before .before .before .before .before .before .loop-test .taken) _ (c .before .before .before .before .before .part-group .ensures .1) (c .group-at .ensures) (sym (ap packedAs (c .before .before .number .given .1)) ∙ c .before .before .before .before .pack-part .ensures) .wide
+    placed-at c .wide
 
 lay-number-requires : tie.Need-lay-number-requires Inv-loop μ-loop
 lay-number-requires c κs =
-    let t = placed _ _ _ _ _ _ _ _ _ _ (c .before .before .before .before .before .before .before .before .before .loop .inv) (c .before .before .before .before .before .before .before .before .loop-test .taken) _ (c .before .before .before .before .before .before .before .part-group .ensures .1) (c .before .before .group-at .ensures) (sym (ap packedAs (c .before .before .before .before .number .given .1)) ∙ c .before .before .before .before .before .before .pack-part .ensures) in
+    let t = placed-at (c .before .before) in
     ((t .short, subst (λ x. x < 2 ^ (8 * c .before .before .group-at .result .0)) (sym (c .before .mark .ensures)) (t .fits)), t .fit)
 
 add-at : tie.Need-add-at Inv-loop μ-loop
 add-at c =
-    omega (arith, placed _ _ _ _ _ _ _ _ _ _ (c .before .before .before .before .before .before .before .before .before .before .before .before .before .loop .inv) (c .before .before .before .before .before .before .before .before .before .before .before .before .loop-test .taken) _ (c .before .before .before .before .before .before .before .before .before .before .before .part-group .ensures .1) (c .before .before .before .before .before .before .group-at .ensures) (sym (ap packedAs (c .before .before .before .before .before .before .before .before .number .given .1)) ∙ c .before .before .before .before .before .before .before .before .before .before .pack-part .ensures) .fit, c .before .before .before .before .before .before .before .before .before .before .before .before .before .loop .inv .long, c .before .before .before .before .before .before .before .before .before .before .before .before .before .before .before .before .before .good)
+    let g = c .before .before .before .before .before .before in
+    omega (arith, placed-at g .fit, g .before .before .before .before .before .before .before .loop .inv .long, g .before .before .before .before .before .before .before .before .before .before .before .good)
 
 loop-less : tie.Need-loop-less Inv-loop μ-loop
 loop-less c =
@@ -75,7 +97,7 @@ loop-less c =
 
 loop-again : tie.Need-loop-again Inv-loop μ-loop
 loop-again c =
-    placed _ _ _ _ _ _ _ _ _ _ (c .before .before .before .before .before .before .before .before .before .before .before .before .before .loop .inv) (c .before .before .before .before .before .before .before .before .before .before .before .before .loop-test .taken) _ (c .before .before .before .before .before .before .before .before .before .before .before .part-group .ensures .1) (c .before .before .before .before .before .before .group-at .ensures) (sym (ap packedAs (c .before .before .before .before .before .before .before .before .number .given .1)) ∙ c .before .before .before .before .before .before .before .before .before .before .pack-part .ensures) .next (c .before .before .before .before .before .mark .ensures) (c .before .before .before .lay-number .ensures)
+    placed-at (c .before .before .before .before .before .before) .next (c .before .before .before .before .before .mark .ensures) (c .before .before .before .lay-number .ensures)
 
 same-length-2 : tie.Need-same-length-2 Inv-loop μ-loop
 same-length-2 c =

@@ -1,12 +1,20 @@
 -- `items::write::write_item` meets its contract: at each `return` the tests that led there say what the rules' `writeOne` answers (`WriteItem`). Assumes nothing.
-use mathlib.Core.Path.{sym, ap, _∙_}
+use mathlib.Core.Path.{_≡_, sym, ap, _∙_}
 use native.Mathlib.Omega.{arith}
 use borrow.Author.Needs.{needs}
 use denote.Ref.{now}
-use Rattle.items.specs.Write.{countedAs}
+use Rattle.rules.specs.Answer.{ok}
+use Rattle.items.specs.Write.{partsAt, chainedAt, parts, countParts, countedAs}
 use Rattle.items.proofs.WriteItem.{no-layout, not-fields, too-few, no-room, all-written, size-short, count-few, count-is, room-is}
 use Rattle.items.proofs.write.write_item.Statement.{statement}
 use Rattle.items.proofs.write.write_item.Tie as tie
+
+-- what was counted
+counted-at : (c : tie.After-known-told)
+    → ok (parts (c .before .count .given .0 .0) (c .before .count .given .0 .1 .0))
+    ≡ countParts (chainedAt (c .before .before .before .before .before .layout-of .result)) (partsAt (c .before .before .before .before .before .layout-of .result))
+    (now (c .before .before .before .before .before .before .before .args .fields))
+counted-at c = sym (ap countedAs (c .before .count .given .1)) ∙ c .before .before .before .count-parts .ensures
 
 layout-of-requires : tie.Need-layout-of-requires
 layout-of-requires c κs = search needs
@@ -14,7 +22,7 @@ layout-of-requires c κs = search needs
 -- 21: no such item
 returns : tie.Need-returns
 returns c =
-    no-layout (c .before .before .before .args .category) (c .before .before .before .args .reference) (c .before .layout-of .result) (now (c .before .before .before .args .fields)) (now (c .before .before .before .args .out)) (c .before .layout-of .ensures) (c .if1 .taken)
+    no-layout _ _ _ _ _ (c .before .layout-of .ensures) (c .if1 .taken)
 
 count-parts-requires : tie.Need-count-parts-requires
 count-parts-requires c κs = search needs
@@ -28,7 +36,8 @@ enum-told c = search needs
 -- 11: the values make no parts
 returns-2 : tie.Need-returns-2
 returns-2 c =
-    not-fields (c .before .before .before .before .before .before .args .category) (c .before .before .before .before .before .before .args .reference) (c .before .before .before .before .layout-of .result) (now (c .before .before .before .before .before .before .args .fields)) (now (c .before .before .before .before .before .before .args .out)) (c .before .before .before .before .layout-of .ensures) (c .before .before .before .if1 .left) (sym (ap countedAs (c .enum-told .given .1)) ∙ c .before .before .count-parts .ensures)
+    not-fields _ _ _ _ _ (c .before .before .before .before .layout-of .ensures) (c .before .before .before .if1 .left)
+    (sym (ap countedAs (c .enum-told .given .1)) ∙ c .before .before .count-parts .ensures)
 
 layout-at-requires : tie.Need-layout-at-requires
 layout-at-requires c κs = search needs
@@ -36,27 +45,36 @@ layout-at-requires c κs = search needs
 -- 11: too few parts
 returns-3 : tie.Need-returns-3
 returns-3 c =
-    too-few (c .before .before .before .before .before .before .before .before .before .before .args .category) (c .before .before .before .before .before .before .before .before .before .before .args .reference) (c .before .before .before .before .before .before .before .before .layout-of .result) (now (c .before .before .before .before .before .before .before .before .before .before .args .fields)) (now (c .before .before .before .before .before .before .before .before .before .before .args .out)) (c .before .before .before .before .before .before .before .before .layout-of .ensures) (c .before .before .before .before .before .before .before .if1 .left) _ _ (sym (ap countedAs (c .before .before .before .before .count .given .1)) ∙ c .before .before .before .before .before .before .count-parts .ensures) (c .before .before .layout-at .ensures) (c .if2 .taken)
+    too-few _ _ _ _ _ (c .before .before .before .before .before .before .before .before .layout-of .ensures)
+    (c .before .before .before .before .before .before .before .if1 .left) _ _ (counted-at (c .before .before .before)) (c .before .before .layout-at .ensures)
+    (c .if2 .taken)
 
 head-size-requires : tie.Need-head-size-requires
 head-size-requires c κs = search needs
 
 add-length : tie.Need-add-length
 add-length c =
-    omega (arith, size-short (c .before .before .before .before .before .before .before .before .before .layout-of .result) (now (c .before .before .before .before .before .before .before .before .before .before .before .args .fields)) _ _ (sym (ap countedAs (c .before .before .before .before .before .count .given .1)) ∙ c .before .before .before .before .before .before .before .count-parts .ensures), c .head-size .ensures .0)
+    omega (arith, size-short _ _ _ _ (counted-at (c .before .before .before .before)), c .head-size .ensures .0)
 
 -- 16
 returns-4 : tie.Need-returns-4
 returns-4 c =
-    no-room (c .before .before .before .before .before .before .before .before .before .before .before .before .args .category) (c .before .before .before .before .before .before .before .before .before .before .before .before .args .reference) (c .before .before .before .before .before .before .before .before .before .before .layout-of .result) (now (c .before .before .before .before .before .before .before .before .before .before .before .before .args .fields)) (now (c .before .before .before .before .before .before .before .before .before .before .before .before .args .out)) (c .before .before .before .before .before .before .before .before .before .before .layout-of .ensures) (c .before .before .before .before .before .before .before .before .before .if1 .left) _ _ (sym (ap countedAs (c .before .before .before .before .before .before .count .given .1)) ∙ c .before .before .before .before .before .before .before .before .count-parts .ensures) (c .before .before .before .before .layout-at .ensures) (c .before .before .if2 .left) (c .before .head-size .ensures .1) (omega (arith, c .if3 .taken))
+    no-room _ _ _ _ _ (c .before .before .before .before .before .before .before .before .before .before .layout-of .ensures)
+    (c .before .before .before .before .before .before .before .before .before .if1 .left) _ _ (counted-at (c .before .before .before .before .before))
+    (c .before .before .before .before .layout-at .ensures) (c .before .before .if2 .left) (c .before .head-size .ensures .1) (omega (arith, c .if3 .taken))
 
 lay-head-requires : tie.Need-lay-head-requires
 lay-head-requires c κs =
-    ((c .before .before .before .before .before .before .before .before .before .before .before .layout-of .ensures .0, count-few (c .before .before .before .before .before .before .before .before .before .before .before .layout-of .result) (now (c .before .before .before .before .before .before .before .before .before .before .before .before .before .args .fields)) _ _ (sym (ap countedAs (c .before .before .before .before .before .before .before .count .given .1)) ∙ c .before .before .before .before .before .before .before .before .before .count-parts .ensures)), omega (arith, c .before .before .head-size .ensures .1 (c .before .before .before .before .before .before .before .count .given .0 .0), c .before .if3 .left))
+    let k = c .before .before .before .before .before .before in
+    ((k .before .before .before .before .before .layout-of .ensures .0, count-few _ _ _ _ (counted-at k)), omega (arith, c .before .before .head-size .ensures .1 (k .before .count .given .0 .0), c .before .if3 .left))
 
 lay-parts-requires : tie.Need-lay-parts-requires
 lay-parts-requires c κs =
-    (c .before .before .before .before .before .before .before .before .before .before .before .before .before .before .before .layout-of .ensures .0, (count-is (c .before .before .before .before .before .before .before .before .before .before .before .before .before .before .before .layout-of .result) (now (c .before .before .before .before .before .before .before .before .before .before .before .before .before .before .before .before .before .args .fields)) _ _ (sym (ap countedAs (c .before .before .before .before .before .before .before .before .before .before .before .count .given .1)) ∙ c .before .before .before .before .before .before .before .before .before .before .before .before .before .count-parts .ensures), room-is (c .before .before .before .before .before .before .before .before .before .before .before .before .before .before .before .layout-of .result) (now (c .before .before .before .before .before .before .before .before .before .before .before .before .before .before .before .before .before .args .fields)) _ _ (sym (ap countedAs (c .before .before .before .before .before .before .before .before .before .before .before .count .given .1)) ∙ c .before .before .before .before .before .before .before .before .before .before .before .before .before .count-parts .ensures) _ (now (c .before .before .before .before .before .before .before .before .before .before .before .before .before .before .before .before .before .args .out)) (c .before .before .before .before .before .if3 .left) (c .before .before .before .lay-head .ensures)))
+    let k = c .before .before .before .before .before .before .before .before .before .before in
+    let s = k .before .before .before .before .before .before .before in (
+      k .before .before .before .before .before .layout-of .ensures .0,
+      (count-is _ _ _ _ (counted-at k), room-is _ _ _ _ (counted-at k) _ (now (s .args .out)) (c .before .before .before .before .before .if3 .left) (c .before .before .before .lay-head .ensures)),
+    )
 
 same-length : tie.Need-same-length
 same-length c = search needs
@@ -64,7 +82,10 @@ same-length c = search needs
 -- the item is laid
 returns-5 : tie.Need-returns-5
 returns-5 c =
-    all-written (c .before .before .before .before .before .before .before .before .before .before .before .before .before .before .before .before .before .before .before .before .args .category) (c .before .before .before .before .before .before .before .before .before .before .before .before .before .before .before .before .before .before .before .before .args .reference) (c .before .before .before .before .before .before .before .before .before .before .before .before .before .before .before .before .before .before .layout-of .result) (now (c .before .before .before .before .before .before .before .before .before .before .before .before .before .before .before .before .before .before .before .before .args .fields)) (now (c .before .before .before .before .before .before .before .before .before .before .before .before .before .before .before .before .before .before .before .before .args .out)) (c .before .before .before .before .before .before .before .before .before .before .before .before .before .before .before .before .before .before .layout-of .ensures) (c .before .before .before .before .before .before .before .before .before .before .before .before .before .before .before .before .before .if1 .left) _ _ (sym (ap countedAs (c .before .before .before .before .before .before .before .before .before .before .before .before .before .before .count .given .1)) ∙ c .before .before .before .before .before .before .before .before .before .before .before .before .before .before .before .before .count-parts .ensures) (c .before .before .before .before .before .before .before .before .before .before .before .before .layout-at .ensures) (c .before .before .before .before .before .before .before .before .before .before .if2 .left) (c .before .before .before .before .before .before .before .before .before .head-size .ensures .1) (c .before .before .before .before .before .before .before .before .if3 .left) (c .before .before .before .before .before .before .lay-head .ensures) (c .before .before .lay-parts .ensures)
+    let h = c .before .before .before .before .before .before .before .before in
+    let k = h .before .before .before .before .before in
+    all-written _ _ _ _ _ (k .before .before .before .before .before .layout-of .ensures) (k .before .before .before .before .if1 .left) _ _ (counted-at k) (h .before .before .before .before .layout-at .ensures) (h .before .before .if2 .left)
+    (h .before .head-size .ensures .1) (h .if3 .left) (c .before .before .before .before .before .before .lay-head .ensures) (c .before .before .lay-parts .ensures)
 
 pub write-item-spec : {M : Type 1} → statement M
 write-item-spec =
