@@ -281,6 +281,7 @@ module _ (bs : List ℕ) where
       by-len h true p q =
           bind-in _ p (need-in _ 4 (T-true q) (count-opened (h .category) (later 3 (readAll (readRecord (h .category)) (drop 3 bs)))))
           ∙ sym (ap (λ z. z >>= λ b. ok (opening (b .category) (length (b .records)))) (open-body h p (leb-true 4 (h .len) q)))
+
       go : (x : Answer Head) → headBy eqb bs ≡ x → openFrom 4 bs ≡ (openBlock bs >>= λ b. ok (opening (b .category) (length (b .records))))
       go (refused n p) q = bind-out _ q ∙ sym (bind-out _ (open-refused n p q))
       go (ok h) q = by-len h (leb 4 (h .len)) q refl

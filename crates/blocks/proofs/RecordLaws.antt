@@ -31,7 +31,7 @@ recordIn c k bs = later k (readRecord c bs >>= λ x. ok (mapOf c (record { start
 
 pub record-is : (i k : ℕ) (bs : List ℕ) → recordAt i k bs ≡ recordIn (categoryAt i) k bs
 unfolding recordAt
-record-is i k bs = ?
+record-is i k bs = refl
 
 -- a record that starts octets and ends at e: its value, its map, and what is left
 pub record Accepted (c : Category) (k : ℕ) (bs : List ℕ) (e : ℕ) : Type 0 where

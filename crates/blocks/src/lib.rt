@@ -3,6 +3,7 @@
 mod check;
 mod find;
 mod head;
+mod least;
 
 pub use check::BlockChecked;
 pub use check::FrontChecked;
@@ -15,3 +16,4 @@ pub use find::find_item;
 pub use find::find_record;
 pub use find::locate_item;
 pub use find::locate_record;
+pub use least::least_length;

@@ -4,3 +4,7 @@ pub mod SetLaws
 pub mod JudgeLaws
 pub mod PlaceLaws
 pub mod WalkLaws
+pub mod CameLaws
+pub mod RowLaws
+pub mod ItemLaws
+pub mod RecordLaws

@@ -2,19 +2,25 @@
 -- of its message type item. Assumes nothing.
 use Prim.Native.Nat.{ℕ, zero, suc, _≤_}
 use mathlib.Core.Path.{_≡_, refl, sym, ap, _∙_}
+use mathlib.Core.Logic.{_⊎_, inl, inr}
 use mathlib.Core.Bool.{Bool, true, false, _&&_}
 use mathlib.Core.List.{List, [], _∷_}
 use mathlib.Core.Option.{Option, none, some}
 use lib.Dec.{leb, eqb}
 use borrow.Author.Tests.{leb-true}
-use lib.ListN.{length}
-use Rattle.rules.specs.Record.{Place, Category, places}
+use lib.ListN.{length, getD}
+use Rattle.rules.specs.Answer.{if_then_else_}
+use Rattle.rules.specs.Field.{any}
+use Rattle.rules.specs.Layout.{Layout, item}
+use Rattle.rules.specs.Record.{Place, Category, places, at}
 use Rattle.rules.specs.Category017.{category017}
 use Rattle.rules.specs.Category018.{category018}
 use Rattle.rules.specs.Entry.{categories, profileAt}
 use Rattle.rules.proofs.AnswerLaws.{both-left, both-right}
 use Rattle.rules.proofs.Tables.{everyCategory, distinct, tables-distinct, tables-few}
+use Rattle.items.specs.Answers.{frnAs}
 use Rattle.records.specs.Sets.{categoryIn, categoryAt}
+use Rattle.records.specs.Walk.{typeFrn}
 
 -- ---- a test of every category
 
@@ -69,3 +75,21 @@ places-few i = leb-true _ _ (category-test (λ c. leb (length (places c)) 35) ta
 
 pub places-distinct : (i : ℕ) → distinct (places (categoryAt i)) ≡ true
 places-distinct = category-test (λ c. distinct (places c)) tables-distinct refl
+
+-- ---- the message type item
+
+-- one octet, any bits
+abbrev pub octet : Layout
+octet = item 1 (any 8 ∷ [])
+
+-- it is an octet, at a place of the profile
+pub record TypePlace (i : ℕ) : Type 0 where
+  pub index : ℕ
+  pub frn : typeFrn i ≡ suc index
+  pub place : getD (places (categoryAt i)) index none ≡ at 0 octet
+
+pub type-place : (i : ℕ) → (categoryAt i .profile ≡ []) ⊎ TypePlace i
+unfolding categoryAt categories category017 category018 typeFrn frnAs if_then_else_
+type-place zero = inr (record { index = 2; frn = refl; place = refl })
+type-place (suc zero) = inr (record { index = 2; frn = refl; place = refl })
+type-place (suc (suc i)) = inl refl

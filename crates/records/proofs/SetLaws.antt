@@ -23,9 +23,8 @@ use Rattle.rules.specs.Record.{Place, places}
 use Rattle.rules.specs.Entry.{over}
 use Rattle.rules.proofs.AnswerLaws.{refused-ok, ok-inj, bind-in, bind-elim, bind-assoc, if-inv, if-true, if-false, both-left, both-right, Octets}
 use Rattle.rules.proofs.PresenceLaws.{flags-length, number-flags}
-use Rattle.records.specs.Sets.{categoryAt, bitsOf, within}
+use Rattle.records.specs.Sets.{categoryAt, bitsOf, within, setAt}
 use Rattle.records.specs.Walk.{usableBits, ended, setFrom}
-use Rattle.records.specs.Answers.{setAt}
 use Rattle.records.proofs.FlagLaws.{number-append, number-none, over-pad, bits-flags, bits-tail, within-pad, within-append}
 use Rattle.records.proofs.ProfileLaws.{sevens, profile-sevens, profile-short, places-few}
 
@@ -139,7 +138,7 @@ weighed-bits ns s h =
 
 -- ---- which of its FRNs are usable
 
-usable-within : (ps : List (Option Place)) (ts : List Bool) → length ts ≡ length ps → usable ps ts ≡ within ts (map present ps)
+pub usable-within : (ps : List (Option Place)) (ts : List Bool) → length ts ≡ length ps → usable ps ts ≡ within ts (map present ps)
 unfolding usable
 usable-within [] [] h = refl
 usable-within [] (t ∷ ts) h = absurd (omega arith)

@@ -1,16 +1,14 @@
 -- What each function of this crate answers, in the words of the rules. Assumes nothing.
-use Prim.Native.Nat.{ℕ, _-_}
+use Prim.Native.Nat.{ℕ}
 use mathlib.Core.Path.{_≡_}
 use mathlib.Core.Bool.{Bool, true, false}
 use mathlib.Core.List.{List, [], _∷_}
-use lib.ListN.{length, replicate}
+use lib.ListN.{replicate}
 use Rattle.rules.specs.Answer.{Answer, ok, refused, _>>=_, later}
-use Rattle.rules.specs.Layout.{concat}
-use Rattle.rules.specs.Presence.{readPresence}
 use Rattle.rules.specs.Record.{readRecord}
 use Rattle.rules.specs.Entry.{mapOf}
 use Rattle.rules.specs.Entry as entry
-use Rattle.records.specs.Sets.{categoryAt, bitsOf}
+use Rattle.records.specs.Sets.{categoryAt}
 use Rattle.records.specs.Walk.{Came}
 use Rattle.records.specs.declared.ItemSet.{ItemSet}
 use Rattle.records.specs.declared.SetRead.{SetRead}
@@ -38,12 +36,6 @@ setOf (Refused n) = refused n 0
 abbrev pub setNumber : SetRead → ℕ
 setNumber (Items s n) = 0
 setNumber (Refused n) = n
-
--- the FSPEC that starts octets, of the category with an index: 5, 6, 7, 8
-unfoldable pub setAt : ℕ → List ℕ → Answer (ℕ × ℕ)
-setAt i bs = do
-  (ts, rest) ← readPresence 5 (categoryAt i .profile) bs
-  ok (bitsOf (concat ts), length bs - length rest)
 
 -- ---- what the message type asks for
 

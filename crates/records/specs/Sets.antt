@@ -1,10 +1,12 @@
 -- Sets of FRNs as the code holds them: FRN f, 0 to 63, is bit 63 - f of a number of 64 bits, so that `flags 64` of the number has at index f
 -- whether FRN f is in the set. FRN 0 is none. Assumes nothing.
-use Prim.Native.Nat.{ℕ, zero, suc}
+use Prim.Native.Nat.{ℕ, zero, suc, _-_}
 use mathlib.Core.Bool.{Bool, true, false, _&&_}
 use mathlib.Core.List.{List, [], _∷_}
-use lib.ListN.{replicate}
-use Rattle.rules.specs.Presence.{flags, number}
+use lib.ListN.{length, replicate}
+use Rattle.rules.specs.Answer.{Answer, ok, _>>=_}
+use Rattle.rules.specs.Layout.{concat}
+use Rattle.rules.specs.Presence.{flags, number, readPresence}
 use Rattle.rules.specs.Record.{Category}
 use Rattle.rules.specs.Entry.{categories, over}
 
@@ -38,3 +40,9 @@ within (false ∷ ts) [] = within ts []
 within (true ∷ ts) [] = false
 within (false ∷ ts) (u ∷ us) = within ts us
 within (true ∷ ts) (u ∷ us) = u && within ts us
+
+-- the FSPEC that starts octets, of the category with an index: 5, 6, 7, 8
+unfoldable pub setAt : ℕ → List ℕ → Answer (ℕ × ℕ)
+setAt i bs = do
+  (ts, rest) ← readPresence 5 (categoryAt i .profile) bs
+  ok (bitsOf (concat ts), length bs - length rest)

@@ -11,7 +11,7 @@ use Rattle.rules.specs.Presence.{flags, present, has}
 use Rattle.rules.specs.Record.{Place, Message, Category, places, messageOf}
 use Rattle.rules.specs.Entry.{RecordMap}
 use Rattle.items.specs.Answers.{frnAs, checkAt}
-use Rattle.records.specs.Sets.{categoryAt, bitsOf, within}
+use Rattle.records.specs.Sets.{categoryAt, bitsOf, within, setAt}
 
 -- ---- the FSPEC
 
@@ -103,7 +103,7 @@ judgeSet i bits kind = need getD (flags 64 bits) (typeFrn i) false or 12 then (r
 -- that starts at a place: its FSPEC, its items, what its message type asks for; 5 to 8 and 12 to 15 at its start
 unfoldable pub recordBy : ℕ → ℕ → List ℕ → Answer RecordMap
 recordBy i k bs = do
-  (bits, used) ← later k (setFrom i (length (categoryAt i .profile)) bs 0 0)
+  (bits, used) ← later k (setAt i bs)
   w ← walk i (flags 63 bits) 1 (drop used bs) (startAt (k + used))
   s ← later k (judgeSet i bits (w .kind))
   ok (record { start = k; starts = w .starts; end = w .here; count = w .count })

@@ -13,9 +13,9 @@ ghost use lib.ListN.{length, getD, set};
 ghost use lib.Dec.{eqb};
 ghost use Rattle.rules.specs.Answer.{if_then_else_};
 ghost use Rattle.rules.specs.Presence.{flags};
-ghost use Rattle.records.specs.Sets.{categoryAt, within};
+ghost use Rattle.records.specs.Sets.{categoryAt, within, setAt};
 ghost use Rattle.records.specs.Walk.{usableBits, ended, typeFrn, judgeSet, walk, startAt};
-ghost use Rattle.records.specs.Answers.{setOf, setNumber, setAt, judgedOf, judgedNumber, itemNumber, itemPlace, endOf, cameOf, absent, checkedNumber, checkedPlace, Walked, recordAt};
+ghost use Rattle.records.specs.Answers.{setOf, setNumber, judgedOf, judgedNumber, itemNumber, itemPlace, endOf, cameOf, absent, checkedNumber, checkedPlace, Walked, recordAt};
 
 // A set of FRNs: FRN f, 0 to 63, is bit 63 - f. FRN 0 is none, and no profile has one above 35.
 pub struct ItemSet {

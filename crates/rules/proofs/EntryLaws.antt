@@ -69,12 +69,12 @@ Written (p ∷ ps) (none ∷ vs) = Written ps vs
 Written (none ∷ ps) (some v ∷ vs) = Written ps vs
 Written (some p ∷ ps) (some v ∷ vs) = ((u : List ℕ) × (writePlace p v ≡ ok u)) × Written ps vs
 
-record RowWritten (ps : List (Option Place)) (vs : List (Option Values)) (b : List ℕ) : Type 0 where
-  octets : itemOctets ps vs ≡ b
-  each : Written ps vs
-  count : length vs ≡ length ps
+pub record RowWritten (ps : List (Option Place)) (vs : List (Option Values)) (b : List ℕ) : Type 0 where
+  pub octets : itemOctets ps vs ≡ b
+  pub each : Written ps vs
+  pub count : length vs ≡ length ps
 
-row-written : (ps : List (Option Place)) (vs : List (Option Values)) (b : List ℕ) → writeRow writePlace ps vs ≡ ok b → RowWritten ps vs b
+pub row-written : (ps : List (Option Place)) (vs : List (Option Values)) (b : List ℕ) → writeRow writePlace ps vs ≡ ok b → RowWritten ps vs b
 unfolding writeRow
 row-written [] [] b h = record { octets = ok-inj h; each = tt; count = refl }
 row-written [] (v ∷ vs) b h = refused-ok h
@@ -115,7 +115,7 @@ nothing-written : (ps : List (Option Place)) → (itemOctets ps [] ≡ []) × Wr
 nothing-written [] = (refl, tt)
 nothing-written (p ∷ ps) = (refl, tt)
 
-rows-written : (ps : List (List (Option Place))) (rs : Record) (b : List ℕ) → writeRows writePlace ps rs ≡ ok b
+pub rows-written : (ps : List (List (Option Place))) (rs : Record) (b : List ℕ) → writeRows writePlace ps rs ≡ ok b
     → (itemOctets (concat ps) (concat rs) ≡ b) × Written (concat ps) (concat rs)
 unfolding writeRows
 rows-written ps [] b h = (nothing-written (concat ps) .0 ∙ ok-inj h, nothing-written (concat ps) .1)

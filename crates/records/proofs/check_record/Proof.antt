@@ -1,111 +1,118 @@
+-- `records::check_record` meets its contract: at each `return` the functions called say which step of the rules ended the work. Assumes nothing.
+use Prim.Native.Nat.{_+_, _^_, _≤_, _<_}
+use mathlib.Core.Path.{_≡_, refl, sym, ap, _∙_}
+use native.Mathlib.Omega.{arith}
+use lib.ListN.{length}
 use borrow.Author.Needs.{needs}
+use Rattle.rules.specs.Answer.{ok}
+use Rattle.records.specs.Sets.{setAt}
+use Rattle.records.specs.Answers.{setOf}
+use Rattle.records.proofs.RecordLaws.{set-bounds, step-set, step-walk, step-judge, step-whole}
 use Rattle.records.proofs.check_record.Statement.{statement}
 use Rattle.records.proofs.check_record.Tie as tie
-use Rattle.records.proofs.check_record.Reads as reads
-use Rattle.records.proofs.check_record.Lts as lts
-use Rattle.records.proofs.ItemSet.from_octets.Reads as from-octets-reads
-use Rattle.records.proofs.checked_number.Reads as checked-number-reads
-use Rattle.records.proofs.checked_place.Reads as checked-place-reads
-use Rattle.records.proofs.judge.Reads as judge-reads
-use Rattle.records.proofs.judged_number.Reads as judged-number-reads
-use Rattle.records.proofs.refused.Reads as refused-reads
-use Rattle.records.proofs.set_number.Reads as set-number-reads
-use Rattle.records.proofs.walk_items.Reads as walk-items-reads
 
--- src/lib.rt:383:9
 from-octets-requires : tie.Need-from-octets-requires
 from-octets-requires c κs = search needs
 
--- src/lib.rt:384:26
 enum-known-s : tie.Need-enum-known-s
 enum-known-s c = search needs
 
--- src/lib.rt:385:24
 enum-told : tie.Need-enum-told
 enum-told c = search needs
 
--- src/lib.rt:385:24
 set-number-requires : tie.Need-set-number-requires
 set-number-requires c κs = search needs
 
--- src/lib.rt:385:9
 refused-requires : tie.Need-refused-requires
 refused-requires c κs = search needs
 
--- src/lib.rt:385:9
+-- the FSPEC is refused
 returns : tie.Need-returns
-returns c = ?
+returns c =
+    step-set _ _ _ (c .before .before .before .before .before .shared-slice-known .given) (c .before .before .before .before .before .before .pre) _ _ _ _
+    (c .before .before .before .before .from-octets .ensures) (c .before .before .enum-told .given .1) (c .before .set-number .ensures) (c .refused .ensures)
 
--- src/lib.rt:387:38
+-- the set and its octets, in the rules' terms
+found : (c : tie.After-known-told)
+    → setAt (c .before .before .before .before .before .args .profile) (c .before .before .before .before .before .args .part .now) ≡ ok (c .before .s .given .0 .0 .bits, c .before .s .given .0 .1 .0)
+found c = sym (c .before .before .before .from-octets .ensures) ∙ ap setOf (c .before .s .given .1)
+
+bounds : (c : tie.After-known-told) → (c .before .s .given .0 .0 .bits < 2 ^ 63) × (c .before .s .given .0 .1 .0 ≤ length (c .before .before .before .before .before .args .part .now))
+bounds c = set-bounds _ _ _ _ (found c)
+
 sub-walk-items : tie.Need-sub-walk-items
-sub-walk-items c = ?
+sub-walk-items c = bounds c .1
 
--- src/lib.rt:387:38
 part-walk-items-start : tie.Need-part-walk-items-start
-part-walk-items-start c = ?
+part-walk-items-start c = bounds c .1
 
--- src/lib.rt:387:38
 part-walk-items-end : tie.Need-part-walk-items-end
 part-walk-items-end c = search needs
 
--- src/lib.rt:387:55
 add-walk-items : tie.Need-add-walk-items
-add-walk-items c = ?
+add-walk-items c = omega (arith, bounds (c .before) .1)
 
--- src/lib.rt:387:9
 walk-items-requires : tie.Need-walk-items-requires
-walk-items-requires c κs = ?
+walk-items-requires c κs = (bounds (c .before) .0, omega (arith, bounds (c .before) .1, c .walk-items-arg .given .2))
 
--- src/lib.rt:389:31
 enum-known-c : tie.Need-enum-known-c
 enum-known-c c = search needs
 
--- src/lib.rt:390:24
 enum-told-2 : tie.Need-enum-told-2
 enum-told-2 c = search needs
 
--- src/lib.rt:390:24
 checked-number-requires : tie.Need-checked-number-requires
 checked-number-requires c κs = search needs
 
--- src/lib.rt:390:43
 checked-place-requires : tie.Need-checked-place-requires
 checked-place-requires c κs = search needs
 
--- src/lib.rt:390:9
 refused-requires-2 : tie.Need-refused-requires-2
 refused-requires-2 c κs = search needs
 
--- src/lib.rt:390:9
+-- an item is refused
 returns-2 : tie.Need-returns-2
-returns-2 c = ?
+returns-2 c =
+    step-walk _ _ _ (c .before .before .before .before .before .before .before .before .before .before .before .shared-slice-known .given)
+    (c .before .before .before .before .before .before .before .before .before .before .before .before .pre) _ _ _
+    (c .before .before .before .before .before .before .before .before .before .before .from-octets .ensures) (c .before .before .before .before .before .before .before .before .s .given .1)
+    _ (c .before .before .before .before .before .walk-items .ensures) _ _ _ _ _
+    (c .before .before .before .enum-told2 .given .1) (c .before .before .checked-number .ensures) (c .before .checked-place .ensures) (c .refused2 .ensures)
 
--- src/lib.rt:392:9
 judge-requires : tie.Need-judge-requires
 judge-requires c κs = search needs
 
 enum-told-3 : tie.Need-enum-told-3
 enum-told-3 c = search needs
 
--- src/lib.rt:394:24
 enum-told-4 : tie.Need-enum-told-4
 enum-told-4 c = search needs
 
--- src/lib.rt:394:24
 judged-number-requires : tie.Need-judged-number-requires
 judged-number-requires c κs = search needs
 
--- src/lib.rt:394:9
 refused-requires-3 : tie.Need-refused-requires-3
 refused-requires-3 c κs = search needs
 
--- src/lib.rt:394:9
+-- the message type is not content
 returns-3 : tie.Need-returns-3
-returns-3 c = ?
+returns-3 c =
+    step-judge _ _ _ (c .before .before .before .before .before .before .before .before .before .before .before .before .before .before .shared-slice-known .given)
+    (c .before .before .before .before .before .before .before .before .before .before .before .before .before .before .before .pre) _ _ _
+    (c .before .before .before .before .before .before .before .before .before .before .before .before .before .from-octets .ensures)
+    (c .before .before .before .before .before .before .before .before .before .before .before .s .given .1)
+    _ (c .before .before .before .before .before .before .before .before .walk-items .ensures) _ (c .before .before .before .before .before .before .c .given .1)
+    _ (c .before .before .before .before .judge .ensures) _ _ _ (c .before .before .enum-told4 .given .1) (c .before .judged-number .ensures) (c .refused3 .ensures)
 
--- src/lib.rt:379:1
+-- it is whole
 returns-4 : tie.Need-returns-4
-returns-4 c = ?
+returns-4 c =
+    step-whole _ _ _ (c .before .before .before .before .before .before .before .before .before .before .before .before .before .shared-slice-known .given)
+    (c .before .before .before .before .before .before .before .before .before .before .before .before .before .before .pre) _ _ _
+    (c .before .before .before .before .before .before .before .before .before .before .before .before .from-octets .ensures)
+    (c .before .before .before .before .before .before .before .before .before .before .s .given .1)
+    _ (c .before .before .before .before .before .before .before .walk-items .ensures) _ (c .before .before .before .before .before .c .given .1)
+    _ (c .before .before .before .judge .ensures) _ (c .before .enum-told3 .given .1) refl refl
 
 pub check-record-spec : {M : Type 1} → statement M
 check-record-spec =

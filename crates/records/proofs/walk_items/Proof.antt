@@ -10,8 +10,6 @@ use Rattle.records.proofs.PlaceLaws.{check-start, check-within, check-f
 use Rattle.records.proofs.WalkLaws.{check-refused, Standing, stand-first, stand-end, stand-less, stand-skip, stand-stop, stand-item}
 use Rattle.records.proofs.walk_items.Statement.{statement}
 use Rattle.records.proofs.walk_items.Tie as tie
-use Rattle.records.proofs.walk_items.Reads as reads
-use Rattle.records.proofs.walk_items.Lts as lts
 
 abbrev Inv-loop : tie.InvT-loop
 Inv-loop profile part at of left₀ bit₀ frn₀ rest₀ here₀ count₀ starts₀ kind₀ left bit frn rest here count starts kind =

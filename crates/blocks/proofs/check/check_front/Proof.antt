@@ -59,7 +59,7 @@ number-requires c κs = search needs
 
 -- src/check.rt:132:9
 returns : tie.Need-returns
-returns c = 
+returns c =
     ap (λ n. refused n 0) (c .number .ensures ∙ ap headNumber (c .before .enum-told .given .1))
     ∙ sym (front-refused _ _ _ (sym (c .before .before .before .front-head .ensures) ∙ ap headOf (c .before .enum-told .given .1)))
 
@@ -101,14 +101,14 @@ place-requires c κs = search needs
 
 -- src/check.rt:145:9
 returns-3 : tie.Need-returns-3
-returns-3 c = 
+returns-3 c =
     ap₂ refused (c .before .number2 .ensures ∙ ap checkedNumber (c .before .before .enum-told2 .given .1)) (c .place .ensures ∙ ap checkedPlace (c .before .before .enum-told2 .given .1))
     ∙ sym (front-stop _ (head-of (c .before .before .before .before .before .before)) _ _ (has-head (c .before .before .before .before .before .before)) (c .before .before .before .before .before .before .if1 .left)
     (sym (c .before .before .before .before .check-records .ensures) ∙ ap checkedOf (c .before .before .enum-told2 .given .1)))
 
 -- src/check.rt:127:1
 returns-4 : tie.Need-returns-4
-returns-4 c = 
+returns-4 c =
     sym (front-all _ (head-of (c .before .before .before .before .before)) _ (has-head (c .before .before .before .before .before)) (c .before .before .before .before .before .if1 .left)
     (sym (c .before .before .before .check-records .ensures) ∙ ap checkedOf (c .before .checked .given .1)))
 

@@ -52,7 +52,7 @@ refused-by-requires c κs = search needs
 
 -- src/check.rt:65:13
 returns : tie.Need-returns Inv-loop μ-loop
-returns c = 
+returns c =
     c .refused-by .ensures
     ∙ ap checkedBy (c .before .enum-told .given .1)
     ∙ sym (count-stop _ _ _ _ _ _ (c .before .before .before .before .loop-test .taken) (walked-refused _ _ _ (c .before .before .before .check-record .result) (c .before .before .before .check-record .ensures) _ _ (c .before .enum-told .given .1)))
@@ -84,7 +84,7 @@ loop-less c = omega (arith, accepted (c .before) .low, accepted (c .before) .hig
 
 -- src/check.rt:61:5
 loop-again : tie.Need-loop-again Inv-loop μ-loop
-loop-again c = 
+loop-again c =
     count-again _ _ _ (c .before .before .before .before .before .before .loop .rest .now) _ _ _ _ (c .before .before .before .before .before .before .loop .inv) (accepted (c .before)) (to-end (c .before .before .before .before .before .before .loop .rest .now) (c .before .before .checked .given .0 .0 - c .before .before .before .before .before .before .loop .at))
 
 -- src/check.rt:54:1

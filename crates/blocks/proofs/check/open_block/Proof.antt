@@ -57,7 +57,7 @@ number-requires c κs = search needs
 
 -- src/check.rt:86:9
 returns : tie.Need-returns
-returns c = 
+returns c =
     ap (λ n. refused n 0) (c .number .ensures ∙ ap headNumber (c .before .enum-told .given .1))
     ∙ sym (opened-refused _ _ _ _ (sym (c .before .before .before .single-head .ensures) ∙ ap headOf (c .before .enum-told .given .1)))
 
@@ -83,7 +83,7 @@ check-records-requires c κs = omega (arith, few (c .before), len-is (c .before)
 
 -- src/check.rt:81:1
 returns-3 : tie.Need-returns-3
-returns-3 c = 
+returns-3 c =
     opened-by _ (c .check-records .result)
     ∙ ap (λ z. z >>= λ n. ok (opening (head-of (c .before .before) .category) n)) (c .check-records .ensures)
     ∙ sym (opened-body _ _ (head-of (c .before .before)) _ (has-head (c .before .before)) (c .before .before .if1 .left) (to-end (c .before .before .before .before .before .before .before .before .args .block .now) 3))

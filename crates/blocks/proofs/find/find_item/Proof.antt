@@ -36,7 +36,7 @@ none-of-requires c κs = search needs
 
 -- src/find.rt:175:9
 returns : tie.Need-returns
-returns c = 
+returns c =
     subst (VeryPart (c .before .before .before .before .before .args .block) (c .none-of .result))
     (sym (item-lost (findItem (c .before .before .before .before .before .args .block .now) (c .before .before .before .before .before .args .reference) (c .before .before .before .before .before .args .n)) _ _ (sym (c .before .before .before .locate-item .ensures) ∙ c .before .enum-told .given .1))) (c .none-of .ensures)
 

@@ -82,7 +82,7 @@ place-requires c κs = search needs
 
 -- src/find.rt:126:9
 returns : tie.Need-returns
-returns c = 
+returns c =
     ap locatedOf
     (ap₂ refused (c .before .number .ensures ∙ ap checkedNumber (c .before .before .enum-told2 .given .1)) (c .place .ensures ∙ ap checkedPlace (c .before .before .enum-told2 .given .1))
     ∙ sym (item-refused _ _ _ _ _ (sym (c .before .before .before .before .open-block .ensures) ∙ ap (openedBy (c .before .before .before .before .open-block .result .profile)) (c .before .before .enum-told2 .given .1))))
@@ -101,7 +101,7 @@ enum-told-3 c = search needs
 
 -- src/find.rt:134:9
 returns-2 : tie.Need-returns-2
-returns-2 c = 
+returns-2 c =
     ap locatedOf
     (sym (item-unknown _ _ _ (opening (c .before .before .before)) (is-open (c .before .before .before))
     (frn-none _ 1 (places (opening (c .before .before .before) .category))
@@ -133,7 +133,7 @@ enum-told-4 c = search needs
 
 -- src/find.rt:142:9
 returns-3 : tie.Need-returns-3
-returns-3 c = 
+returns-3 c =
     ap locatedOf
     (sym (no-record-at _ _ _ _ _ (is-open (c .before .before .before .before .before .before .before .before)) _ _ _ (named (c .before .before .before .before))
     (lost _ (c .before .before .seek-record .result) _ _
@@ -153,7 +153,7 @@ element-copy-out-first c = index-in _ _ (c .before .before .before .before .befo
 
 -- src/find.rt:150:9
 returns-4 : tie.Need-returns-4
-returns-4 c = 
+returns-4 c =
     ap (itemLocated.Refused 20) (sym (sought (c .before .before .before) .start-is))
     ∙ ap locatedOf (sym (absent-at _ _ _ _ _ (is-open (c .before .before .before .before .before .before .before .before .before .before .before .before)) _ (sought (c .before .before .before) .map) _ (named (c .before .before .before .before .before .before .before .before)) (sought (c .before .before .before) .found) (sought (c .before .before .before) .starts-is) (c .if1 .taken)))
 
@@ -191,7 +191,7 @@ returns-5 c = refused-ok (ap checkedOf (sym (c .enum-told5 .given .1)) ∙ c .be
 
 -- src/find.rt:120:1
 returns-6 : tie.Need-returns-6
-returns-6 c = 
+returns-6 c =
     ap₂ itemLocated.At (there (c .before .before .before .before .before) .start-is) (ok-inj (ap checkedOf (sym (c .before .item .given .1)) ∙ c .before .before .before .check-item .ensures ∙ checked (c .before .before .before .before .before)))
     ∙ ap locatedOf (sym (there (c .before .before .before .before .before) .found))
 

@@ -54,7 +54,7 @@ record-lost-requires c κs = search needs
 
 -- src/find.rt:94:9
 returns : tie.Need-returns
-returns c = 
+returns c =
     c .record-lost .ensures
     ∙ ap recordLocated
     (ap₂ refused (c .before .before .number .ensures ∙ ap checkedNumber (c .before .before .before .enum-told2 .given .1)) (c .before .place .ensures ∙ ap checkedPlace (c .before .before .before .enum-told2 .given .1))
@@ -78,7 +78,7 @@ seek-record-requires c κs = (omega (arith, is-open (c .before) .few, is-open (c
 
 -- src/find.rt:88:1
 returns-2 : tie.Need-returns-2
-returns-2 c = 
+returns-2 c =
     c .seek-record .ensures
     ∙ ap recordLocated (ap (λ z. seekAt (opening (c .before .before) .category) 3 z (c .before .before .before .before .before .before .args .n)) (to-end (c .before .before .before .before .before .before .args .block .now) 3) ∙ sym (find-record _ _ (opening (c .before .before)) (is-open (c .before .before))))
 

@@ -52,7 +52,7 @@ record-lost-requires c κs = search needs
 
 -- src/find.rt:66:13
 returns : tie.Need-returns Inv-loop μ-loop
-returns c = 
+returns c =
     seek-stop _ _ (c .before .before .before .before .before .loop .rest .now) _ _ (c .before .before .before .before .before .loop .inv .records) (c .before .before .before .before .loop-test .taken)
     (walked-refused _ _ _ (c .before .before .before .check-record .result) (c .before .before .before .check-record .ensures) _ _ (c .before .enum-told .given .1))
 
@@ -88,7 +88,7 @@ loop-less c = omega (arith, accepted (c .before .before) .low, accepted (c .befo
 
 -- src/find.rt:62:5
 loop-again : tie.Need-loop-again Inv-loop μ-loop
-loop-again c = 
+loop-again c =
     seek-again _ _ _ _ (c .before .before .before .before .before .before .before .loop .rest .now) _ _ _ _ (c .before .before .before .before .before .before .before .loop .inv) (accepted (c .before .before)) (to-end (c .before .before .before .before .before .before .before .loop .rest .now) (c .before .before .before .checked .given .0 .0 - c .before .before .before .before .before .before .before .loop .at)) (c .before .if1 .left)
 
 -- src/find.rt:83:5

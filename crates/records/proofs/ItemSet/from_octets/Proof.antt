@@ -3,8 +3,8 @@ use Prim.Native.Nat.{_+_, _-_, _*_, _^_, _≤_}
 use mathlib.Core.Path.{_≡_, sym, _∙_}
 use native.Mathlib.Omega.{arith}
 use borrow.Author.Needs.{needs}
+use Rattle.records.specs.Sets.{setAt}
 use Rattle.records.specs.Walk.{setFrom}
-use Rattle.records.specs.Answers.{setAt}
 use Rattle.records.proofs.ProfileLaws.{profile-short}
 use Rattle.records.proofs.SetLaws.{octets-all, set-begin, set-cut, set-past, set-last, set-more, set-room}
 use Rattle.records.proofs.ItemSet.from_octets.Statement.{statement}

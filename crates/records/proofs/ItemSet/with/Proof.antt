@@ -3,8 +3,6 @@ use borrow.Author.Needs.{needs}
 use Rattle.records.proofs.FlagLaws.{with-same, with-more, with-fits}
 use Rattle.records.proofs.ItemSet.with.Statement.{statement}
 use Rattle.records.proofs.ItemSet.with.Tie as tie
-use Rattle.records.proofs.ItemSet.with.Reads as reads
-use Rattle.records.proofs.ItemSet.with.Lts as lts
 
 capped-requires : tie.Need-capped-requires
 capped-requires c κs = search needs

@@ -1,0 +1,83 @@
+-- The items of a set, once they are read: what the walk over them comes to, and what the message type asks of them. For a record that is read and
+-- for one that is to be added. Assumes nothing.
+use Prim.Native.Nat.{ℕ, zero, suc, _+_, _-_, _≤_, _<_}
+use mathlib.Core.Path.{_≡_, refl, sym, ap, ap₂, _∙_, subst}
+use mathlib.Core.Bool.{Bool, true, false}
+use mathlib.Core.Option.{Option, none, some}
+use mathlib.Core.List.{List, [], _∷_, _++_, map}
+use native.Mathlib.Omega.{arith}
+use lib.ListN.{length, length-append, length-map}
+use Rattle.rules.specs.Answer.{Answer, ok, refused, _>>=_, later}
+use Rattle.rules.specs.Layout.{Values, concat}
+use Rattle.rules.specs.Presence.{flags, present, readRows, writeRows}
+use Rattle.rules.specs.Record.{Place, Record, places, judge, readPlace, writePlace}
+use Rattle.rules.proofs.AnswerLaws.{bind-in, bind-out, later-in, later-out, Octets, Split}
+use Rattle.rules.proofs.PresenceLaws.{rows-forth}
+use Rattle.rules.proofs.RecordLaws.{place-laws}
+use Rattle.rules.proofs.EntryLaws.{itemOctets, Written, rows-written}
+use Rattle.records.specs.Sets.{categoryAt, bitsOf, within}
+use Rattle.records.specs.Walk.{Came, walk, startAt, judgeSet}
+use Rattle.records.proofs.ProfileLaws.{places-few, TypePlace}
+use Rattle.records.proofs.SetLaws.{map-append}
+use Rattle.records.proofs.JudgeLaws.{judge-law}
+use Rattle.records.proofs.CameLaws.{comes, comes-here, kind-law}
+use Rattle.records.proofs.RowLaws.{RowsUsable, rows-within, rows-few, items-law}
+
+map-concat : {A B : Type 0} (f : A → B) (xs : List (List A)) → map f (concat xs) ≡ concat (map (map f) xs)
+map-concat f [] = refl
+map-concat f (x ∷ xs) = map-append f x (concat xs) ∙ ap (λ l. map f x ++ l) (map-concat f xs)
+
+-- what the walk over a record's items comes to, which start at a place; and their octets
+abbrev pub cameTo : ℕ → ℕ → Record → Came
+cameTo i at r = comes i 1 (places (categoryAt i)) (concat r) (startAt at)
+
+abbrev pub octetsIn : ℕ → Record → List ℕ
+octetsIn i r = itemOctets (places (categoryAt i)) (concat r)
+
+module _ (i at : ℕ) (ts : List (List Bool)) (bs : List ℕ) (u : RowsUsable (categoryAt i .profile) ts) (o : Octets bs) where
+  pub walk-refused : (n p : ℕ) → readRows readPlace (categoryAt i .profile) ts bs ≡ refused n p → walk i (flags 63 (bitsOf (concat ts))) 1 bs (startAt at) ≡ refused n (at + p)
+  walk-refused n p g = items-law i ts bs at u o ∙ bind-out _ (later-out at g)
+
+  module _ (r : Record) (rest : List ℕ) (g : readRows readPlace (categoryAt i .profile) ts bs ≡ ok (r, rest)) where
+    pub walk-came : walk i (flags 63 (bitsOf (concat ts))) 1 bs (startAt at) ≡ ok (cameTo i at r)
+    walk-came = items-law i ts bs at u o ∙ bind-in _ (later-in at g) refl
+
+    flagged : map (map present) r ≡ ts
+    flagged = rows-forth place-laws (categoryAt i .profile) ts r bs rest o g .1
+
+    pub rows-count : length r ≡ length ts
+    rows-count = sym (length-map r (map present)) ∙ ap length flagged
+
+    flags-are : map present (concat r) ≡ concat ts
+    flags-are = map-concat present r ∙ ap concat flagged
+
+    pub stands : within (map present (concat r)) (map present (places (categoryAt i))) ≡ true
+    stands = ap (λ l. within l (map present (places (categoryAt i)))) flags-are ∙ rows-within (categoryAt i .profile) ts u
+
+    few : length (concat r) ≤ 63
+    few =
+        let m : length (map present (concat r)) ≡ length (concat r) = length-map (concat r) present in
+        let n : length (map present (concat r)) ≡ length (concat ts) = ap length flags-are in
+        omega (arith, rows-few (categoryAt i .profile) ts u, places-few i)
+
+    -- the items, as the writing rules have them
+    items-split : Split (writeRows writePlace (categoryAt i .profile)) r bs rest
+    items-split = rows-forth place-laws (categoryAt i .profile) ts r bs rest o g .0
+
+    written : Written (places (categoryAt i)) (concat r)
+    written = rows-written (categoryAt i .profile) r (items-split .out) (items-split .writes) .1
+
+    pub items-long : length bs ≡ length (octetsIn i r) + length rest
+    items-long =
+        ap length (items-split .joins)
+        ∙ length-append (items-split .out) rest
+        ∙ ap (λ l. length l + length rest) (sym (rows-written (categoryAt i .profile) r (items-split .out) (items-split .writes) .0))
+
+    pub items-end : cameTo i at r .here ≡ at + length (octetsIn i r)
+    items-end = comes-here i 1 (places (categoryAt i)) (concat r) (startAt at)
+
+    pub judged : (t : TypePlace i) → judge (categoryAt i) r ≡ (judgeSet i (bitsOf (concat ts)) (cameTo i at r .kind) >>= (λ u. ok r))
+    judged t =
+        judge-law i r (cameTo i at r .kind) t stands few
+        (λ v e. kind-law i (t .index) (places (categoryAt i)) (concat r) (startAt at) 0 v (t .frn) written (t .place) e)
+        ∙ ap (λ l. judgeSet i (bitsOf l) (cameTo i at r .kind) >>= (λ u. ok r)) flags-are

@@ -1,0 +1,204 @@
+-- Walking over flags is reading the rules' rows.
+--
+-- In order: places counted on; one row; rows end to end; the items of a set. Assumes nothing.
+use Prim.Native.Nat.{ℕ, zero, suc, _+_, _-_, _≤_, _<_}
+use mathlib.Core.Path.{_≡_, refl, sym, ap, ap₂, _∙_, subst}
+use mathlib.Core.Bool.{Bool, true, false, _&&_}
+use mathlib.Core.Option.{Option, none, some}
+use mathlib.Core.List.{List, [], _∷_, _++_, map, append-assoc}
+use native.Mathlib.Omega.{arith}
+use native.Mathlib.Nat.{add-zero, add-assoc}
+use native.Mathlib.Numerals.{add-one}
+use lib.Dec.{T}
+use lib.ListN.{length, take, drop, getD, replicate, length-append, length-map}
+use lib.Seq.{take-at, drop-at, drop-drop, getD-drop}
+use Rattle.rules.specs.Answer.{Answer, ok, refused, _>>=_, later, octetsOf, expect_or_}
+use Rattle.rules.specs.Layout.{Values, concat, readItem}
+use Rattle.rules.specs.Presence.{flags, present, usable, placeAt, readRow, readRows}
+use Rattle.rules.specs.Record.{Place, Record, places, readPlace, writePlace}
+use Rattle.rules.specs.Entry.{categories, profileAt}
+use Rattle.rules.proofs.AnswerLaws.{ok-inj, bind-in, bind-out, bind-cong, later-in, later-out, later-inv, expect-in, octetsOf-ok, Octets, Split, after}
+use Rattle.rules.proofs.PresenceLaws.{usable-length, row-forth}
+use Rattle.rules.proofs.RecordLaws.{place-laws}
+use Rattle.rules.proofs.EntryLaws.{itemOctets, RowWritten, row-written}
+use Rattle.items.specs.Answers.{sizeOf, checkAt}
+use Rattle.records.specs.Sets.{categoryAt, bitsOf, within}
+use Rattle.records.specs.Walk.{Came, passed, walk, startAt}
+use Rattle.records.proofs.FlagLaws.{over-pad, bits-flags-tail, within-append}
+use Rattle.records.proofs.ProfileLaws.{profile-at, places-few}
+use Rattle.records.proofs.SetLaws.{bind-same, usable-within, map-append}
+use Rattle.records.proofs.CameLaws.{comes, comes-none, comes-append, comes-here}
+
+-- ---- places counted on
+
+pub later-later : {A : Type 0} (j k : ℕ) (m : Answer A) → later j (later k m) ≡ later (j + k) m
+unfolding later
+later-later j k (ok a) = refl
+later-later j k (refused n p) = ap (refused n) (sym (add-assoc j k p))
+
+pub later-map : {A B C : Type 0} (k : ℕ) (m : Answer A) (f : A → B) (g : B → Answer C) → (later k (m >>= (λ a. ok (f a))) >>= g) ≡ (later k m >>= (λ a. g (f a)))
+unfolding later _>>=_
+later-map k (ok a) f g = refl
+later-map k (refused n p) f g = refl
+
+-- ---- one row
+
+next : {A : Type 0} (l : List A) (g : ℕ) (x : A) (xs : List A) → drop g l ≡ x ∷ xs → drop (suc g) l ≡ xs
+next l g x xs e = ap (λ n. drop n l) (sym (add-one g)) ∙ sym (drop-drop 1 g l) ∙ ap (drop 1) e
+
+first : {A : Type 0} (l : List A) (g : ℕ) (x : A) (xs : List A) (d : A) → drop g l ≡ x ∷ xs → getD l g d ≡ x
+first l g x xs d e = ap (λ n. getD l n d) (sym (add-zero g)) ∙ sym (getD-drop g l 0 d) ∙ ap (λ l. getD l 0 d) e
+
+past : {A : Type 0} (l : List A) (g : ℕ) (xs ys : List A) → drop g l ≡ xs ++ ys → drop (g + length xs) l ≡ ys
+past l g xs ys e = sym (drop-drop (length xs) g l) ∙ ap (drop (length xs)) e ∙ drop-at xs ys (length xs) refl
+
+T-is : (t : Bool) → T t → t ≡ true
+T-is true h = refl
+T-is false h = absurd h
+
+-- every flag that is set in a row has a usable place, and rows are as long as the profile's
+abbrev pub RowsUsable : List (List (Option Place)) → List (List Bool) → Type 0
+RowsUsable ps [] = Unit {0}
+RowsUsable [] (t ∷ ts) = ⊥
+RowsUsable (p ∷ ps) (t ∷ ts) = T (usable p t) × RowsUsable ps ts
+
+module _ (i : ℕ) where
+  -- from a row on
+  abbrev onward : ℕ → List (Option Place) → List Bool → Came → List (Option Values) × List ℕ → Answer Came
+  onward g ps us w x = walk i us (suc g + length ps) (x .1) (comes i (suc g) ps (x .0) w)
+
+  absent-step : (g n : ℕ) (us : List Bool) (rest : List ℕ) (w : Came) → walk i us (suc (suc g) + n) rest w ≡ walk i us (suc g + suc n) rest w
+  absent-step g n us rest w = let e : suc (suc g) + n ≡ suc g + suc n = omega arith in ap (λ f. walk i us f rest w) e
+
+  -- an item that is there
+  module _ (g : ℕ) (p : Place) (ps qs : List (Option Place)) (ts us : List Bool) (bs : List ℕ) (w : Came)
+      (e : drop g (concat (profileAt categories i)) ≡ some p ∷ (ps ++ qs)) (o : Octets bs)
+      (ih : (rest : List ℕ) (v : Came) → Octets rest → walk i (ts ++ us) (suc (suc g)) rest v ≡ (later (v .here) (readRow readPlace ps ts rest) >>= onward (suc g) ps us v)) where
+    size : checkAt i (suc g) bs ≡ sizeOf (p .layout) bs
+    unfolding checkAt
+    size = bind-in (λ q. sizeOf (q .layout) bs) (expect-in 21 (first (concat (profileAt categories i)) g (some p) (ps ++ qs) none e)) refl
+
+    item-step : (x : Answer (Values × List ℕ)) → readPlace p bs ≡ x
+        → walk i (true ∷ (ts ++ us)) (suc g) bs w ≡ (later (w .here) (readRow readPlace (some p ∷ ps) (true ∷ ts) bs) >>= onward g (some p ∷ ps) us w)
+    unfolding walk readRow readPlace sizeOf
+    item-step (refused n q) h =
+        bind-out _ (later-out (w .here) (size ∙ bind-out _ h)) ∙ sym (bind-out _ (later-out (w .here) (bind-out _ h)))
+    item-step (ok (v, rest)) h =
+        let s : Split (writePlace p) v bs rest = place-laws p .forth v bs rest o h in
+        let n : ℕ = length bs - length rest in
+        let out : List ℕ = octetsOf (writePlace p v) in
+        let is : out ≡ s .out = octetsOf-ok (s .writes) in
+        let m : length (s .out) ≡ n = (let a : length bs ≡ length (s .out) + length rest = ap length (s .joins) ∙ length-append (s .out) rest in omega arith) in
+        let dr : drop n bs ≡ rest = ap (drop n) (s .joins) ∙ drop-at (s .out) rest n m in
+        let tk : take n bs ≡ out = ap (take n) (s .joins) ∙ take-at (s .out) rest n m ∙ sym is in
+        let lo : n ≡ length out = sym (ap length is ∙ m) in
+        let w₁ : Came = passed i (suc g) (length out) out w in
+        bind-in _ (later-in (w .here) (size ∙ bind-in _ h refl)) refl
+        ∙ ap₂ (λ f l. walk i (ts ++ us) f l (passed i (suc g) n (take n bs) w)) (add-one (suc g)) dr
+        ∙ ap₂ (λ k l. walk i (ts ++ us) (suc (suc g)) rest (passed i (suc g) k l w)) lo tk
+        ∙ ih rest w₁ (after s o)
+        ∙ bind-cong _ _ _ (λ y. absent-step g (length ps) us (y .1) (comes i (suc (suc g)) ps (y .0) w₁))
+        ∙ ap (λ k. later (w .here + k) (readRow readPlace ps ts rest) >>= (λ y. onward g (some p ∷ ps) us w (some v ∷ y .0, y .1))) (sym lo)
+        ∙ ap (λ z. z >>= (λ y. onward g (some p ∷ ps) us w (some v ∷ y .0, y .1))) (sym (later-later (w .here) n (readRow readPlace ps ts rest)))
+        ∙ sym (later-map (w .here) (later n (readRow readPlace ps ts rest)) _ (onward g (some p ∷ ps) us w))
+        ∙ ap (λ z. later (w .here) z >>= onward g (some p ∷ ps) us w) (sym (bind-in _ h refl))
+
+  walk-row : (g : ℕ) (ps qs : List (Option Place)) (ts us : List Bool) (bs : List ℕ) (w : Came) → drop g (concat (profileAt categories i)) ≡ ps ++ qs → T (usable ps ts) → Octets bs
+      → walk i (ts ++ us) (suc g) bs w ≡ (later (w .here) (readRow readPlace ps ts bs) >>= onward g ps us w)
+  unfolding walk readRow usable
+  walk-row g [] qs [] us bs w e u o = ap (λ f. walk i us f bs w) (sym (add-zero (suc g))) ∙ sym (bind-in (onward g [] us w) (later-in (w .here) refl) refl)
+  walk-row g [] qs (t ∷ ts) us bs w e u o = absurd u
+  walk-row g (p ∷ ps) qs [] us bs w e u o = absurd u
+  walk-row g (none ∷ ps) qs (false ∷ ts) us bs w e u o =
+      ap (λ f. walk i (ts ++ us) f bs w) (add-one (suc g))
+      ∙ walk-row (suc g) ps qs ts us bs w (next _ g none (ps ++ qs) e) u o
+      ∙ bind-cong _ _ _ (λ y. absent-step g (length ps) us (y .1) (comes i (suc (suc g)) ps (y .0) w))
+      ∙ sym (later-map (w .here) (readRow readPlace ps ts bs) _ (onward g (none ∷ ps) us w))
+  walk-row g (some p ∷ ps) qs (false ∷ ts) us bs w e u o =
+      ap (λ f. walk i (ts ++ us) f bs w) (add-one (suc g))
+      ∙ walk-row (suc g) ps qs ts us bs w (next _ g (some p) (ps ++ qs) e) u o
+      ∙ bind-cong _ _ _ (λ y. absent-step g (length ps) us (y .1) (comes i (suc (suc g)) ps (y .0) w))
+      ∙ sym (later-map (w .here) (readRow readPlace ps ts bs) _ (onward g (some p ∷ ps) us w))
+  walk-row g (none ∷ ps) qs (true ∷ ts) us bs w e u o = absurd u
+  walk-row g (some p ∷ ps) qs (true ∷ ts) us bs w e u o =
+      item-step g p ps qs ts us bs w e o (λ rest v r. walk-row (suc g) ps qs ts us rest v (next _ g (some p) (ps ++ qs) e) u r) (readPlace p bs) refl
+
+  -- ---- rows end to end
+
+  abbrev rowsOn : ℕ → List (List (Option Place)) → List (List Bool) → List Bool → Came → Record × List ℕ → Answer Came
+  rowsOn g ps ts us w x = walk i us (suc g + length (concat ts)) (x .1) (comes i (suc g) (concat ps) (concat (x .0)) w)
+
+  -- a row, then those after it
+  module _ (g : ℕ) (p : List (Option Place)) (ps : List (List (Option Place))) (t : List Bool) (ts : List (List Bool)) (us : List Bool) (bs : List ℕ) (w : Came)
+      (u : T (usable p t)) (o : Octets bs)
+      (ih : (rest : List ℕ) (v : Came) → Octets rest
+      → walk i (concat ts ++ us) (suc (g + length p)) rest v ≡ (later (v .here) (readRows readPlace ps ts rest) >>= rowsOn (g + length p) ps ts us v)) where
+    row-step : (x : Answer (List (Option Values) × List ℕ)) → readRow readPlace p t bs ≡ x
+        → (later (w .here) x >>= onward g p (concat ts ++ us) w) ≡ (later (w .here) (readRows readPlace (p ∷ ps) (t ∷ ts) bs) >>= rowsOn g (p ∷ ps) (t ∷ ts) us w)
+    unfolding readRows
+    row-step (refused n q) h = bind-out _ (later-out (w .here) refl) ∙ sym (bind-out _ (later-out (w .here) (bind-out _ h)))
+    row-step (ok (vs, rest)) h =
+        let (s, f) = row-forth place-laws p t vs bs rest o h in
+        let k : RowWritten p vs (s .out) = row-written p vs (s .out) (s .writes) in
+        let n : ℕ = length bs - length rest in
+        let w₁ : Came = comes i (suc g) p vs w in
+        let a : length bs ≡ length (s .out) + length rest = ap length (s .joins) ∙ length-append (s .out) rest in
+        let b : w₁ .here ≡ w .here + n = comes-here i (suc g) p vs w ∙ ap (λ l. w .here + length l) (k .octets) ∙ (let c : w .here + length (s .out) ≡ w .here + n = omega arith in c) in
+        let pl : suc g + length p ≡ suc (g + length p) = omega arith in
+        let tl : length t ≡ length p = usable-length p t u in
+        let ll : length (t ++ concat ts) ≡ length t + length (concat ts) = length-append t (concat ts) in
+        let fl : suc (g + length p) + length (concat ts) ≡ suc g + length (t ++ concat ts) = omega arith in
+        bind-in _ (later-in (w .here) refl) refl
+        ∙ ap (λ f. walk i (concat ts ++ us) f rest w₁) pl
+        ∙ ih rest w₁ (after s o)
+        ∙ bind-cong _ _ _ (λ y.
+        ap₂ (λ f v. walk i us f (y .1) v) fl (ap (λ m. comes i m (concat ps) (concat (y .0)) w₁) (sym pl) ∙ sym (comes-append i (suc g) p (concat ps) vs (concat (y .0)) w (k .count))))
+        ∙ ap (λ m. later m (readRows readPlace ps ts rest) >>= (λ y. rowsOn g (p ∷ ps) (t ∷ ts) us w (vs ∷ y .0, y .1))) b
+        ∙ ap (λ z. z >>= (λ y. rowsOn g (p ∷ ps) (t ∷ ts) us w (vs ∷ y .0, y .1))) (sym (later-later (w .here) n (readRows readPlace ps ts rest)))
+        ∙ sym (later-map (w .here) (later n (readRows readPlace ps ts rest)) _ (rowsOn g (p ∷ ps) (t ∷ ts) us w))
+        ∙ ap (λ z. later (w .here) z >>= rowsOn g (p ∷ ps) (t ∷ ts) us w) (sym (bind-in _ h refl))
+
+  walk-rows : (g : ℕ) (ps : List (List (Option Place))) (ts : List (List Bool)) (us : List Bool) (bs : List ℕ) (w : Came)
+      → drop g (concat (profileAt categories i)) ≡ concat ps → RowsUsable ps ts → Octets bs
+      → walk i (concat ts ++ us) (suc g) bs w ≡ (later (w .here) (readRows readPlace ps ts bs) >>= rowsOn g ps ts us w)
+  unfolding readRows
+  walk-rows g ps [] us bs w e u o =
+      ap₂ (λ f v. walk i us f bs v) (sym (add-zero (suc g))) (sym (comes-none i (suc g) (concat ps) w)) ∙ sym (bind-in (rowsOn g ps [] us w) (later-in (w .here) refl) refl)
+  walk-rows g [] (t ∷ ts) us bs w e u o = absurd u
+  walk-rows g (p ∷ ps) (t ∷ ts) us bs w e u o =
+      ap (λ l. walk i l (suc g) bs w) (append-assoc t (concat ts) us)
+      ∙ walk-row g p (concat ps) t (concat ts ++ us) bs w e (u .0) o
+      ∙ row-step g p ps t ts us bs w (u .0) o
+      (λ rest v r. walk-rows (g + length p) ps ts us rest v (past (concat (profileAt categories i)) g p (concat ps) e) (u .1) r) (readRow readPlace p t bs) refl
+
+-- ---- the items of a set
+
+walk-blank : (i m f : ℕ) (bs : List ℕ) (w : Came) → walk i (replicate m false) f bs w ≡ ok w
+unfolding walk
+walk-blank i zero f bs w = refl
+walk-blank i (suc m) f bs w = walk-blank i m (f + 1) bs w
+
+pub rows-within : (ps : List (List (Option Place))) (ts : List (List Bool)) → RowsUsable ps ts → within (concat ts) (map present (concat ps)) ≡ true
+rows-within ps [] u = refl
+rows-within [] (t ∷ ts) u = absurd u
+rows-within (p ∷ ps) (t ∷ ts) u =
+    ap (within (t ++ concat ts)) (map-append present p (concat ps))
+    ∙ within-append t (map present p) (concat ts) (map present (concat ps)) (usable-length p t (u .0) ∙ sym (length-map p present))
+    ∙ ap₂ _&&_ (sym (usable-within p t (usable-length p t (u .0))) ∙ T-is (usable p t) (u .0)) (rows-within ps ts (u .1))
+
+pub rows-few : (ps : List (List (Option Place))) (ts : List (List Bool)) → RowsUsable ps ts → length (concat ts) ≤ length (concat ps)
+rows-few ps [] u = omega arith
+rows-few [] (t ∷ ts) u = absurd u
+rows-few (p ∷ ps) (t ∷ ts) u =
+    let a : length (t ++ concat ts) ≡ length t + length (concat ts) = length-append t (concat ts) in
+    let b : length (p ++ concat ps) ≡ length p + length (concat ps) = length-append p (concat ps) in
+    omega (arith, usable-length p t (u .0), rows-few ps ts (u .1))
+
+pub items-law : (i : ℕ) (ts : List (List Bool)) (bs : List ℕ) (k : ℕ) → RowsUsable (categoryAt i .profile) ts → Octets bs
+    → walk i (flags 63 (bitsOf (concat ts))) 1 bs (startAt k)
+    ≡ (later k (readRows readPlace (categoryAt i .profile) ts bs) >>= (λ x. ok (comes i 1 (places (categoryAt i)) (concat (x .0)) (startAt k))))
+items-law i ts bs k u o =
+    let few : length (concat ts) ≤ 63 = omega (arith, rows-few (categoryAt i .profile) ts u, places-few i) in
+    ap (λ l. walk i l 1 bs (startAt k)) (bits-flags-tail (concat ts) ∙ over-pad (concat ts) 63 false few)
+    ∙ walk-rows i 0 (categoryAt i .profile) ts (replicate (63 - length (concat ts)) false) bs (startAt k) (ap concat (sym (profile-at i))) u o
+    ∙ bind-cong _ _ _ (λ y. walk-blank i (63 - length (concat ts)) _ (y .1) (comes i 1 (places (categoryAt i)) (concat (y .0)) (startAt k)))
