@@ -1,17 +1,19 @@
--- What holds of octets as pairs of digits: digits one by one; pairs one by one; what a buffer is left with; octets as text. Assumes nothing.
-use Prim.Native.Nat.{ℕ, zero, suc, _+_, _-_, _*_, _/_, _%_, _<_, _≤_}
+-- What holds of octets as pairs of digits.
+--
+-- In order: digits one by one; pairs one by one; what a word is; what the answer says of it; octets as text. Assumes nothing.
+use Prim.Native.Nat.{ℕ, zero, suc, _+_, _-_, _*_, _/_, _%_, _<_, _≤_, min}
 use mathlib.Core.Path.{_≡_, refl, sym, ap, _∙_, subst}
 use mathlib.Core.Bool.{Bool, cond, true, false, not, _&&_}
 use mathlib.Core.Option.{Option, none, some}
 use mathlib.Core.List.{List, [], _∷_, _++_}
 use native.Mathlib.Numerals.{add-one}
 use native.Mathlib.Omega.{arith}
-use borrow.Author.Tests.{eq-eqb, ne-eqb, lt-ltb, le-ltb, le-leb, lt-leb, ltb-true, ltb-false}
+use borrow.Author.Tests.{leb-true, leb-false, eq-eqb, ne-eqb, lt-ltb, le-ltb, le-leb, lt-leb, ltb-true, ltb-false}
 use lib.ListN.{length, take, drop, getD, set, drop-of-length-le, length-drop, length-set}
-use lib.Seq.{drop-cons}
+use lib.Seq.{take-all}
 use lib.Dec.{ltb, leb, eqb, leb·zero}
 use Rattle.lines.proofs.ListLaws.{drop-next, both}
-use Rattle.lines.proofs.PageLaws.{put-room}
+use Rattle.lines.proofs.PageLaws.{put-room, puts-size, Fronted, puts-front}
 use Rattle.lines.specs.Page.{Page, page, put, puts}
 use Rattle.lines.specs.Octet.{digitOf, allHex, pairs, isNone, areOctets, octetsOf, octetsRead, octetsLeft, glyphOf, octetText, hexText, octetsText}
 use Rattle.lines.specs.declared.octet.OctetsRead.{OctetsRead}
@@ -150,6 +152,64 @@ module _ (s l : List ℕ) where
     pub read-all : (l₁ : List ℕ) → areOctets s ≡ true → length s / 2 ≤ length l → l₁ ≡ puts (pairs s) (page l 0) .held → Answers (OctetsRead.Octets (length s / 2)) l₁
     unfolding octetsOf octetsRead octetsLeft
     read-all l₁ e h k = (rw (n, e, pairs-length s, le-leb (length s / 2) (length l) h), rw (n, e, pairs-length s, le-leb (length s / 2) (length l) h) k)
+
+-- ---- what the answer says of a word
+
+differ : {A : Type 0} → _≡_ {A = ℕ} 0 1 → A
+differ z = absurd (omega arith)
+
+-- octets that fit stand at the buffer's start
+laid-front : (bs l : List ℕ) → length bs ≤ length l → take (length bs) (puts bs (page l 0) .held) ≡ bs
+laid-front bs l h =
+    let f : Fronted bs l 0 (puts bs (page l 0)) = puts-front bs l in
+    let e : puts bs (page l 0) .at ≡ length bs = f .place ∙ (let m : min (0 + length bs) (length l) ≡ length bs = omega arith in m) in
+    ap (λ (n : ℕ). take n (puts bs (page l 0) .held)) (sym e) ∙ f .front ∙ take-all (length l) bs h
+
+pub octets-found : (n : ℕ) (m : Option (List ℕ)) (l l₁ : List ℕ) → OctetsRead.Octets n ≡ octetsRead m (length l) → l₁ ≡ octetsLeft m l
+    → (some (take n l₁) ≡ m) × (n ≤ length l₁)
+unfolding octetsRead octetsLeft
+octets-found n none l l₁ h k = differ (cc)
+octets-found n (some bs) l l₁ h k = go (leb (length bs) (length l)) refl h k
+  where
+    go : (b : Bool) → leb (length bs) (length l) ≡ b → OctetsRead.Octets n ≡ cond b (OctetsRead.Octets (length bs)) OctetsRead.NoRoom
+        → l₁ ≡ cond b (puts bs (page l 0) .held) l → (some (take n l₁) ≡ some bs) × (n ≤ length l₁)
+    go true e i j =
+        let fits : length bs ≤ length l = leb-true (length bs) (length l) e in
+        let c : n ≡ length bs = cc in
+        let s : length l₁ ≡ length l = ap length j ∙ puts-size bs (page l 0) in
+        (ap some ((λ t. take (c t) (j t)) ∙ laid-front bs l fits), omega arith)
+    go false e i j = differ (cc)
+
+pub octets-not : (m : Option (List ℕ)) (room : ℕ) → OctetsRead.NotOctets ≡ octetsRead m room → none ≡ m
+unfolding octetsRead
+octets-not none room h = refl
+octets-not (some bs) room h = go (leb (length bs) room) h
+  where
+    go : (b : Bool) → OctetsRead.NotOctets ≡ cond b (OctetsRead.Octets (length bs)) OctetsRead.NoRoom → none ≡ some bs
+    go true i = differ (cc)
+    go false i = differ (cc)
+
+-- a word has no more octets than pairs of characters, so a buffer with room for those has room
+octets-few : (s bs : List ℕ) → octetsOf s ≡ some bs → length bs ≤ length s / 2
+unfolding octetsOf
+octets-few s bs h = go (isNone s) (areOctets s) h
+  where
+    go : (n b : Bool) → cond n (some []) (cond b (some (pairs s)) none) ≡ some bs → length bs ≤ length s / 2
+    go true b e = let k : [] ≡ bs = cc in omega (arith, ap length k)
+    go false true e = let k : pairs s ≡ bs = cc in omega (arith, ap length k, pairs-length s)
+    go false false e = differ (cc)
+
+pub octets-room : {A : Type 0} (s : List ℕ) (room : ℕ) → length s / 2 ≤ room → OctetsRead.NoRoom ≡ octetsRead (octetsOf s) room → A
+unfolding octetsRead
+octets-room {A} s room h k = go (octetsOf s) refl k
+  where
+    go : (m : Option (List ℕ)) → octetsOf s ≡ m → OctetsRead.NoRoom ≡ octetsRead m room → A
+    go none e i = differ (cc)
+    go (some bs) e i = at (leb (length bs) room) refl i
+      where
+        at : (b : Bool) → leb (length bs) room ≡ b → OctetsRead.NoRoom ≡ cond b (OctetsRead.Octets (length bs)) OctetsRead.NoRoom → A
+        at true t j = differ (cc)
+        at false t j = absurd (omega (arith, octets-few s bs e, leb-false (length bs) room t))
 
 -- ---- octets as text
 

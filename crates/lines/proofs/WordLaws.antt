@@ -15,13 +15,13 @@ use lib.Dec.{leb, ltb, eqb, eqb·zero-suc, eqb·suc-suc}
 use lib.IntN.{ℤ, pos, negsuc}
 use Rattle.bytes.specs.Bytes.{slice, indexOf, indexAfter}
 use Rattle.lines.specs.Page.{Page, page, puts}
-use Rattle.lines.specs.Number.{integerOf, integerAs, integerText}
+use Rattle.lines.specs.Number.{mapped, integerOf, integerAs, integerText}
 use Rattle.lines.specs.Word.{same, within, words, isSome, listed, integersOf, nearest, nearestOr, nearestIn, listOf, laidList, listRead, listLeft, moreText, listText}
 use Rattle.lines.specs.Octet.{isNone}
 use Rattle.lines.specs.declared.number.Integer.{Integer}
 use Rattle.lines.specs.declared.word.ListRead.{ListRead}
 use Rattle.lines.proofs.ListLaws.{drop-next, front, back}
-use Rattle.lines.proofs.PageLaws.{puts-append}
+use Rattle.lines.proofs.PageLaws.{puts-append, puts-size, Fronted, puts-front}
 
 -- ---- the first word of a line
 
@@ -285,3 +285,20 @@ list-long zs count n v e h k =
     let s : length (take n zs) ≡ n = length-take-le n zs (omega arith) in
     let t : getD (take n zs) 0 (pos 0) ≡ getD zs 0 (pos 0) = getD-take n zs 0 (pos 0) (omega arith) in
     (λ i. integerText ((k ∙ sym t) i) ++ moreText (drop 1 (take n zs))) ∙ list-some (take n zs) (pos 0) (λ z. h (sym s ∙ z)) ∙ ap listText (list-short zs count n e)
+
+-- ---- what the answer for a list says of it: its numbers stand at the buffer's start, as many as there is room for
+
+pub list-found : (n : ℕ) (m : Option (List ℤ)) (l l₁ : List ℤ) → ListRead.Values n ≡ listRead m l → l₁ ≡ listLeft m l
+    → (some (take n l₁) ≡ mapped (λ zs. take (length l) (map nearest zs)) m) × (n ≤ length l₁)
+unfolding listRead listLeft laidList
+list-found n none l l₁ h k = differ (cc)
+list-found n (some zs) l l₁ h k =
+    let f : Fronted (map nearest zs) l 0 (puts (map nearest zs) (page l 0)) = puts-front (map nearest zs) l in
+    let e : n ≡ puts (map nearest zs) (page l 0) .at = cc in
+    let s : length l₁ ≡ length l = ap length k ∙ puts-size (map nearest zs) (page l 0) in
+    (ap some ((λ t. take (e t) (k t)) ∙ f .front), omega (arith, f .place))
+
+pub list-not : (m : Option (List ℤ)) (l : List ℤ) → ListRead.NotList ≡ listRead m l → none ≡ m
+unfolding listRead
+list-not none l h = refl
+list-not (some zs) l h = differ (cc)

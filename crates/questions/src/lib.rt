@@ -6,4 +6,4 @@ pub use kind::Kind;
 pub use kind::kind_of;
 pub use split::Four;
 pub use split::cut_four;
-pub use word::number;
+pub use word::read_number;

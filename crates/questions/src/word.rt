@@ -20,7 +20,7 @@ fn least(n: u64, most: u64) -> u64
     if n < most { n } else { most }
 }
 
-pub fn number(word: &[u8], most: u64) -> Number
+pub fn read_number(word: &[u8], most: u64) -> Number
     ensures is { λ r. ⌜ numberIn r ≡ atMost most (now (word .entry)) ⌝ }
     ensures within { λ r. ⌜ NumberWithin r most ⌝ }
 {
@@ -37,10 +37,10 @@ pub enum Category {
     NotCategory,
 }
 
-pub fn category(word: &[u8]) -> Category
+pub fn read_category(word: &[u8]) -> Category
     ensures { λ r. ⌜ categoryIn r ≡ categoryOf (now (word .entry)) ⌝ }
 {
-    let Number::Value(n) = number(word, 256) else {
+    let Number::Value(n) = read_number(word, 256) else {
         return Category::NotCategory;
     };
     if n == 256 {
@@ -56,7 +56,7 @@ pub enum Octets {
 }
 
 // The buffer has room for as many octets as the word has pairs of characters.
-pub fn octets(word: &[u8], buffer: &mut [u8]) -> Octets
+pub fn read_octets(word: &[u8], buffer: &mut [u8]) -> Octets
     requires { ⌜ length (now word) / 2 ≤ length (now buffer) ⌝ }
     ensures is { λ r. ⌜ octetsIn r (now (buffer .exit)) ≡ octetsOf (now (word .entry)) ⌝ }
     ensures within { λ r. ⌜ OctetsWithin r (length (now (buffer .exit))) ⌝ }
@@ -74,7 +74,7 @@ pub enum Items {
     NotSet,
 }
 
-pub fn items(word: &[u8]) -> Items
+pub fn read_items(word: &[u8]) -> Items
     ensures { λ r. ⌜ setIn r ≡ frnsOf (now (word .entry)) ⌝ }
 {
     if lines::is_none(word) {
@@ -84,7 +84,7 @@ pub fn items(word: &[u8]) -> Items
     let mut set = ItemSet::EMPTY;
     loop {
         let e = lines::end_of(rest, b',');
-        let Number::Value(frn) = number(&rest[0..e], 63) else {
+        let Number::Value(frn) = read_number(&rest[0..e], 63) else {
             return Items::NotSet;
         };
         set = set.with(frn as usize);
