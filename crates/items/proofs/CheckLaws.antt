@@ -192,7 +192,7 @@ unfolding sizeOf
 size-is l i bs s h o = ap (λ m. m >>= (λ x. ok (length bs - length (x .1)))) (reads l i bs s h o) ∙ size-read l bs s o
 
 -- a row that is no item's
-no-item : (l : LayoutRow) (bs : List ℕ) → layoutIs l ≡ none → wholeOf l bs ≡ refused 21 0
+pub no-item : (l : LayoutRow) (bs : List ℕ) → layoutIs l ≡ none → wholeOf l bs ≡ refused 21 0
 unfolding layoutIs layoutBy wholeOf shapeOf shapeBy _>>=_
 no-item l bs h = go (l .0) refl
   where

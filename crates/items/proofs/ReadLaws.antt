@@ -145,7 +145,7 @@ unpacked step g (suc c) (fs ∷ gs) bs o s h e =
 
 -- ---- lists and other equal parts
 
-le-or-lt : (a b : ℕ) → (a ≤ b) ⊎ (b < a)
+pub le-or-lt : (a b : ℕ) → (a ≤ b) ⊎ (b < a)
 le-or-lt a b = go (leb a b) refl
   where
     go : (t : Bool) → leb a b ≡ t → (a ≤ b) ⊎ (b < a)

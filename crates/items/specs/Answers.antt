@@ -1,5 +1,5 @@
 -- What each function of this crate answers, in the words of the rules. Assumes nothing.
-use Prim.Native.Nat.{ℕ, _+_, _-_}
+use Prim.Native.Nat.{ℕ, suc, _+_, _-_}
 use mathlib.Core.Bool.{Bool, true, false}
 use mathlib.Core.Option.{Option, none, some}
 use mathlib.Core.List.{List, [], _∷_}
@@ -8,14 +8,21 @@ use lib.ListN.{length}
 use Rattle.rules.specs.Answer.{Answer, ok, refused, _>>=_, if_then_else_, expect_or_}
 use Rattle.rules.specs.Layout.{Layout, readItem}
 use Rattle.rules.specs.Presence.{placeAt}
-use Rattle.rules.specs.Record.{Place}
+use Rattle.rules.specs.Record.{Place, Category}
 use Rattle.rules.specs.Entry.{categories, profileAt}
 use Rattle.items.specs.declared.FrnFound.{FrnFound}
 use Rattle.items.specs.declared.FrnFound.the-variants.{Frn, NoItem}
 use Rattle.items.specs.declared.ItemCheck.{ItemCheck}
 use Rattle.items.specs.declared.ItemCheck.the-variants.{Whole, Refused}
+use Rattle.items.specs.declared.ItemRead.{ItemRead}
+use Rattle.items.specs.declared.ItemRead.the-variants as read
 
 -- ---- places
+
+-- the reference of the item at a place, 0 where there is none
+abbrev pub referenceIn : Option Place → ℕ
+referenceIn none = 0
+referenceIn (some p) = p .reference
 
 -- whether the item at a place has a reference
 abbrev pub isNamed : ℕ → Option Place → Bool
@@ -26,6 +33,11 @@ isNamed ref (some p) = eqb ref (p .reference)
 unfoldable pub frnAs : ℕ → ℕ → List (Option Place) → Option ℕ
 frnAs ref f [] = none
 frnAs ref f (p ∷ ps) = if isNamed ref p then some f else frnAs ref (f + 1) ps
+
+-- the index of a category in a list, or how long the list is
+unfoldable pub profileIn : ℕ → List Category → ℕ
+profileIn n [] = 0
+profileIn n (c ∷ cs) = if eqb n (c .cat) then 0 else suc (profileIn n cs)
 
 abbrev pub frnOf : FrnFound → Option ℕ
 frnOf (Frn f) = some f
@@ -48,3 +60,16 @@ unfoldable pub checkAt : ℕ → ℕ → List ℕ → Answer ℕ
 checkAt profile frn bs = do
   p ← expect placeAt (profileAt categories profile) frn or 21
   sizeOf (p .layout) bs
+
+-- ---- one item read
+
+-- how many fields, or the refusal
+abbrev pub readOf : ItemRead → Answer ℕ
+readOf (read.Fields n) = ok n
+readOf (read.Refused n p) = refused n p
+
+-- how many values an answer has
+unfoldable pub countOf : {A : Type 0} → Answer (List A) → Answer ℕ
+countOf m = do
+  vs ← m
+  ok (length vs)

@@ -1,3 +1,4 @@
 pub mod Tables
+pub mod Write
 pub mod Read
 pub mod Answers

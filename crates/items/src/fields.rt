@@ -1,11 +1,14 @@
 // The fields of a part, which is one number: they are cut off it from its highest bit down, each by its row of the table.
 use super::tables::FieldRow;
+use super::tables::SPARE;
 use super::tables::TWOS;
 use super::tables::field_at;
 ghost use mathlib.Core.Path.{_≡_};
-ghost use Prim.Native.Nat.{_≤_, _<_, _^_};
+ghost use Prim.Native.Nat.{_+_, _≤_, _<_, _^_};
+ghost use mathlib.Core.List.{[]};
+ghost use lib.Seq.{sets};
 ghost use lib.IntN.{pos, negsuc};
-ghost use Rattle.items.specs.Read.{rows, valueOf, within, width, legal};
+ghost use Rattle.items.specs.Read.{rows, valueOf, within, width, legal, shown, takes, values, count};
 
 // The power of two.
 pub fn pow2(k: u64) -> u64
@@ -81,4 +84,39 @@ pub fn fields_legal(n: u64, w: u64, a: usize, e: usize) -> bool
         i = i + 1;
     }
     true
+}
+
+// ---- storing
+
+// A field's value at a place of the output, unless the field is spare; the place after it.
+fn put(f: FieldRow, v: i64, out: &mut [i64; 8192], at: usize) -> usize
+    requires { ⌜ at + takes f ≤ 8_192 ⌝ }
+    ensures { λ r. ⌜ (r ≡ at + takes f) × (now (out .exit) ≡ sets (now (out .entry)) at (shown f v [])) ⌝ }
+{
+    if f.1 == SPARE {
+        return at;
+    }
+    out[at] = v;
+    at + 1
+}
+
+// The values of the fields of a number of w bits, from a place of the output on; the place after them.
+pub fn fields_store(n: u64, w: u64, a: usize, e: usize, out: &mut [i64; 8192], at: usize) -> usize
+    requires { ⌜ (e ≤ 113) × (w ≡ width (rows a e)) ⌝ }
+    requires { ⌜ (w ≤ 64) × (n < 2 ^ w) ⌝ }
+    requires { ⌜ at + count (rows a e) ≤ 8_192 ⌝ }
+    ensures { λ r. ⌜ (r ≡ at + count (rows a e)) × (now (out .exit) ≡ sets (now (out .entry)) at (values (rows a e) n)) ⌝ }
+{
+    let mut rest = n;
+    let mut left = w;
+    let mut i = a;
+    let mut k = at;
+    while i < e {
+        let f = field_at(i);
+        left = left - f.0;
+        k = put(f, value_of(f, rest >> left), out, k);
+        rest = rest % pow2(left);
+        i = i + 1;
+    }
+    k
 }

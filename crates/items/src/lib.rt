@@ -2,22 +2,27 @@
 mod fields;
 mod parts;
 mod tables;
+mod write;
 
 use parts::Shape;
+use parts::item_store;
 use parts::whole_of;
 use tables::FRNS;
 use tables::PROFILES;
 use tables::PlaceRow;
 use tables::layout_at;
 use tables::place_at;
+pub use write::ItemWritten;
+pub use write::write_item;
 ghost use mathlib.Core.Path.{_≡_};
 ghost use mathlib.Core.List.{List};
 ghost use Prim.Native.Nat.{_<_, _≤_, _+_};
 ghost use Rattle.rules.specs.Layout.{concat};
 ghost use Rattle.rules.specs.Presence.{present, placeAt};
-ghost use Rattle.rules.specs.Entry.{categories, profileAt};
-ghost use Rattle.items.specs.Tables.{placeIs};
-ghost use Rattle.items.specs.Answers.{isNamed, frnAs, frnOf, checkedOf, checkAt};
+ghost use Rattle.rules.specs.Answer.{expect_or_};
+ghost use Rattle.rules.specs.Entry.{categories, profileAt, layoutOf, readOne, leaves};
+ghost use Rattle.items.specs.Tables.{placeIs, layoutIs, layoutAt};
+ghost use Rattle.items.specs.Answers.{referenceIn, isNamed, frnAs, frnOf, checkedOf, checkAt, profileIn, readOf, countOf};
 
 // ---- where an item stands
 
@@ -50,6 +55,17 @@ fn is_named(profile: usize, frn: usize, reference: u16) -> bool
         return false;
     }
     reference == p.1
+}
+
+// The reference of the item of a profile at an FRN, the number after its slash; 0 where there is none.
+pub fn reference_of(profile: usize, frn: usize) -> u16
+    ensures { λ r. ⌜ r ≡ referenceIn (placeAt (profileAt categories profile) frn) ⌝ }
+{
+    let p = place_of(profile, frn);
+    if p.0 == 0 {
+        return 0;
+    }
+    p.1
 }
 
 // The FRN of an item of a profile.
@@ -91,5 +107,65 @@ pub fn check_item(profile: usize, frn: usize, part: &[u8]) -> ItemCheck
     match whole_of(layout_at(p.0), part) {
         Shape::Parts { count: _, long } => ItemCheck::Whole(long),
         Shape::Refused { number } => ItemCheck::Refused { number, place: 0 },
+    }
+}
+
+// ---- reading an item
+
+// The index of a category's profile: past the last for any other category.
+pub fn profile_of(category: u8) -> usize
+    ensures { λ r. ⌜ r ≡ profileIn category categories ⌝ }
+{
+    if category == 17 {
+        return 0;
+    }
+    if category == 18 {
+        return 1;
+    }
+    PROFILES
+}
+
+// The place of the layout of an item, by its category and reference: that of no item where there is none.
+fn layout_of(category: u8, reference: u16) -> usize
+    ensures { λ r. ⌜ (r < 51) × ((expect layoutIs (layoutAt r) or 21) ≡ layoutOf category reference) ⌝ }
+{
+    let profile = profile_of(category);
+    match frn_of(profile, reference) {
+        FrnFound::Frn(frn) => {
+            let p = place_of(profile, frn);
+            p.0
+        }
+        FrnFound::NoItem => 0,
+    }
+}
+
+// What reading an item answers.
+pub enum ItemRead {
+    // How many fields it has.
+    Fields { count: usize },
+    // The number of the refusal, and its place, counted from the item's start.
+    Refused { number: u8, place: usize },
+}
+
+// The fields of an item that is all of the octets lent, from its highest bit down, at the start of the output: 21 for a reference that is no
+// item of the category, and for any other category; 9, 10, 9 of the body, 11; 18 where octets follow. A refusal changes nothing.
+pub fn read_item(category: u8, reference: u16, item: &[u8], fields: &mut [i64; 8192]) -> ItemRead
+    ensures answer { λ r. ⌜ readOf r ≡ countOf (readOne category reference (now (item .entry))) ⌝ }
+    ensures left { λ r. ⌜ now (fields .exit) ≡ leaves (readOne category reference (now (item .entry))) (now (fields .entry)) ⌝ }
+{
+    let l = layout_at(layout_of(category, reference));
+    match whole_of(l, item) {
+        Shape::Refused { number } => ItemRead::Refused { number, place: 0 },
+        Shape::Parts { count, long } => {
+            if long < item.len() {
+                return ItemRead::Refused {
+                    number: 18,
+                    place: long,
+                };
+            }
+            ItemRead::Fields {
+                count: item_store(l, item, count, fields),
+            }
+        }
     }
 }

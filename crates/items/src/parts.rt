@@ -1,5 +1,6 @@
 // The parts of an item, end to end: how many there are and how many octets they take, and their fields, part by part.
 use super::fields::fields_legal;
+use super::fields::fields_store;
 use super::tables::EXTENDED;
 use super::tables::FIXED;
 use super::tables::GroupRow;
@@ -12,8 +13,9 @@ ghost use mathlib.Core.Path.{_≡_};
 ghost use mathlib.Core.Bool.{true};
 ghost use Prim.Native.Nat.{_+_, _-_, _*_, _%_, _≤_, _<_, _^_};
 ghost use lib.ListN.{length, take, drop};
-ghost use Rattle.rules.specs.Layout.{joined};
-ghost use Rattle.items.specs.Read.{rowsAt, partAt, legal, span, partSound, partsSound, partsLegal, shapeIs, chain, listShape, headOf, shapeOf, wholeOf, rowSound};
+ghost use lib.Seq.{sets};
+ghost use Rattle.rules.specs.Layout.{joined, concat};
+ghost use Rattle.items.specs.Read.{rowsAt, partAt, legal, span, partSound, partsSound, partsLegal, values, count, holds, partValues, shapeIs, chain, listShape, headOf, stepOf, shapeOf, wholeOf, rowSound};
 ghost use lib.Dec.{eqb};
 ghost use Rattle.items.specs.Tables.{groupAt};
 
@@ -214,4 +216,73 @@ pub fn whole_of(l: LayoutRow, s: &[u8]) -> Shape
         return shape;
     }
     Shape::Refused { number: 11 }
+}
+
+// ---- storing
+
+// The values of the part at a place, by a group, from a place of the output on; the place after them.
+fn part_store(
+    s: &[u8],
+    at: usize,
+    group: usize,
+    step: usize,
+    out: &mut [i64; 8192],
+    q: usize,
+) -> usize
+    requires { ⌜ (step ≤ 1) × (group < 52) × (partSound step (groupAt group) ≡ true) × (at + groupAt group .0 ≤ length (now s)) ⌝ }
+    requires { ⌜ q + count (rowsAt group) ≤ 8_192 ⌝ }
+    ensures { λ r. ⌜ (r ≡ q + count (rowsAt group)) × (now (out .exit) ≡ sets (now (out .entry)) q (values (rowsAt group) (partAt step group (drop at (now (s .entry)))))) ⌝ }
+{
+    let r = group_at(group);
+    let size = r.0;
+    let w = 8 * size - step;
+    let n = number_at(s, at, size) >> step;
+    fields_store(n, w as u64, r.1, r.2, out, q)
+}
+
+// The values of so many parts, at the start of the output; how many they are.
+pub fn parts_store(
+    s: &[u8],
+    at: usize,
+    parts: usize,
+    group: usize,
+    step: usize,
+    out: &mut [i64; 8192],
+) -> usize
+    requires { ⌜ (step ≤ 1) × (partsSound step group parts ≡ true) × (at + span step group parts ≤ length (now s)) ⌝ }
+    requires { ⌜ holds step group parts ≤ 8_192 ⌝ }
+    ensures { λ r. ⌜ (r ≡ holds step group parts) × (now (out .exit) ≡ sets (now (out .entry)) 0 (concat (partValues step group parts (drop at (now (s .entry)))))) ⌝ }
+{
+    let mut p = at;
+    let mut g = group;
+    let mut k = parts;
+    let mut q: usize = 0;
+    while 0 < k {
+        q = part_store(s, p, g, step, out, q);
+        let r = group_at(g);
+        p = p + r.0;
+        g = g + step;
+        k = k - 1;
+    }
+    q
+}
+
+// Whether each part has its own group, and an FX bit.
+fn step_of(kind: u8) -> usize
+    ensures { λ r. ⌜ (r ≡ stepOf kind) × (r ≤ 1) ⌝ }
+{
+    if kind == EXTENDED {
+        return 1;
+    }
+    0
+}
+
+// The values of an item with so many parts, at the start of the output; how many they are.
+pub fn item_store(l: LayoutRow, s: &[u8], parts: usize, out: &mut [i64; 8192]) -> usize
+    requires { ⌜ (partsSound (stepOf (l .0)) (l .3) parts ≡ true) × (headOf (l .0) + span (stepOf (l .0)) (l .3) parts ≤ length (now s)) ⌝ }
+    requires { ⌜ holds (stepOf (l .0)) (l .3) parts ≤ 8_192 ⌝ }
+    ensures { λ r. ⌜ (r ≡ holds (stepOf (l .0)) (l .3) parts) × (now (out .exit) ≡ sets (now (out .entry)) 0 (concat (partValues (stepOf (l .0)) (l .3) parts (drop (headOf (l .0)) (now (s .entry)))))) ⌝ }
+{
+    let kind = l.0;
+    parts_store(s, head_of(kind), parts, l.3, step_of(kind), out)
 }

@@ -1,0 +1,75 @@
+-- `items::read_item` meets its contract: the item is checked, and then its values are stored. Assumes nothing.
+use mathlib.Core.Path.{_≡_, sym, ap, _∙_, subst}
+use mathlib.Core.Bool.{true}
+use native.Mathlib.Omega.{arith}
+use denote.Ref.{now}
+use lib.IntN.{ℤ}
+use mathlib.Core.List.{List}
+use Rattle.rules.proofs.AnswerLaws.{Octets}
+use Rattle.items.specs.declared.tables.LayoutRow.{LayoutRow}
+use Rattle.items.specs.Read.{shapeIs, rowSound}
+use Rattle.items.proofs.CheckLaws.{octets-known}
+use Rattle.items.proofs.OneLaws.{Answered, one-refused, one-longer, one-fits, one-whole}
+use Rattle.items.proofs.TableLaws.{layout-sound}
+use borrow.Author.Needs.{needs}
+use Rattle.items.proofs.read_item.Statement.{statement}
+use Rattle.items.proofs.read_item.Tie as tie
+use Rattle.items.proofs.read_item.Reads as reads
+use Rattle.items.proofs.read_item.Lts as lts
+use Rattle.items.proofs.layout_of.Reads as layout-of-reads
+use Rattle.items.proofs.parts.item_store.Reads as item-store-reads
+use Rattle.items.proofs.parts.whole_of.Reads as whole-of-reads
+use Rattle.items.proofs.tables.layout_at.Reads as layout-at-reads
+
+-- the octets of the item
+octets-at : (c : tie.After-shared-slice-known) → Octets (c .before .args .item .now)
+octets-at c = octets-known (c .before .args .item .now) (λ i. omega (arith, c .shared-slice-known .given i))
+
+layout-of-requires : tie.Need-layout-of-requires
+layout-of-requires c κs = search needs
+
+layout-at-requires : tie.Need-layout-at-requires
+layout-at-requires c κs = search needs
+
+whole-of-requires : tie.Need-whole-of-requires
+whole-of-requires c κs = subst (λ (l : LayoutRow). rowSound l ≡ true) (sym (c .layout-at .ensures)) (layout-sound _ (c .before .layout-of .ensures .0))
+
+enum-known-number : tie.Need-enum-known-number
+enum-known-number c = search needs
+
+enum-known-count : tie.Need-enum-known-count
+enum-known-count c = search needs
+
+returns : tie.Need-returns
+returns c =
+    let a = one-longer _ _ _ _ (c .before .before .before .before .before .before .layout-of .ensures .1) (layout-sound _ (c .before .before .before .before .before .before .layout-of .ensures .0)) (octets-at (c .before .before .before .before .before .before .before)) _ (c .before .before .before .before .before .layout-at .ensures) _ _ (sym (ap shapeIs (c .before .before .count .given .1)) ∙ c .before .before .before .before .whole-of .ensures) (c .if1 .taken) in
+    (a .answer, a .left)
+
+item-store-requires : tie.Need-item-store-requires
+item-store-requires c κs =
+    let f = one-fits _ _ _ _ (c .before .before .before .before .before .before .before .layout-of .ensures .1) (layout-sound _ (c .before .before .before .before .before .before .before .layout-of .ensures .0)) (octets-at (c .before .before .before .before .before .before .before .before)) (now (c .before .before .before .before .before .before .before .before .before .args .fields)) (c .before .before .before .before .before .before .layout-at .ensures) _ _ (sym (ap shapeIs (c .before .before .before .count .given .1)) ∙ c .before .before .before .before .before .whole-of .ensures) in
+    ((f .sound, omega (arith, f .spans, f .there)), f .room)
+
+returns-2 : tie.Need-returns-2
+returns-2 c =
+    let a = one-refused _ _ _ _ (c .before .before .before .before .before .layout-of .ensures .1) (layout-sound _ (c .before .before .before .before .before .layout-of .ensures .0)) (octets-at (c .before .before .before .before .before .before)) _ (c .before .before .before .before .layout-at .ensures) _ (sym (ap shapeIs (c .before .number .given .1)) ∙ c .before .before .before .whole-of .ensures) in
+    (a .answer, a .left)
+
+returns-3 : tie.Need-returns-3
+returns-3 c =
+    let a = one-whole _ _ _ _ (c .before .before .before .before .before .before .before .before .layout-of .ensures .1) (layout-sound _ (c .before .before .before .before .before .before .before .before .layout-of .ensures .0)) (octets-at (c .before .before .before .before .before .before .before .before .before)) _ (c .before .before .before .before .before .before .before .layout-at .ensures) _ _ (sym (ap shapeIs (c .before .before .before .before .count .given .1)) ∙ c .before .before .before .before .before .before .whole-of .ensures) (c .before .before .if1 .left) _ _ (c .item-store .ensures .0) (c .item-store .ensures .1) in
+    (a .answer, a .left)
+
+pub read-item-spec : {M : Type 1} → statement M
+read-item-spec =
+    tie.close
+    (tie.spec
+    layout-of-requires
+    layout-at-requires
+    whole-of-requires
+    enum-known-number
+    enum-known-count
+    returns
+    item-store-requires
+    returns-2
+    returns-3)
