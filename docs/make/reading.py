@@ -5,6 +5,7 @@ vectors and to try the tables; it shares nothing with the crates but the documen
 speed: every answer starts again from the block's first octet.
 """
 
+import re
 import sys
 
 import tables
@@ -298,6 +299,25 @@ def answer_add(used, room, frns, items):
     return "ok %d %s" % (len(whole), whole.hex().upper())
 
 
+HEX = r"(-|(?:[0-9A-Fa-f]{2})+)"
+NUMBER = r"([0-9]+)"
+CAT = r"(0*(?:[0-9]{1,2}|1[0-9]{2}|2[0-4][0-9]|25[0-5]))"
+FIELDS = r"(-|-?[0-9]+(?:,-?[0-9]+)*)"
+FRNS = r"(-|[0-9]+(?:,[0-9]+)*)"
+
+FORMS = {
+    "block": [HEX],
+    "recording": [HEX],
+    "read": [CAT, NUMBER, HEX],
+    "write": [CAT, NUMBER, NUMBER, FIELDS],
+    "add": [HEX, NUMBER, FRNS, HEX],
+    "find": [HEX, NUMBER, NUMBER],
+    "record": [HEX, NUMBER],
+}
+
+LONGEST = 65535  # characters of a line
+
+
 def octets_of(word):
     return b"" if word == "-" else bytes.fromhex(word)
 
@@ -308,7 +328,11 @@ def numbers_of(word):
 
 def answer(line):
     """The answer to one line."""
+    if len(line) > LONGEST:
+        return "too long"
     kind, *words = line.split(" ")
+    if not re.fullmatch(" ".join(FORMS.get(kind, ["(?!)"])), " ".join(words)):
+        return "bad line"
     try:
         if kind == "block":
             return answer_block(octets_of(*words))
@@ -326,7 +350,6 @@ def answer(line):
             return answer_record(octets_of(words[0]), int(words[1]))
     except Refused as fault:
         return fault.line()
-    return "bad line"
 
 
 if __name__ == "__main__":

@@ -28,7 +28,7 @@ use Rattle.items.specs.declared.tables.LayoutRow.{LayoutRow}
 use Rattle.items.specs.declared.tables.PlaceRow.{PlaceRow}
 use Rattle.items.specs.declared.tables.FieldRow.{FieldRow}
 use Rattle.items.specs.Tables.{fields, fieldRow, fieldAt, ranges, least, greatest, fieldWord, fieldWords, groupWord, groupWords, layoutWord, layoutWords, layoutsIn, referencesIn, isFree, groups, layouts, groupRows, groupAt, layoutRows, layoutBy, layoutIs, layoutAt, nowhere, profileRows, placeRowAt, with, placeIs}
-use Rattle.items.specs.Answers.{isNamed, frnAs}
+use Rattle.items.specs.Answers.{referenceIn, isNamed, frnAs}
 use Rattle.items.specs.Read.{rows, isSpare, holds, partsSound, rowSound}
 
 -- ---- places
@@ -265,6 +265,15 @@ named-with ref n (some l) = refl
 pub place-named : (ref : ℕ) (r : PlaceRow) → r .0 < 51 → isNamed ref (placeIs r) ≡ (not (eqb (r .0) 0) && eqb ref (r .1))
 unfolding placeIs
 place-named ref r h = named-with ref (r .1) (layoutIs (layoutAt (r .0))) ∙ ap (λ t. t && eqb ref (r .1)) (present-layout (r .0) h)
+
+reference-with : (n : ℕ) (x : Option Layout) → referenceIn (with n x) ≡ (if present x then n else 0)
+unfolding if_then_else_
+reference-with n none = refl
+reference-with n (some l) = refl
+
+pub place-reference : (r : PlaceRow) → r .0 < 51 → referenceIn (placeIs r) ≡ (if not (eqb (r .0) 0) then r .1 else 0)
+unfolding placeIs
+place-reference r h = reference-with (r .1) (layoutIs (layoutAt (r .0))) ∙ ap (λ t. if t then r .1 else 0) (present-layout (r .0) h)
 
 -- ---- the search for a reference
 

@@ -19,6 +19,11 @@ use Rattle.items.specs.declared.ItemRead.the-variants as read
 
 -- ---- places
 
+-- the reference of the item at a place, 0 where there is none
+abbrev pub referenceIn : Option Place → ℕ
+referenceIn none = 0
+referenceIn (some p) = p .reference
+
 -- whether the item at a place has a reference
 abbrev pub isNamed : ℕ → Option Place → Bool
 isNamed ref none = false

@@ -29,7 +29,7 @@ ghost use Rattle.rules.specs.Entry.{categories, profileAt, layoutOf, readOne, l
 ghost use Rattle.items.specs.Tables.{placeIs, layoutIs, layoutAt, groupAt, placeRowAt};
 ghost use Rattle.items.specs.Read.{partSound, wholeSize};
 ghost use Rattle.items.specs.FieldRules.{singleSize};
-ghost use Rattle.items.specs.Answers.{isNamed, frnAs, frnOf, checkedOf, checkAt, profileIn, readOf, countOf};
+ghost use Rattle.items.specs.Answers.{referenceIn, isNamed, frnAs, frnOf, checkedOf, checkAt, profileIn, readOf, countOf};
 
 // ---- where an item stands
 
@@ -66,6 +66,17 @@ fn is_named(profile: usize, frn: usize, reference: u16) -> bool
         return false;
     }
     reference == p.1
+}
+
+// The reference of the item of a profile at an FRN, the number after its slash; 0 where there is none.
+pub fn reference_of(profile: usize, frn: usize) -> u16
+    ensures { λ r. ⌜ r ≡ referenceIn (placeAt (profileAt categories profile) frn) ⌝ }
+{
+    let p = place_of(profile, frn);
+    if p.0 == 0 {
+        return 0;
+    }
+    p.1
 }
 
 // The FRN of an item of a profile.

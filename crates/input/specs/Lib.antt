@@ -1,0 +1,2 @@
+-- What the crate's contracts cite. Assumes nothing.
+pub mod Filled
