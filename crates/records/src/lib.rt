@@ -56,6 +56,7 @@ fn usable(profile: usize) -> ItemSet
     }
 }
 
+// An octet as a wider number.
 fn wide(x: u8) -> u64
     ensures { λ r. ⌜ (r ≡ x) × (r < 256) ⌝ }
 {
@@ -262,7 +263,7 @@ impl RecordMap {
 pub enum RecordChecked {
     // It is whole: where it ends.
     Ends { end: usize },
-    // The number of the refusal and its place, counted from where the part's own place is.
+    // The number of the refusal and its place, counted as the part's own place is.
     Refused { number: u8, place: usize },
 }
 
@@ -272,7 +273,7 @@ pub struct RecordWalked {
     pub map: RecordMap,
 }
 
-// How far a walk over items came: its answer, and beside it what a record needs.
+// How far a walk over items came: its answer, and beside it what the map and the message type need.
 struct ItemsWalked {
     checked: RecordChecked,
     starts: [u16; 35],
@@ -280,6 +281,7 @@ struct ItemsWalked {
     kind: u8,
 }
 
+// A walk that an item's refusal ended.
 fn stopped(number: u8, place: usize) -> ItemsWalked
     ensures { λ r. ⌜ r .checked ≡ RecordChecked.Refused number place ⌝ }
 {
@@ -348,6 +350,7 @@ fn walk_items(profile: usize, set: ItemSet, part: &[u8], at: usize) -> ItemsWalk
 
 // ---- a record
 
+// A record that is refused.
 fn refused(number: u8, place: usize) -> RecordWalked
     ensures { λ r. ⌜ (r .checked ≡ RecordChecked.Refused number place) × (r .map ≡ absent) ⌝ }
 {
