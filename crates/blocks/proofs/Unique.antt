@@ -6,7 +6,6 @@ use mathlib.Core.Path.{_≡_, sym, ap, ap₂, _∙_}
 use mathlib.Core.List.{List}
 use native.Mathlib.Omega.{arith}
 use denote.Ref.{RefT}
-use Rattle.rules.specs.Answer.{Answer, ok, refused}
 use Rattle.rules.specs.Entry.{checkBlock, findRecord, findItem, addRecord, leavesAdded, leastLength}
 use Rattle.rules.proofs.AnswerLaws.{ok-inj}
 use Rattle.records.specs.Sets.{frnsOf}

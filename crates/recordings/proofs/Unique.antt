@@ -5,7 +5,6 @@ use Prim.Native.Nat.{ℕ}
 use mathlib.Core.Path.{_≡_, sym, ap, ap₂, _∙_}
 use mathlib.Core.List.{List}
 use native.Mathlib.Omega.{arith}
-use Rattle.rules.specs.Answer.{Answer}
 use Rattle.rules.specs.Entry.{checkRecording}
 use Rattle.rules.proofs.AnswerLaws.{ok-inj}
 use Rattle.recordings.specs.declared.RecordingChecked.{RecordingChecked}
