@@ -1,22 +1,20 @@
 -- Adding a record: octets laid one by one, and what the output then holds.
 --
 -- In order: a loop that lays octets; the whole of what is laid; the answers of adding. Assumes nothing.
-use Prim.Native.Nat.{ℕ, zero, suc, _+_, _-_, _*_, _/_, _%_, _^_, _≤_, _<_}
-use mathlib.Core.Path.{_≡_, refl, sym, ap, ap₂, _∙_, subst}
-use mathlib.Core.List.{List, [], _∷_, _++_, append-assoc, append-nil}
+use Prim.Native.Nat.{ℕ, zero, suc, _+_, _-_, _/_, _%_, _≤_, _<_}
+use mathlib.Core.Path.{_≡_, refl, sym, ap, ap₂, _∙_}
+use mathlib.Core.List.{List, [], _∷_, _++_, append-assoc}
 use native.Mathlib.Omega.{arith}
 use native.Mathlib.Nat.{div-one, le-refl}
 use native.Mathlib.Numerals.{add-one}
-use lib.ListN.{length, take, drop, getD, set, length-append, length-set, length-take, length-drop}
+use lib.ListN.{length, take, drop, getD, set, length-append, length-set, length-drop}
 use lib.Seq.{paste, paste-zero, paste-suc, length-paste, take-paste, drop-paste, take-length, drop-drop, drop-set-lt, length-take-le}
-use lib.Dec.{T, eqb, le→leb, eqb→eq}
+use lib.Dec.{eqb, le→leb, eqb→eq}
 use borrow.Author.Tests.{lt-leb}
-use Rattle.rules.specs.Answer.{ok, refused, _>>=_, octetsOf}
+use Rattle.rules.specs.Answer.{ok, refused, _>>=_}
 use Rattle.rules.specs.Layout.{octets}
-use Rattle.rules.specs.Presence.{writePresence, allUsable, setFlags}
-use Rattle.rules.specs.Record.{Category}
 use Rattle.rules.specs.Entry.{over, newRecord, joinRecord, added, refusedOld, refusedNew, inNew, inOld, Added, addRecord, leavesAdded}
-use Rattle.rules.proofs.AnswerLaws.{ok-inj, bind-in, bind-out, bind-elim, need-in, need-out, need-elim, Octets}
+use Rattle.rules.proofs.AnswerLaws.{ok-inj, bind-in, bind-out, bind-elim, need-in, need-out, Octets}
 use Rattle.rules.proofs.EntryLaws.{over-is}
 use Rattle.blocks.specs.Read.{Opening, openFrom}
 use Rattle.blocks.proofs.HeadLaws.{headed, len-few, old-none, old-is}

@@ -2,30 +2,29 @@
 -- the FSPEC of the set and the items as they were lent.
 --
 -- In order: a new record; the old block; the block then; a refusal. Assumes nothing.
-use Prim.Native.Nat.{ℕ, suc, _+_, _-_, _^_, _≤_, _<_}
+use Prim.Native.Nat.{ℕ, _+_, _-_, _≤_, _<_}
 use mathlib.Core.Path.{_≡_, refl, sym, ap, ap₂, _∙_, subst}
 use mathlib.Core.Bool.{Bool, true, false}
 use mathlib.Core.Option.{some}
-use mathlib.Core.List.{List, [], _∷_, _++_, map, append-assoc, append-nil}
+use mathlib.Core.List.{List, [], _∷_, _++_, append-assoc, append-nil}
 use native.Mathlib.Omega.{arith}
 use lib.Dec.{T, eqb, leb→le, ltb→lt, lt→ltb, eqb→eq}
 use lib.ListN.{length, take, drop, length-append, length-drop}
 use lib.Seq.{length-take-le, take-all, take-at, drop-at}
-use Rattle.rules.specs.Answer.{Answer, ok, refused, _>>=_, need_or_then_, later, octetsOf}
+use Rattle.rules.specs.Answer.{Answer, ok, refused, _>>=_, octetsOf}
 use Rattle.rules.specs.Layout.{octets, writeNum}
-use Rattle.rules.specs.Presence.{present, writePresence, writeRows, writePlaces, allUsable, setFlags}
-use Rattle.rules.specs.Record.{Category, Record, judge, writePlace, writeRecord, readRecord}
+use Rattle.rules.specs.Presence.{writePresence, writePlaces, setFlags}
+use Rattle.rules.specs.Record.{Category, Record, judge, writeRecord, readRecord}
 use Rattle.rules.specs.Category017.{category017}
 use Rattle.rules.specs.Category018.{category018}
-use Rattle.rules.specs.Block.{Block, Head, categoryOf, writeAll, readUpTo, readAll, writeBlock, readHead, readBody}
+use Rattle.rules.specs.Block.{Block, categoryOf, writeAll, readUpTo, readAll, writeBlock, readBody}
 use Rattle.rules.specs.Entry.{categories, checkBlock, oldBlock, newRecord, joinRecord, Added, added, refusedOld, refusedNew, inNew, inOld, addRecord, leavesAdded}
-use Rattle.rules.proofs.AnswerLaws.{refused-ok, ok-inj, bind-in, bind-elim, need-in, need-elim, expect-in, later-inv, nil-of-length, octetsOf-ok, Octets, octets-right, octets-left, Split}
+use Rattle.rules.proofs.AnswerLaws.{ok-inj, bind-in, bind-elim, need-in, need-elim, expect-in, later-inv, nil-of-length, octetsOf-ok, Octets}
 use Rattle.rules.proofs.LayoutLaws.{octets-take, num-length}
 use Rattle.rules.proofs.PresenceLaws.{rows-forth}
 use Rattle.rules.proofs.RecordLaws.{place-laws, judge-same, record-laws, record-starts}
 use Rattle.rules.proofs.BlockLaws.{all-back, all-forth, all-snoc, HeadCame, head-forth, single-back}
 use Rattle.rules.proofs.Tables.{everyCategory, category-every}
-use Rattle.blocks.proofs.LoopLaws.{octets-drop}
 use Rattle.blocks.proofs.SetLaws.{sevens, presence-writes}
 
 -- ---- a new record

@@ -11,13 +11,13 @@ use native.Mathlib.Omega.{arith}
 use native.Mathlib.Nat.{le-of-eq, add-zero}
 use borrow.Author.Tests.{ltb-true, ltb-false}
 use lib.Dec.{T, leb, ltb, eqb, leb→le, eqb→eq}
-use lib.ListN.{length, take, drop, getD, getElem?, length-append, List·getD-eq-default}
+use lib.ListN.{length, drop, getD, getElem?, length-append, List·getD-eq-default}
 use lib.Seq.{drop-at}
-use Rattle.rules.specs.Answer.{Answer, ok, refused, _>>=_, need_or_then_, if_then_else_, expect_or_, later, octetsOf}
+use Rattle.rules.specs.Answer.{Answer, ok, refused, _>>=_, expect_or_, octetsOf}
 use Rattle.rules.specs.Layout.{Layout, Values, concat, readItem, writeItem}
 use Rattle.rules.specs.Presence.{placeAt}
 use Rattle.rules.specs.Record.{Place, Category, Record, places, items, valueOf, readRecord, writeRecord, writePlace}
-use Rattle.rules.specs.Block.{Block, Head, categoryOf, readAll, writeAll, writeBlock, readBlock}
+use Rattle.rules.specs.Block.{Block, categoryOf, readAll, writeAll, writeBlock}
 use Rattle.rules.specs.Entry.{categories, profileAt, Laid, laidAs, laid, laidItems, Numbered, numbered, RecordMap, startOf, mapOf, Opened, openBlock, findRecord, isItem, findItem, layoutAs}
 use Rattle.rules.proofs.AnswerLaws.{refused-ok, ok-inj, bind-in, bind-out, bind-elim, need-in, need-elim, need-out, expect-in, expect-out, expect-elim, later-in, later-out, if-inv, if-true, if-false, some-inj, none-some, T-true, octetsOf-ok, Octets}
 use Rattle.rules.proofs.BlockLaws.{single-forth}
@@ -27,12 +27,11 @@ use Rattle.rules.proofs.Tables.{category-every, distinct, tables-distinct, tabl
 use Rattle.rules.proofs.Demands.{items-lie, map-start}
 use Rattle.items.specs.Answers.{isNamed, frnAs, sizeOf, checkAt}
 use Rattle.records.specs.Sets.{categoryIn, categoryAt}
-use Rattle.records.specs.Answers.{mapIn}
 use Rattle.blocks.specs.declared.find.RecordPlace.the-variants as recordPlace
 use Rattle.blocks.specs.declared.find.RecordLocated.{RecordLocated}
 use Rattle.blocks.specs.declared.find.ItemLocated.the-variants as itemLocated
 use Rattle.blocks.specs.Found.{recordLocated, recordSpan, locatedOf, itemSpan}
-use Rattle.blocks.specs.Read.{headBy, Records, seekAt, Opening, opening, openFrom}
+use Rattle.blocks.specs.Read.{Records, seekAt, Opening, opening, openFrom}
 use Rattle.blocks.proofs.HeadLaws.{headed, len-few, OpenHead, open-head, opened-is}
 
 -- ---- the FRN of a reference

@@ -1,15 +1,15 @@
 -- A block by octets: its head, then the records in the octets that LEN leaves.
 --
 -- In order: the head; a block; a single block and the front of a recording, answer by answer. Assumes nothing.
-use Prim.Native.Nat.{ℕ, zero, suc, _+_, _-_, _*_, _^_, _≤_, _<_}
+use Prim.Native.Nat.{ℕ, suc, _+_, _-_, _*_, _≤_, _<_}
 use mathlib.Core.Path.{_≡_, refl, sym, ap, ap₂, _∙_, subst}
 use mathlib.Core.Bool.{Bool, true, false}
 use mathlib.Core.Option.{Option, none, some}
-use mathlib.Core.List.{List, [], _∷_, _++_}
+use mathlib.Core.List.{List, [], _∷_}
 use native.Mathlib.Omega.{arith}
 use native.Mathlib.Nat.{zero-add}
 use lib.Dec.{T, leb, ltb, eqb, leb→le, le→leb, lt→ltb, eqb→eq}
-use borrow.Author.Tests.{le-leb, lt-leb, lt-ltb, le-ltb, ltb-true, ltb-false, leb-true, leb-false, eq-eqb, ne-eqb}
+use borrow.Author.Tests.{lt-leb, le-ltb, ltb-true, ltb-false, leb-true, leb-false, ne-eqb}
 use lib.ListN.{length, take, drop, getD, length-drop}
 use lib.Seq.{take-all}
 use Rattle.rules.specs.Answer.{Answer, ok, refused, _>>=_, need_or_then_, if_then_else_, expect_or_, later}
@@ -26,7 +26,7 @@ use Rattle.blocks.specs.declared.check.BlockChecked.{BlockChecked}
 use Rattle.blocks.specs.declared.check.BlockChecked.the-variants as blockChecked
 use Rattle.blocks.specs.Answers.{checkedOf, openedBy}
 use Rattle.blocks.proofs.LoopLaws.{octets-at}
-use Rattle.blocks.specs.Read.{lenAt, headAt, headBy, countFrom, Opening, opening, openFrom, bodyAt, Front, checkFront}
+use Rattle.blocks.specs.Read.{lenAt, headAt, headBy, countFrom, opening, openFrom, bodyAt, checkFront}
 
 -- ---- the head
 

@@ -8,13 +8,12 @@ use mathlib.Core.Bool.{Bool, true, false, _&&_}
 use mathlib.Core.Option.{Option, none, some}
 use mathlib.Core.List.{List, [], _∷_}
 use native.Mathlib.Omega.{arith}
-use native.Mathlib.Nat.{add-zero, zero-add, add-assoc, pow-suc, le-trans, mul-div-cancel}
+use native.Mathlib.Nat.{add-zero, zero-add, add-assoc, pow-suc, mul-div-cancel}
 use native.Mathlib.Numerals.{add-one}
 use lib.Dec.{leb, ltb, eqb}
 use borrow.Author.Tests.{eqb-true, ltb-true, ltb-false}
 use lib.Pow.{pow-pos}
 use lib.ListN.{length, drop, getD, List·getD-eq-default}
-use lib.Seq.{drop-cons}
 use Rattle.rules.specs.Answer.{if_then_else_}
 use Rattle.rules.specs.Presence.{flags}
 use Rattle.rules.specs.Record.{Place}
@@ -22,7 +21,7 @@ use Rattle.rules.specs.Category017.{category017}
 use Rattle.rules.specs.Category018.{category018}
 use Rattle.rules.specs.Entry.{categories, profileAt, sumLeast, leastLength}
 use Rattle.rules.proofs.AnswerLaws.{both-left, both-right}
-use Rattle.blocks.specs.Least.{leastIn, leasts}
+use Rattle.blocks.specs.Least.{leastIn, leasts, firstOf}
 
 -- ---- a test at every number below a bound
 
@@ -30,16 +29,20 @@ abbrev below : ℕ → (ℕ → Bool) → Bool
 below zero t = true
 below (suc n) t = t n && below n t
 
-last-or : (i n : ℕ) → i < suc n → (i ≡ n) ⊎ (i < n)
-last-or i n l = go (ltb i n) refl
+below-or : (i n : ℕ) → (i < n) ⊎ (n ≤ i)
+below-or i n = go (ltb i n) refl
   where
-    go : (x : Bool) → ltb i n ≡ x → (i ≡ n) ⊎ (i < n)
-    go true e = inr (ltb-true i n e)
-    go false e = inl (omega (arith, ltb-false i n e))
+    go : (x : Bool) → ltb i n ≡ x → (i < n) ⊎ (n ≤ i)
+    go true e = inl (ltb-true i n e)
+    go false e = inr (ltb-false i n e)
 
 below-at : (n : ℕ) (t : ℕ → Bool) → below n t ≡ true → (i : ℕ) → i < n → t i ≡ true
 below-at zero t h i l = absurd (omega arith)
-below-at (suc n) t h i l = ⊎-elim (λ e. ap t e ∙ both-left (t n) (below n t) h) (λ m. below-at n t (both-right (t n) (below n t) h) i m) (last-or i n l)
+below-at (suc n) t h i l =
+    ⊎-elim
+    (λ m. below-at n t (both-right (t n) (below n t) h) i m)
+    (λ m. let e : i ≡ n = omega arith in ap t e ∙ both-left (t n) (below n t) h)
+    (below-or i n)
 
 -- ---- the list of least sizes by row
 
@@ -47,33 +50,48 @@ abbrev rowAt : ℕ → ℕ → List (Option Place)
 rowAt i k = getD (profileAt categories i) k []
 
 abbrev right : ℕ → ℕ → ℕ → Bool
-right i k j = eqb (getD leasts ((i * 5 + k) * 7 + j) 0) (leastIn (getD (rowAt i k) j none))
+right i k j = eqb (getD leasts (firstOf i + k * 7 + j) 0) (leastIn (getD (rowAt i k) j none))
 
-all-right : below 2 (λ i. below 5 (λ k. below 7 (λ j. right i k j))) ≡ true
-unfolding leasts categories category017 category018
+all-right : below 2 (λ i. below (length (profileAt categories i)) (λ k. below 7 (λ j. right i k j))) ≡ true
+unfolding leasts firstOf categories category017 category018
 all-right = refl
 
-pub size-is : (i k j : ℕ) → i < 2 → k < 5 → j < 7 → getD leasts ((i * 5 + k) * 7 + j) 0 ≡ leastIn (getD (rowAt i k) j none)
-size-is i k j p q r =
+no-profile : (i : ℕ) → 2 ≤ i → length (profileAt categories i) ≡ 0
+unfolding categories
+no-profile zero l = absurd (omega arith)
+no-profile (suc zero) l = absurd (omega arith)
+no-profile (suc (suc i)) l = refl
+
+pub size-is : (i k j : ℕ) → k < length (profileAt categories i) → j < 7 → getD leasts (firstOf i + k * 7 + j) 0 ≡ leastIn (getD (rowAt i k) j none)
+size-is i k j q r =
+    ⊎-elim
+    (λ p.
     eqb-true _ _
-    (below-at 7 (λ j. right i k j) (below-at 5 (λ k. below 7 (λ j. right i k j)) (below-at 2 (λ i. below 5 (λ k. below 7 (λ j. right i k j))) all-right i p) k q) j r)
+    (below-at 7 (λ j. right i k j)
+    (below-at (length (profileAt categories i)) (λ k. below 7 (λ j. right i k j)) (below-at 2 (λ i. below (length (profileAt categories i)) (λ k. below 7 (λ j. right i k j))) all-right i p) k q)
+    j r))
+    (λ p. absurd (omega (arith, no-profile i p)))
+    (below-or i 2)
 
--- a profile that is not there, and an octet past its FSPEC
-pub no-profile : (i k octet : ℕ) → 2 ≤ i → leastLength i k octet ≡ 0
-unfolding leastLength categories
-no-profile zero k octet l = absurd (omega arith)
-no-profile (suc zero) k octet l = absurd (omega arith)
-no-profile (suc (suc i)) k octet l = refl
-
-few-rows : (i : ℕ) → length (profileAt categories i) ≤ 5
-unfolding categories category017 category018
-few-rows zero = omega arith
-few-rows (suc zero) = omega arith
-few-rows (suc (suc i)) = omega arith
-
-pub no-octet : (i k octet : ℕ) → 5 ≤ k → leastLength i k octet ≡ 0
+-- an octet past the profile's FSPEC
+pub no-octet : (i k octet : ℕ) → length (profileAt categories i) ≤ k → leastLength i k octet ≡ 0
 unfolding leastLength
-no-octet i k octet l = ap (λ r. sumLeast r (flags 7 (octet / 2))) (List·getD-eq-default (profileAt categories i) [] (le-trans (few-rows i) l))
+no-octet i k octet l = ap (λ r. sumLeast r (flags 7 (octet / 2))) (List·getD-eq-default (profileAt categories i) [] l)
+
+-- the rows of each profile
+pub rows-017 : (i : ℕ) → i ≡ 0 → (0 ≡ firstOf i) × (3 ≡ length (profileAt categories i))
+unfolding firstOf categories category017
+rows-017 i e = rw e (refl, refl)
+
+pub rows-018 : (i : ℕ) → i ≡ 1 → (21 ≡ firstOf i) × (5 ≡ length (profileAt categories i))
+unfolding firstOf categories category017 category018
+rows-018 i e = rw e (refl, refl)
+
+pub rows-other : (i : ℕ) → (i ≡ 0 → ⊥) → (i ≡ 1 → ⊥) → (0 ≡ firstOf i) × (0 ≡ length (profileAt categories i))
+unfolding firstOf categories
+rows-other zero p q = absurd (p refl)
+rows-other (suc zero) p q = absurd (q refl)
+rows-other (suc (suc i)) p q = (refl, refl)
 
 -- ---- a turn of the loop that sums
 

@@ -7,3 +7,4 @@ pub mod SetLaws
 pub mod AddedLaws
 pub mod LeastLaws
 pub mod InsideLaws
+pub mod Unique

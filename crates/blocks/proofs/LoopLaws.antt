@@ -2,11 +2,11 @@
 --
 -- In order: answers further on; octets of a list; what one thing takes; that it does not matter how many things may be read; one turn of a loop.
 -- Assumes nothing.
-use Prim.Native.Nat.{ℕ, zero, suc, _+_, _-_, _≤_, _<_, suc-le-suc}
+use Prim.Native.Nat.{ℕ, zero, suc, _+_, _-_, _≤_, _<_}
 use mathlib.Core.Path.{_≡_, refl, sym, ap, _∙_, subst}
-use mathlib.Core.List.{List, [], _∷_, _++_}
+use mathlib.Core.List.{List, [], _∷_}
 use native.Mathlib.Omega.{arith}
-use native.Mathlib.Nat.{add-assoc, zero-add, le-refl, lt-irrefl}
+use native.Mathlib.Nat.{add-assoc, zero-add, le-refl}
 use lib.ListN.{length, take, drop, getD, length-append, length-drop, take-append-drop}
 use lib.Seq.{take-all, drop-at}
 use mir.Syntax.{w8}

@@ -1,17 +1,17 @@
 -- The records of a block, as a loop takes them by the answer of each: its map, or a refusal with its place in the block.
 --
 -- In order: one record; how many there are; the record with a number. Assumes nothing.
-use Prim.Native.Nat.{ℕ, zero, suc, _+_, _-_, _≤_, _<_}
+use Prim.Native.Nat.{ℕ, suc, _+_, _-_, _≤_, _<_}
 use mathlib.Core.Path.{_≡_, refl, sym, ap, ap₂, _∙_, subst}
-use mathlib.Core.List.{List, [], _∷_, _++_}
+use mathlib.Core.List.{List, [], _∷_}
 use native.Mathlib.Omega.{arith}
 use native.Mathlib.Nat.{add-zero}
 use lib.ListN.{length, drop, length-drop}
 use Rattle.rules.specs.Answer.{Answer, ok, refused, _>>=_, later, octetsOf}
 use Rattle.rules.specs.Record.{Category, Record, readRecord, writeRecord}
 use Rattle.rules.specs.Block.{readUpTo, readAll}
-use Rattle.rules.specs.Entry.{RecordMap, mapOf, Numbered, numbered}
-use Rattle.rules.proofs.AnswerLaws.{refused-ok, ok-inj, bind-in, bind-out, bind-elim, bind-cong, bind-assoc, later-inv, later-in, octetsOf-ok, Octets, Split}
+use Rattle.rules.specs.Entry.{RecordMap, mapOf, numbered}
+use Rattle.rules.proofs.AnswerLaws.{refused-ok, ok-inj, bind-in, bind-elim, bind-cong, later-inv, later-in, octetsOf-ok, Octets, Split}
 use Rattle.rules.proofs.RecordLaws.{record-laws, record-starts}
 use Rattle.records.specs.Sets.{categoryAt}
 use Rattle.records.specs.declared.RecordChecked.the-variants as recordChecked

@@ -2,7 +2,7 @@
 --
 -- In order: numbers of the set; rows; the house rule; the octets; a new record. Assumes nothing.
 use Prim.Native.Nat.{ℕ, zero, suc, _+_, _-_, _*_, _^_, _≤_, _<_}
-use mathlib.Core.Path.{_≡_, refl, sym, ap, ap₂, _∙_, subst}
+use mathlib.Core.Path.{_≡_, refl, sym, ap, _∙_, subst}
 use mathlib.Core.Logic.{_⊎_, inl, inr, ⊎-elim}
 use mathlib.Core.Bool.{Bool, true, false, _&&_, _||_, false≢true}
 use mathlib.Core.Option.{Option, none, some}
@@ -14,10 +14,10 @@ use borrow.Author.Tests.{eq-eqb, eqb-true, lt-ltb, leb-true, ltb-true, ltb-false
 use lib.Pow.{pow-pos, pow-mono}
 use lib.ListN.{length, getD, length-append, length-map, List·getD-append}
 use lib.Seq.{getD-append-add}
-use Rattle.rules.specs.Answer.{Answer, ok, refused, _>>=_, need_or_then_}
+use Rattle.rules.specs.Answer.{ok}
 use Rattle.rules.specs.Layout.{concat, octets, writeNum, writeChain}
 use Rattle.rules.specs.Presence.{present, number, usable, house, numbers, writePresence, has, placeAt, allUsable, rowFlags, anySet, keepRow, setFlags}
-use Rattle.rules.specs.Record.{Place, Category}
+use Rattle.rules.specs.Record.{Place}
 use Rattle.rules.proofs.AnswerLaws.{bind-in, need-in, T-true, both-left, both-right}
 use Rattle.rules.proofs.PresenceLaws.{number-lt}
 

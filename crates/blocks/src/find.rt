@@ -15,7 +15,6 @@ ghost use Rattle.rules.specs.Entry.{findRecord, findItem};
 ghost use Rattle.records.specs.Sets.{categoryAt};
 ghost use Rattle.blocks.specs.Read.{Records, seekAt};
 ghost use Rattle.blocks.specs.Part.{VeryPart};
-ghost use Rattle.blocks.specs.Answers.{checkedNumber, checkedPlace};
 ghost use Rattle.blocks.specs.Found.{recordLocated, recordSpan, locatedOf, itemSpan};
 
 // The bytes of a block from start on, so many: that very part.

@@ -3,7 +3,7 @@
 -- In order: one block; the counts of what is left; how large they are; one turn of the loop. Assumes nothing.
 use Prim.Native.Nat.{ℕ, zero, suc, _+_, _-_, _≤_, _<_}
 use mathlib.Core.Path.{_≡_, refl, sym, ap, ap₂, _∙_, subst}
-use mathlib.Core.List.{List, [], _∷_, _++_}
+use mathlib.Core.List.{List, [], _∷_}
 use native.Mathlib.Omega.{arith}
 use native.Mathlib.Nat.{add-zero, zero-add, add-assoc}
 use lib.Dec.{leb, leb→le}
@@ -13,7 +13,7 @@ use Rattle.rules.specs.Answer.{Answer, ok, refused, _>>=_, later}
 use Rattle.rules.specs.Block.{Block, writeBlock, readUpTo, readAll, readBlock, readBody}
 use Rattle.rules.specs.Recording.{readRecording}
 use Rattle.rules.specs.Entry.{categories, countRecords, Counts, checkRecording}
-use Rattle.rules.proofs.AnswerLaws.{refused-ok, ok-inj, bind-in, bind-out, bind-elim, bind-cong, need-elim, later-inv, Octets, Split, after}
+use Rattle.rules.proofs.AnswerLaws.{refused-ok, ok-inj, bind-elim, bind-cong, need-elim, later-inv, Octets, Split, after}
 use Rattle.rules.proofs.RecordLaws.{record-laws, record-starts}
 use Rattle.rules.proofs.BlockLaws.{block-laws, block-starts, HeadCame, head-forth}
 use Rattle.blocks.specs.Read.{Front, checkFront}

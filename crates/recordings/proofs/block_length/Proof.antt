@@ -1,47 +1,34 @@
 -- `block_length` meets its contract. Assumes nothing.
 use mathlib.Core.Path.{sym}
 use borrow.Author.Needs.{needs}
-use native.Mathlib.Omega.{arith}
 use Rattle.recordings.proofs.FeedLaws.{length-short, length-less, length-good}
 use Rattle.recordings.proofs.block_length.Statement.{statement}
 use Rattle.recordings.proofs.block_length.Tie as tie
-use Rattle.recordings.proofs.block_length.Reads as reads
-use Rattle.recordings.proofs.block_length.Lts as lts
-use Rattle.recordings.proofs.wide.Reads as wide-reads
 
--- src/lib.rt:73:9
 returns : tie.Need-returns
 returns c = sym (length-short _ (c .if1 .taken))
 
--- src/lib.rt:75:20
 shared-slice-read-wide : tie.Need-shared-slice-read-wide
 shared-slice-read-wide c = search needs
 
--- src/lib.rt:75:15
 wide-requires : tie.Need-wide-requires
 wide-requires c κs = search needs
 
--- src/lib.rt:75:15
 mul-len : tie.Need-mul-len
 mul-len c = search needs
 
--- src/lib.rt:75:42
 shared-slice-read-wide-2 : tie.Need-shared-slice-read-wide-2
 shared-slice-read-wide-2 c = search needs
 
--- src/lib.rt:75:37
 wide-requires-2 : tie.Need-wide-requires-2
 wide-requires-2 c κs = search needs
 
--- src/lib.rt:75:15
 add-len : tie.Need-add-len
 add-len c = search needs
 
--- src/lib.rt:77:9
 returns-2 : tie.Need-returns-2
 returns-2 c = sym (length-less _ (c .before .before .before .before .before .if1 .left) (c .before .before .before .wide .ensures .0) (c .before .wide2 .ensures .0) (c .if2 .taken))
 
--- src/lib.rt:69:1
 returns-3 : tie.Need-returns-3
 returns-3 c = sym (length-good _ (c .before .before .before .before .before .if1 .left) (c .before .before .before .wide .ensures .0) (c .before .wide2 .ensures .0) (c .if2 .left))
 

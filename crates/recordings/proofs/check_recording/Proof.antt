@@ -13,11 +13,6 @@ use Rattle.recordings.specs.Answers.{frontNumber, frontPlace}
 use Rattle.recordings.proofs.CountLaws.{FrontTaken, front-taken, counts-end, counts-stop, Checking, check-start, check-again}
 use Rattle.recordings.proofs.check_recording.Statement.{statement}
 use Rattle.recordings.proofs.check_recording.Tie as tie
-use Rattle.recordings.proofs.check_recording.Reads as reads
-use Rattle.recordings.proofs.check_recording.Lts as lts
-use Rattle.blocks.proofs.check_front.Reads as check-front-reads
-use Rattle.recordings.proofs.front_number.Reads as front-number-reads
-use Rattle.recordings.proofs.front_place.Reads as front-place-reads
 
 abbrev Inv-loop : tie.InvT-loop
 Inv-loop recording rest₀ place₀ count₀ total₀ rest place count total = Checking recording rest place count total
@@ -40,71 +35,54 @@ barred c =
     ∙ ap frontOf (c .before .before .enum-told .given .1)
     ∙ ap₂ refused (sym (c .before .front-number .ensures ∙ ap frontNumber (c .before .before .enum-told .given .1))) (sym (c .front-place .ensures ∙ ap frontPlace (c .before .before .enum-told .given .1)))
 
--- src/lib.rt:41:5
 loop-holds : tie.Need-loop-holds Inv-loop μ-loop
 loop-holds c = check-start _ (octets-each (c .before .args .recording .now) (c .shared-slice-known .given))
 
--- src/lib.rt:42:13
 check-front-requires : tie.Need-check-front-requires Inv-loop μ-loop
 check-front-requires c κs = search needs
 
--- src/lib.rt:43:35
 enum-known-front : tie.Need-enum-known-front Inv-loop μ-loop
 enum-known-front c = search needs
 
--- src/lib.rt:45:25
 enum-told : tie.Need-enum-told Inv-loop μ-loop
 enum-told c = search needs
 
--- src/lib.rt:45:25
 front-number-requires : tie.Need-front-number-requires Inv-loop μ-loop
 front-number-requires c κs = search needs
 
--- src/lib.rt:46:33
 front-place-requires : tie.Need-front-place-requires Inv-loop μ-loop
 front-place-requires c κs = search needs
 
--- src/lib.rt:46:25
 add-t13 : tie.Need-add-t13 Inv-loop μ-loop
 add-t13 c = omega (arith, front-inside (c .before .before .before .before .before .before .loop .rest .now) (c .before .before .before .before .before .before .loop .inv .octets) _ _ (barred c))
 
--- src/lib.rt:44:13
 returns : tie.Need-returns Inv-loop μ-loop
 returns c = sym (counts-stop _ _ _ _ _ _ (c .before .before .before .before .before .loop-test .taken) (barred c)) ∙ c .before .before .before .before .before .before .loop .inv .same
 
--- src/lib.rt:49:16
 sub-rest : tie.Need-sub-rest Inv-loop μ-loop
 sub-rest c = omega (arith, accepted c .within)
 
--- src/lib.rt:49:16
 part-rest-start : tie.Need-part-rest-start Inv-loop μ-loop
 part-rest-start c = omega (arith, accepted c .within)
 
--- src/lib.rt:49:16
 part-rest-end : tie.Need-part-rest-end Inv-loop μ-loop
 part-rest-end c = omega (arith, accepted c .within)
 
--- src/lib.rt:50:17
 add-place : tie.Need-add-place Inv-loop μ-loop
 add-place c = omega (arith, accepted (c .before) .within)
 
--- src/lib.rt:51:17
 add-count : tie.Need-add-count Inv-loop μ-loop
 add-count c = omega arith
 
--- src/lib.rt:52:17
 add-total : tie.Need-add-total Inv-loop μ-loop
 add-total c = omega (arith, accepted (c .before) .within, accepted (c .before) .few)
 
--- src/lib.rt:41:5
 loop-less : tie.Need-loop-less Inv-loop μ-loop
 loop-less c = omega (arith, accepted (c .before) .within, accepted (c .before) .some, c .rest .given .2)
 
--- src/lib.rt:41:5
 loop-again : tie.Need-loop-again Inv-loop μ-loop
 loop-again c = check-again _ (c .before .before .before .before .before .before .loop .rest .now) _ _ _ _ (front-of (c .before)) (c .before .before .before .before .before .before .loop .inv) (accepted (c .before)) (to-end (c .before .before .before .before .before .before .loop .rest .now) (front-of (c .before) .len))
 
--- src/lib.rt:34:1
 returns-2 : tie.Need-returns-2 Inv-loop μ-loop
 returns-2 c = sym (counts-end _ _ _ _ (omega arith)) ∙ c .before .loop .inv .same
 

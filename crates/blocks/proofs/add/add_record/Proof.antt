@@ -6,7 +6,7 @@ use borrow.Author.Needs.{needs}
 use native.Mathlib.Omega.{arith}
 use native.Mathlib.Nat.{sub-zero}
 use mathlib.Core.List.{_++_}
-use lib.ListN.{length, take, length-append}
+use lib.ListN.{length, take}
 use Rattle.rules.specs.Answer.{ok, refused}
 use Rattle.rules.specs.Entry.{newRecord}
 use Rattle.records.specs.Sets.{categoryAt, frnsOf, fspecAt}
@@ -18,15 +18,6 @@ use Rattle.blocks.proofs.LoopLaws.{octets-each}
 use Rattle.blocks.proofs.AddLaws.{add-none, add-old, add-new, old-both, new-both, old-len, new-refused, new-whole, long-both, full-both, added-both}
 use Rattle.blocks.proofs.add.add_record.Statement.{statement}
 use Rattle.blocks.proofs.add.add_record.Tie as tie
-use Rattle.blocks.proofs.add.add_record.Reads as reads
-use Rattle.blocks.proofs.add.add_record.Lts as lts
-use Rattle.blocks.proofs.add.lay_record.Reads as lay-record-reads
-use Rattle.blocks.proofs.add.new_number.Reads as new-number-reads
-use Rattle.blocks.proofs.add.new_place.Reads as new-place-reads
-use Rattle.blocks.proofs.check.BlockChecked.number.Reads as number-reads
-use Rattle.blocks.proofs.check.BlockChecked.place.Reads as place-reads
-use Rattle.blocks.proofs.check.open_block.Reads as open-block-reads
-use Rattle.records.proofs.check_new.Reads as check-new-reads
 
 -- the block that the octets in use are
 abbrev opening : tie.After-enum-told → Opening
@@ -51,46 +42,36 @@ whole : (c : tie.After-known-told)
     × (c .before .new .given .0 .0 ≡ length (fspecAt (c .before .before .before .before .before .before .open-block .result .profile) (c .before .before .before .before .before .before .before .before .before .before .before .before .args .set .bits)) + length (c .before .before .before .before .before .before .before .before .before .before .before .before .args .items .now))
 whole c = new-whole _ _ _ _ (checked c)
 
--- src/add.rt:95:9
 returns : tie.Need-returns
 returns c = old-both _ (add-none _ _ _ _ (c .if1 .taken))
 
--- src/add.rt:100:26
 sub-open-block : tie.Need-sub-open-block
 sub-open-block c = search needs
 
--- src/add.rt:100:26
 part-open-block-start : tie.Need-part-open-block-start
 part-open-block-start c = search needs
 
--- src/add.rt:100:26
 part-open-block-end : tie.Need-part-open-block-end
 part-open-block-end c = search needs
 
--- src/add.rt:100:9
 open-block-requires : tie.Need-open-block-requires
 open-block-requires c κs = search needs
 
 enum-told : tie.Need-enum-told
 enum-told c = search needs
 
--- src/add.rt:104:21
 enum-told-2 : tie.Need-enum-told-2
 enum-told-2 c = search needs
 
--- src/add.rt:104:21
 number-requires : tie.Need-number-requires
 number-requires c κs = search needs
 
--- src/add.rt:105:20
 place-requires : tie.Need-place-requires
 place-requires c κs = search needs
 
--- src/add.rt:103:9
 same-length : tie.Need-same-length
 same-length c = search needs
 
--- src/add.rt:103:9
 returns-2 : tie.Need-returns-2
 returns-2 c =
     old-both _
@@ -100,31 +81,24 @@ returns-2 c =
     ∙ ap (openedBy (c .before .before .before .before .open-block .result .profile)) (c .before .before .enum-told2 .given .1)
     ∙ ap₂ refused (sym (c .before .number .ensures ∙ ap checkedNumber (c .before .before .enum-told2 .given .1))) (sym (c .place .ensures ∙ ap checkedPlace (c .before .before .enum-told2 .given .1)))))
 
--- src/add.rt:109:9
 check-new-requires : tie.Need-check-new-requires
 check-new-requires c κs = search needs
 
--- src/add.rt:110:28
 enum-known-new : tie.Need-enum-known-new
 enum-known-new c = search needs
 
--- src/add.rt:112:21
 enum-told-3 : tie.Need-enum-told-3
 enum-told-3 c = search needs
 
--- src/add.rt:112:21
 new-number-requires : tie.Need-new-number-requires
 new-number-requires c κs = search needs
 
--- src/add.rt:113:20
 new-place-requires : tie.Need-new-place-requires
 new-place-requires c κs = search needs
 
--- src/add.rt:111:9
 same-length-2 : tie.Need-same-length-2
 same-length-2 c = search needs
 
--- src/add.rt:111:9
 returns-3 : tie.Need-returns-3
 returns-3 c =
     new-both _
@@ -133,39 +107,30 @@ returns-3 c =
     (sym (c .before .before .before .before .check-new .ensures) ∙ ap newOf (c .before .before .enum-told3 .given .1)
     ∙ ap₂ refused (sym (c .before .new-number .ensures ∙ ap newNumber (c .before .before .enum-told3 .given .1))) (sym (c .new-place .ensures ∙ ap newPlace (c .before .before .enum-told3 .given .1))))))
 
--- src/add.rt:116:8
 sub-if2 : tie.Need-sub-if2
 sub-if2 c = omega (arith, in-use (c .before .before .before .before) .1)
 
--- src/add.rt:117:9
 same-length-3 : tie.Need-same-length-3
 same-length-3 c = search needs
 
--- src/add.rt:117:9
 returns-4 : tie.Need-returns-4
 returns-4 c = long-both _ _ _ _ _ _ (opening (c .before .before .before .before .before)) refl (c .before .before .before .before .before .before .before .before .before .before .if1 .left) (is-open (c .before .before .before .before .before)) (checked (c .before)) (omega (arith, in-use (c .before .before .before .before .before) .1))
 
--- src/add.rt:122:15
 add-len : tie.Need-add-len
 add-len c = search needs
 
--- src/add.rt:124:9
 same-length-4 : tie.Need-same-length-4
 same-length-4 c = search needs
 
--- src/add.rt:124:9
 returns-5 : tie.Need-returns-5
 returns-5 c = full-both _ _ _ _ _ _ (opening (c .before .before .before .before .before .before)) refl (c .before .before .before .before .before .before .before .before .before .before .before .if1 .left) (is-open (c .before .before .before .before .before .before)) (checked (c .before .before)) (omega (arith, in-use (c .before .before .before .before .before .before) .1)) (c .if3 .taken)
 
--- src/add.rt:129:5
 lay-record-requires : tie.Need-lay-record-requires
 lay-record-requires c κs = (in-use (c .before .before .before .before .before .before .before) .0, omega (arith, in-use (c .before .before .before .before .before .before .before) .1), omega arith, ap (λ k. c .before .before .before .before .before .before .before .before .before .before .before .before .before .before .before .args .used + k) (whole (c .before .before .before) .1))
 
--- src/add.rt:90:1
 same-length-5 : tie.Need-same-length-5
 same-length-5 c = search needs
 
--- src/add.rt:90:1
 returns-6 : tie.Need-returns-6
 returns-6 c = added-both _ _ _ _ _ _ (opening (c .before .before .before .before .before .before .before .before .before .before)) refl (c .before .before .before .before .before .before .before .before .before .before .before .before .before .before .before .if1 .left) (is-open (c .before .before .before .before .before .before .before .before .before .before)) (checked (c .before .before .before .before .before .before)) _ (in-use (c .before .before .before .before .before .before .before .before .before .before) .0) (omega (arith, in-use (c .before .before .before .before .before .before .before .before .before .before) .1)) (c .before .before .before .before .if3 .left) (c .before .before .lay-record .ensures)
 

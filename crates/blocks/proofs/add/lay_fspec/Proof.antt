@@ -2,15 +2,10 @@
 use Prim.Native.Nat.{_-_}
 use borrow.Author.Needs.{needs}
 use native.Mathlib.Omega.{arith}
-use lib.ListN.{length}
 use Rattle.records.specs.Sets.{fspecAt}
 use Rattle.blocks.proofs.AddLaws.{Laying, lay-start, lay-length, lay-again, lay-end}
 use Rattle.blocks.proofs.add.lay_fspec.Statement.{statement}
 use Rattle.blocks.proofs.add.lay_fspec.Tie as tie
-use Rattle.blocks.proofs.add.lay_fspec.Reads as reads
-use Rattle.blocks.proofs.add.lay_fspec.Lts as lts
-use Rattle.records.proofs.fspec_octet.Reads as fspec-octet-reads
-use Rattle.records.proofs.fspec_octets.Reads as fspec-octets-reads
 
 abbrev Inv-loop : tie.InvT-loop
 Inv-loop out₀ at profile set count k₀ out k = Laying out₀ at (fspecAt profile (set .bits)) out k
@@ -18,43 +13,33 @@ Inv-loop out₀ at profile set count k₀ out k = Laying out₀ at (fspecAt prof
 abbrev μ-loop : tie.MeasureT-loop
 μ-loop out₀ at profile set count k₀ out k = count - k
 
--- src/add.rt:58:9
 fspec-octets-requires : tie.Need-fspec-octets-requires Inv-loop μ-loop
 fspec-octets-requires c κs = search needs
 
--- src/add.rt:60:5
 loop-holds : tie.Need-loop-holds Inv-loop μ-loop
 loop-holds c = lay-start _ _ _ (c .before .before .pre)
 
--- src/add.rt:61:23
 fspec-octet-requires : tie.Need-fspec-octet-requires Inv-loop μ-loop
 fspec-octet-requires c κs = search needs
 
--- src/add.rt:61:13
 add-out : tie.Need-add-out Inv-loop μ-loop
 add-out c = omega (arith, c .before .before .before .fspec-octets .ensures)
 
--- src/add.rt:61:9
 slice-write-out : tie.Need-slice-write-out Inv-loop μ-loop
 slice-write-out c = omega (arith, c .before .before .before .fspec-octets .ensures, lay-length (c .before .before .loop .inv))
 
--- src/add.rt:62:9
 add-k : tie.Need-add-k Inv-loop μ-loop
 add-k c = omega (arith, c .before .before .before .fspec-octets .ensures)
 
--- src/add.rt:60:5
 loop-less : tie.Need-loop-less Inv-loop μ-loop
 loop-less c = omega arith
 
--- src/add.rt:60:5
 loop-again : tie.Need-loop-again Inv-loop μ-loop
 loop-again c = lay-again (c .before .before .loop .inv) (omega (arith, c .before .before .before .fspec-octets .ensures)) (c .fspec-octet .ensures)
 
--- src/add.rt:54:1
 same-length : tie.Need-same-length Inv-loop μ-loop
 same-length c = lay-length (c .before .loop .inv)
 
--- src/add.rt:54:1
 returns : tie.Need-returns Inv-loop μ-loop
 returns c = lay-end (c .before .loop .inv) (omega (arith, c .before .before .fspec-octets .ensures))
 

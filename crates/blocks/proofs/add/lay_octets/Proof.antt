@@ -6,8 +6,6 @@ use lib.ListN.{length}
 use Rattle.blocks.proofs.AddLaws.{Laying, lay-start, lay-length, lay-again, lay-end}
 use Rattle.blocks.proofs.add.lay_octets.Statement.{statement}
 use Rattle.blocks.proofs.add.lay_octets.Tie as tie
-use Rattle.blocks.proofs.add.lay_octets.Reads as reads
-use Rattle.blocks.proofs.add.lay_octets.Lts as lts
 
 abbrev Inv-loop : tie.InvT-loop
 Inv-loop out₀ at octets k₀ out k = Laying out₀ at octets out k
@@ -15,39 +13,30 @@ Inv-loop out₀ at octets k₀ out k = Laying out₀ at octets out k
 abbrev μ-loop : tie.MeasureT-loop
 μ-loop out₀ at octets k₀ out k = length octets - k
 
--- src/add.rt:72:5
 loop-holds : tie.Need-loop-holds Inv-loop μ-loop
 loop-holds c = lay-start _ _ _ (c .pre)
 
--- src/add.rt:73:23
 shared-slice-read-out : tie.Need-shared-slice-read-out Inv-loop μ-loop
 shared-slice-read-out c = omega arith
 
--- src/add.rt:73:13
 add-out : tie.Need-add-out Inv-loop μ-loop
 add-out c = omega arith
 
--- src/add.rt:73:9
 slice-write-out : tie.Need-slice-write-out Inv-loop μ-loop
 slice-write-out c = omega (arith, lay-length (c .before .before .loop .inv))
 
--- src/add.rt:74:9
 add-k : tie.Need-add-k Inv-loop μ-loop
 add-k c = omega arith
 
--- src/add.rt:72:5
 loop-less : tie.Need-loop-less Inv-loop μ-loop
 loop-less c = omega arith
 
--- src/add.rt:72:5
 loop-again : tie.Need-loop-again Inv-loop μ-loop
 loop-again c = lay-again (c .before .before .loop .inv) (c .before .loop-test .taken) refl
 
--- src/add.rt:67:1
 same-length : tie.Need-same-length Inv-loop μ-loop
 same-length c = lay-length (c .before .loop .inv)
 
--- src/add.rt:67:1
 returns : tie.Need-returns Inv-loop μ-loop
 returns c = lay-end (c .before .loop .inv) (c .loop-test .left)
 

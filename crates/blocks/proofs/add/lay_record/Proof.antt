@@ -7,38 +7,25 @@ use lib.Seq.{paste}
 use Rattle.records.specs.Sets.{fspecAt}
 use Rattle.blocks.proofs.add.lay_record.Statement.{statement}
 use Rattle.blocks.proofs.add.lay_record.Tie as tie
-use Rattle.blocks.proofs.add.lay_record.Reads as reads
-use Rattle.blocks.proofs.add.lay_record.Lts as lts
-use Rattle.blocks.proofs.add.lay_fspec.Reads as lay-fspec-reads
-use Rattle.blocks.proofs.add.lay_len.Reads as lay-len-reads
-use Rattle.blocks.proofs.add.lay_octets.Reads as lay-octets-reads
-use Rattle.records.proofs.fspec_octets.Reads as fspec-octets-reads
 
--- src/add.rt:83:9
 fspec-octets-requires : tie.Need-fspec-octets-requires
 fspec-octets-requires c κs = search needs
 
--- src/add.rt:84:5
 lay-len-requires : tie.Need-lay-len-requires
 lay-len-requires c κs = search needs
 
--- src/add.rt:85:5
 lay-fspec-requires : tie.Need-lay-fspec-requires
 lay-fspec-requires c κs = search needs
 
--- src/add.rt:86:27
 add-lay-octets : tie.Need-add-lay-octets
 add-lay-octets c = search needs
 
--- src/add.rt:86:5
 lay-octets-requires : tie.Need-lay-octets-requires
 lay-octets-requires c κs = search needs
 
--- src/add.rt:79:1
 same-length : tie.Need-same-length
 same-length c = search needs
 
--- src/add.rt:79:1
 returns : tie.Need-returns
 returns c =
     c .before .before .lay-octets .ensures

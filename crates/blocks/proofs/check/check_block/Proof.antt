@@ -3,15 +3,10 @@ use borrow.Author.Needs.{needs}
 use Rattle.blocks.proofs.HeadLaws.{check-is}
 use Rattle.blocks.proofs.check.check_block.Statement.{statement}
 use Rattle.blocks.proofs.check.check_block.Tie as tie
-use Rattle.blocks.proofs.check.check_block.Reads as reads
-use Rattle.blocks.proofs.check.check_block.Lts as lts
-use Rattle.blocks.proofs.check.open_block.Reads as open-block-reads
 
--- src/check.rt:111:9
 open-block-requires : tie.Need-open-block-requires
 open-block-requires c κs = search needs
 
--- src/check.rt:108:1
 returns : tie.Need-returns
 returns c = check-is _ (c .open-block .result .profile) (c .open-block .result .checked) (c .open-block .ensures)
 

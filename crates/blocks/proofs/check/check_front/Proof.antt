@@ -14,13 +14,6 @@ use Rattle.blocks.proofs.LoopLaws.{octets-each}
 use Rattle.blocks.proofs.HeadLaws.{headed, len-few, front-refused, front-empty, front-stop, front-all}
 use Rattle.blocks.proofs.check.check_front.Statement.{statement}
 use Rattle.blocks.proofs.check.check_front.Tie as tie
-use Rattle.blocks.proofs.check.check_front.Reads as reads
-use Rattle.blocks.proofs.check.check_front.Lts as lts
-use Rattle.blocks.proofs.check.BlockChecked.number.Reads as check-BlockChecked-number-reads
-use Rattle.blocks.proofs.check.BlockChecked.place.Reads as place-reads
-use Rattle.blocks.proofs.check.check_records.Reads as check-records-reads
-use Rattle.blocks.proofs.head.HeadRead.number.Reads as head-HeadRead-number-reads
-use Rattle.blocks.proofs.head.front_head.Reads as front-head-reads
 
 -- the head that was read
 abbrev head-of : tie.Else1 → Head
@@ -41,72 +34,56 @@ few c =
 least : (c : tie.Else1) → 3 ≤ head-of c .len
 least c = headed leb (c .before .before .before .before .before .before .args .part .now) (head-of c) (has-head c) .least
 
--- src/check.rt:130:9
 front-head-requires : tie.Need-front-head-requires
 front-head-requires c κs = search needs
 
--- src/check.rt:131:26
 enum-known-head : tie.Need-enum-known-head
 enum-known-head c = search needs
 
--- src/check.rt:133:21
 enum-told : tie.Need-enum-told
 enum-told c = search needs
 
--- src/check.rt:133:21
 number-requires : tie.Need-number-requires
 number-requires c κs = search needs
 
--- src/check.rt:132:9
 returns : tie.Need-returns
 returns c =
     ap (λ n. refused n 0) (c .number .ensures ∙ ap headNumber (c .before .enum-told .given .1))
     ∙ sym (front-refused _ _ _ (sym (c .before .before .before .front-head .ensures) ∙ ap headOf (c .before .enum-told .given .1)))
 
--- src/check.rt:138:9
 returns-2 : tie.Need-returns-2
 returns-2 c = sym (front-empty _ (record { category = categoryAt (c .before .before .head .given .0 .0); len = c .before .before .head .given .0 .1 .0 }) (sym (c .before .before .before .before .front-head .ensures) ∙ ap headOf (c .before .before .head .given .1)) (c .if1 .taken))
 
--- src/check.rt:143:42
 sub-check-records : tie.Need-sub-check-records
 sub-check-records c = omega (arith, least c)
 
--- src/check.rt:143:42
 part-check-records-start : tie.Need-part-check-records-start
 part-check-records-start c = omega (arith, least c)
 
--- src/check.rt:143:42
 part-check-records-end : tie.Need-part-check-records-end
 part-check-records-end c = omega (arith, least c, len-is c)
 
--- src/check.rt:143:9
 check-records-requires : tie.Need-check-records-requires
 check-records-requires c κs = omega (arith, few (c .before), len-is (c .before), least (c .before), c .check-records-arg .given .2)
 
--- src/check.rt:144:34
 enum-known-checked : tie.Need-enum-known-checked
 enum-known-checked c = search needs
 
--- src/check.rt:146:21
 enum-told-2 : tie.Need-enum-told-2
 enum-told-2 c = search needs
 
--- src/check.rt:146:21
 number-requires-2 : tie.Need-number-requires-2
 number-requires-2 c κs = search needs
 
--- src/check.rt:147:20
 place-requires : tie.Need-place-requires
 place-requires c κs = search needs
 
--- src/check.rt:145:9
 returns-3 : tie.Need-returns-3
 returns-3 c =
     ap₂ refused (c .before .number2 .ensures ∙ ap checkedNumber (c .before .before .enum-told2 .given .1)) (c .place .ensures ∙ ap checkedPlace (c .before .before .enum-told2 .given .1))
     ∙ sym (front-stop _ (head-of (c .before .before .before .before .before .before)) _ _ (has-head (c .before .before .before .before .before .before)) (c .before .before .before .before .before .before .if1 .left)
     (sym (c .before .before .before .before .check-records .ensures) ∙ ap checkedOf (c .before .before .enum-told2 .given .1)))
 
--- src/check.rt:127:1
 returns-4 : tie.Need-returns-4
 returns-4 c =
     sym (front-all _ (head-of (c .before .before .before .before .before)) _ (has-head (c .before .before .before .before .before)) (c .before .before .before .before .before .if1 .left)

@@ -11,10 +11,6 @@ use Rattle.blocks.proofs.LoopLaws.{octets-each, to-end}
 use Rattle.blocks.proofs.RecordLaws.{Accepted, walked-accepted, walked-refused, count-end, count-stop, Counting, count-again}
 use Rattle.blocks.proofs.check.check_records.Statement.{statement}
 use Rattle.blocks.proofs.check.check_records.Tie as tie
-use Rattle.blocks.proofs.check.check_records.Reads as reads
-use Rattle.blocks.proofs.check.check_records.Lts as lts
-use Rattle.blocks.proofs.check.refused_by.Reads as refused-by-reads
-use Rattle.records.proofs.check_record.Reads as check-record-reads
 
 abbrev Inv-loop : tie.InvT-loop
 Inv-loop profile part from rest₀ at₀ n₀ rest at n = Counting (categoryAt profile) part from rest at n
@@ -30,27 +26,21 @@ accepted c =
     walked-accepted _ _ (c .before .before .before .before .before .loop .rest .now) (c .before .before .before .check-record .result) (c .before .before .before .check-record .ensures) _
     (c .before .before .before .before .before .loop .inv .octets) (c .before .checked .given .1)
 
--- src/check.rt:61:5
 loop-holds : tie.Need-loop-holds Inv-loop μ-loop
 loop-holds c = record { room = c .before .pre; few = omega arith; octets = octets-each (c .before .args .part .now) (c .shared-slice-known .given); same = refl }
 
--- src/check.rt:62:13
 check-record-requires : tie.Need-check-record-requires Inv-loop μ-loop
 check-record-requires c κs = omega arith
 
--- src/check.rt:64:35
 enum-known-checked : tie.Need-enum-known-checked Inv-loop μ-loop
 enum-known-checked c = search needs
 
--- src/check.rt:65:13
 enum-told : tie.Need-enum-told Inv-loop μ-loop
 enum-told c = search needs
 
--- src/check.rt:65:13
 refused-by-requires : tie.Need-refused-by-requires Inv-loop μ-loop
 refused-by-requires c κs = search needs
 
--- src/check.rt:65:13
 returns : tie.Need-returns Inv-loop μ-loop
 returns c =
     c .refused-by .ensures
@@ -58,36 +48,28 @@ returns c =
     ∙ sym (count-stop _ _ _ _ _ _ (c .before .before .before .before .loop-test .taken) (walked-refused _ _ _ (c .before .before .before .check-record .result) (c .before .before .before .check-record .ensures) _ _ (c .before .enum-told .given .1)))
     ∙ c .before .before .before .before .before .loop .inv .same
 
--- src/check.rt:67:20
 sub-used : tie.Need-sub-used Inv-loop μ-loop
 sub-used c = omega (arith, accepted c .low)
 
--- src/check.rt:68:16
 sub-rest : tie.Need-sub-rest Inv-loop μ-loop
 sub-rest c = omega (arith, accepted c .low, accepted c .high)
 
--- src/check.rt:68:16
 part-rest-start : tie.Need-part-rest-start Inv-loop μ-loop
 part-rest-start c = omega (arith, accepted c .low, accepted c .high)
 
--- src/check.rt:68:16
 part-rest-end : tie.Need-part-rest-end Inv-loop μ-loop
 part-rest-end c = omega (arith, accepted c .low, accepted c .high)
 
--- src/check.rt:70:13
 add-n : tie.Need-add-n Inv-loop μ-loop
 add-n c = omega arith
 
--- src/check.rt:61:5
 loop-less : tie.Need-loop-less Inv-loop μ-loop
 loop-less c = omega (arith, accepted (c .before) .low, accepted (c .before) .high, c .rest .given .2)
 
--- src/check.rt:61:5
 loop-again : tie.Need-loop-again Inv-loop μ-loop
 loop-again c =
     count-again _ _ _ (c .before .before .before .before .before .before .loop .rest .now) _ _ _ _ (c .before .before .before .before .before .before .loop .inv) (accepted (c .before)) (to-end (c .before .before .before .before .before .before .loop .rest .now) (c .before .before .checked .given .0 .0 - c .before .before .before .before .before .before .loop .at))
 
--- src/check.rt:54:1
 returns-2 : tie.Need-returns-2 Inv-loop μ-loop
 returns-2 c = sym (count-end _ _ _ _ (omega arith)) ∙ c .before .loop .inv .same
 

@@ -14,11 +14,6 @@ use Rattle.blocks.proofs.LoopLaws.{octets-each, to-end}
 use Rattle.blocks.proofs.HeadLaws.{headed, len-few, opened-refused, opened-less, opened-body, opened-by}
 use Rattle.blocks.proofs.check.open_block.Statement.{statement}
 use Rattle.blocks.proofs.check.open_block.Tie as tie
-use Rattle.blocks.proofs.check.open_block.Reads as reads
-use Rattle.blocks.proofs.check.open_block.Lts as lts
-use Rattle.blocks.proofs.check.check_records.Reads as check-records-reads
-use Rattle.blocks.proofs.head.HeadRead.number.Reads as number-reads
-use Rattle.blocks.proofs.head.single_head.Reads as single-head-reads
 
 -- the head that was read
 abbrev head-of : tie.Else1 → Head
@@ -39,49 +34,38 @@ few c =
 least : (c : tie.Else1) → 3 ≤ length (c .before .before .before .before .before .before .args .block .now)
 least c = headed eqb (c .before .before .before .before .before .before .args .block .now) (head-of c) (has-head c) .room
 
--- src/check.rt:84:9
 single-head-requires : tie.Need-single-head-requires
 single-head-requires c κs = search needs
 
--- src/check.rt:85:26
 enum-known-head : tie.Need-enum-known-head
 enum-known-head c = search needs
 
--- src/check.rt:89:25
 enum-told : tie.Need-enum-told
 enum-told c = search needs
 
--- src/check.rt:89:25
 number-requires : tie.Need-number-requires
 number-requires c κs = search needs
 
--- src/check.rt:86:9
 returns : tie.Need-returns
 returns c =
     ap (λ n. refused n 0) (c .number .ensures ∙ ap headNumber (c .before .enum-told .given .1))
     ∙ sym (opened-refused _ _ _ _ (sym (c .before .before .before .single-head .ensures) ∙ ap headOf (c .before .enum-told .given .1)))
 
--- src/check.rt:95:9
 returns-2 : tie.Need-returns-2
 returns-2 c = sym (opened-less _ _ (record { category = categoryAt (c .before .before .head .given .0 .0); len = c .before .before .head .given .0 .1 .0 }) (sym (c .before .before .before .before .single-head .ensures) ∙ ap headOf (c .before .before .head .given .1)) (c .if1 .taken))
 
--- src/check.rt:103:42
 sub-check-records : tie.Need-sub-check-records
 sub-check-records c = least c
 
--- src/check.rt:103:42
 part-check-records-start : tie.Need-part-check-records-start
 part-check-records-start c = least c
 
--- src/check.rt:103:42
 part-check-records-end : tie.Need-part-check-records-end
 part-check-records-end c = search needs
 
--- src/check.rt:103:9
 check-records-requires : tie.Need-check-records-requires
 check-records-requires c κs = omega (arith, few (c .before), len-is (c .before), c .check-records-arg .given .2)
 
--- src/check.rt:81:1
 returns-3 : tie.Need-returns-3
 returns-3 c =
     opened-by _ (c .check-records .result)

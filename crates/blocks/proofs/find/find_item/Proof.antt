@@ -1,5 +1,5 @@
 -- `find::find_item` meets its contract: the part that `locate_item` names lies in the block. Assumes nothing.
-use mathlib.Core.Path.{_≡_, sym, ap, _∙_, subst}
+use mathlib.Core.Path.{sym, _∙_, subst}
 use borrow.Author.Needs.{needs}
 use Rattle.rules.specs.Entry.{findItem}
 use Rattle.blocks.specs.Part.{VeryPart}
@@ -7,44 +7,32 @@ use Rattle.blocks.proofs.LoopLaws.{octets-each}
 use Rattle.blocks.proofs.FindLaws.{ItemSpan, item-located, item-lost, item-inside-at}
 use Rattle.blocks.proofs.find.find_item.Statement.{statement}
 use Rattle.blocks.proofs.find.find_item.Tie as tie
-use Rattle.blocks.proofs.find.find_item.Reads as reads
-use Rattle.blocks.proofs.find.find_item.Lts as lts
-use Rattle.blocks.proofs.find.locate_item.Reads as locate-item-reads
-use Rattle.blocks.proofs.find.none_of.Reads as none-of-reads
-use Rattle.blocks.proofs.find.part_of.Reads as part-of-reads
 
 -- where the item lies, in the rules' words
 there : (c : tie.After-known-told)
     → ItemSpan (findItem (c .before .before .before .before .before .args .block .now) (c .before .before .before .before .before .args .reference) (c .before .before .before .before .before .args .n)) (c .before .located .given .0 .0) (c .before .located .given .0 .1 .0)
 there c = item-located _ _ _ (sym (c .before .before .before .locate-item .ensures) ∙ c .before .located .given .1)
 
--- src/find.rt:173:9
 locate-item-requires : tie.Need-locate-item-requires
 locate-item-requires c κs = search needs
 
--- src/find.rt:174:27
 enum-known-located : tie.Need-enum-known-located
 enum-known-located c = search needs
 
--- src/find.rt:175:9
 enum-told : tie.Need-enum-told
 enum-told c = search needs
 
--- src/find.rt:175:9
 none-of-requires : tie.Need-none-of-requires
 none-of-requires c κs = search needs
 
--- src/find.rt:175:9
 returns : tie.Need-returns
 returns c =
     subst (VeryPart (c .before .before .before .before .before .args .block) (c .none-of .result))
     (sym (item-lost (findItem (c .before .before .before .before .before .args .block .now) (c .before .before .before .before .before .args .reference) (c .before .before .before .before .before .args .n)) _ _ (sym (c .before .before .before .locate-item .ensures) ∙ c .before .enum-told .given .1))) (c .none-of .ensures)
 
--- src/find.rt:177:5
 part-of-requires : tie.Need-part-of-requires
 part-of-requires c κs = item-inside-at _ _ _ _ _ (octets-each (c .before .before .before .before .before .args .block .now) (c .before .before .before .before .shared-slice-known .given)) (there c)
 
--- src/find.rt:170:1
 returns-2 : tie.Need-returns-2
 returns-2 c = subst (VeryPart (c .before .before .before .before .before .before .args .block) (c .part-of .result)) (sym (there (c .before) .span-is)) (c .part-of .ensures)
 

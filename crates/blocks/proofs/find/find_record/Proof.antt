@@ -1,7 +1,6 @@
 -- `find::find_record` meets its contract: the part that `locate_record` names lies in the block. Assumes nothing.
-use mathlib.Core.Path.{_≡_, sym, ap, _∙_, subst}
+use mathlib.Core.Path.{sym, ap, subst}
 use borrow.Author.Needs.{needs}
-use native.Mathlib.Omega.{arith}
 use Rattle.rules.specs.Entry.{findRecord}
 use Rattle.blocks.specs.Part.{VeryPart}
 use Rattle.blocks.specs.Found.{recordSpan}
@@ -9,43 +8,31 @@ use Rattle.blocks.proofs.LoopLaws.{octets-each}
 use Rattle.blocks.proofs.FindLaws.{record-inside-at, LocatedAt, located, lost}
 use Rattle.blocks.proofs.find.find_record.Statement.{statement}
 use Rattle.blocks.proofs.find.find_record.Tie as tie
-use Rattle.blocks.proofs.find.find_record.Reads as reads
-use Rattle.blocks.proofs.find.find_record.Lts as lts
-use Rattle.blocks.proofs.find.locate_record.Reads as locate-record-reads
-use Rattle.blocks.proofs.find.none_of.Reads as none-of-reads
-use Rattle.blocks.proofs.find.part_of.Reads as part-of-reads
 
 -- where the record lies, in the rules' words
 there : (c : tie.After-known-told)
     → LocatedAt (findRecord (c .before .before .before .before .before .args .block .now) (c .before .before .before .before .before .args .n)) (c .before .before .before .locate-record .result) (c .before .answer .given .0 .0) (c .before .answer .given .0 .1 .0)
 there c = located _ (c .before .before .before .locate-record .result) _ _ (c .before .before .before .locate-record .ensures) (c .before .answer .given .1)
 
--- src/find.rt:103:9
 locate-record-requires : tie.Need-locate-record-requires
 locate-record-requires c κs = search needs
 
--- src/find.rt:105:27
 enum-known-answer : tie.Need-enum-known-answer
 enum-known-answer c = search needs
 
--- src/find.rt:106:9
 enum-told : tie.Need-enum-told
 enum-told c = search needs
 
--- src/find.rt:106:9
 none-of-requires : tie.Need-none-of-requires
 none-of-requires c κs = search needs
 
--- src/find.rt:106:9
 returns : tie.Need-returns
 returns c = subst (VeryPart (c .before .before .before .before .before .args .block) (c .none-of .result)) (sym (ap recordSpan (lost (findRecord (c .before .before .before .before .before .args .block .now) (c .before .before .before .before .before .args .n)) (c .before .before .before .locate-record .result) _ _ (c .before .before .before .locate-record .ensures) (c .before .enum-told .given .1)))) (c .none-of .ensures)
 
--- src/find.rt:108:5
 part-of-requires : tie.Need-part-of-requires
 part-of-requires c κs =
     record-inside-at _ _ _ _ (octets-each (c .before .before .before .before .before .args .block .now) (c .before .before .before .before .shared-slice-known .given)) (there c)
 
--- src/find.rt:100:1
 returns-2 : tie.Need-returns-2
 returns-2 c = subst (VeryPart (c .before .before .before .before .before .before .args .block) (c .part-of .result)) (sym (there (c .before) .span-is)) (c .part-of .ensures)
 

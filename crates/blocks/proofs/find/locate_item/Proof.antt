@@ -19,14 +19,6 @@ use Rattle.blocks.proofs.LoopLaws.{octets-each, to-end}
 use Rattle.blocks.proofs.FindLaws.{NamedAt, frn-none, frn-some, profile-is, Opens, opens, opens-records, item-refused, item-unknown, LocatedAt, located, lost, no-record-at, index-in, absent-at, ThereAt, there-at}
 use Rattle.blocks.proofs.find.locate_item.Statement.{statement}
 use Rattle.blocks.proofs.find.locate_item.Tie as tie
-use Rattle.blocks.proofs.find.locate_item.Reads as reads
-use Rattle.blocks.proofs.find.locate_item.Lts as lts
-use Rattle.blocks.proofs.check.BlockChecked.number.Reads as number-reads
-use Rattle.blocks.proofs.check.BlockChecked.place.Reads as place-reads
-use Rattle.blocks.proofs.check.open_block.Reads as open-block-reads
-use Rattle.blocks.proofs.find.seek_record.Reads as seek-record-reads
-use Rattle.items.proofs.check_item.Reads as check-item-reads
-use Rattle.items.proofs.frn_of.Reads as frn-of-reads
 
 -- the block that was opened
 abbrev opening : tie.After-enum-told → Opening
@@ -61,45 +53,36 @@ there c =
 checked : (c : tie.Else1) → checkAt (c .before .before .before .before .before .before .before .before .before .before .before .before .before .before .open-block .result .profile) (c .before .before .before .before .before .before .before .before .before .named .given .0 .0) (take (length (c .before .before .before .before .before .before .before .before .before .before .before .before .before .before .before .before .args .block .now) - getD (c .before .before .before .before .before .before .seek-record .result .map .starts) (c .before .before .before .before .before .before .before .before .before .named .given .0 .0 - 1) 0) (drop (getD (c .before .before .before .before .before .before .seek-record .result .map .starts) (c .before .before .before .before .before .before .before .before .before .named .given .0 .0 - 1) 0) (c .before .before .before .before .before .before .before .before .before .before .before .before .before .before .before .before .args .block .now))) ≡ ok (there c .item .size)
 checked c = ap (checkAt (c .before .before .before .before .before .before .before .before .before .before .before .before .before .before .open-block .result .profile) (c .before .before .before .before .before .before .before .before .before .named .given .0 .0)) (to-end (c .before .before .before .before .before .before .before .before .before .before .before .before .before .before .before .before .args .block .now) _) ∙ there c .check
 
--- src/find.rt:123:9
 open-block-requires : tie.Need-open-block-requires
 open-block-requires c κs = search needs
 
 enum-told : tie.Need-enum-told
 enum-told c = search needs
 
--- src/find.rt:127:21
 enum-told-2 : tie.Need-enum-told-2
 enum-told-2 c = search needs
 
--- src/find.rt:127:21
 number-requires : tie.Need-number-requires
 number-requires c κs = search needs
 
--- src/find.rt:128:20
 place-requires : tie.Need-place-requires
 place-requires c κs = search needs
 
--- src/find.rt:126:9
 returns : tie.Need-returns
 returns c =
     ap locatedOf
     (ap₂ refused (c .before .number .ensures ∙ ap checkedNumber (c .before .before .enum-told2 .given .1)) (c .place .ensures ∙ ap checkedPlace (c .before .before .enum-told2 .given .1))
     ∙ sym (item-refused _ _ _ _ _ (sym (c .before .before .before .before .open-block .ensures) ∙ ap (openedBy (c .before .before .before .before .open-block .result .profile)) (c .before .before .enum-told2 .given .1))))
 
--- src/find.rt:132:9
 frn-of-requires : tie.Need-frn-of-requires
 frn-of-requires c κs = search needs
 
--- src/find.rt:133:23
 enum-known-named : tie.Need-enum-known-named
 enum-known-named c = search needs
 
--- src/find.rt:134:9
 enum-told-3 : tie.Need-enum-told-3
 enum-told-3 c = search needs
 
--- src/find.rt:134:9
 returns-2 : tie.Need-returns-2
 returns-2 c =
     ap locatedOf
@@ -107,31 +90,24 @@ returns-2 c =
     (frn-none _ 1 (places (opening (c .before .before .before) .category))
     (ap (λ z. frnAs (c .before .before .before .before .before .before .before .args .reference) 1 (concat z)) (profile-is (c .before .before .before .before .before .open-block .result .profile)) ∙ sym (c .before .before .frn-of .ensures) ∙ ap frnOf (c .enum-told3 .given .1)))))
 
--- src/find.rt:139:40
 sub-seek-record : tie.Need-sub-seek-record
 sub-seek-record c = omega (arith, is-open (c .before .before .before .before) .room)
 
--- src/find.rt:139:40
 part-seek-record-start : tie.Need-part-seek-record-start
 part-seek-record-start c = omega (arith, is-open (c .before .before .before .before) .room)
 
--- src/find.rt:139:40
 part-seek-record-end : tie.Need-part-seek-record-end
 part-seek-record-end c = search needs
 
--- src/find.rt:139:9
 seek-record-requires : tie.Need-seek-record-requires
 seek-record-requires c κs = (omega (arith, is-open (c .before .before .before .before .before) .few, is-open (c .before .before .before .before .before) .room, c .seek-record-arg .given .2), rw (to-end (c .before .before .before .before .before .before .before .before .before .args .block .now) 3) (opens-records (is-open (c .before .before .before .before .before))))
 
--- src/find.rt:141:27
 enum-known-answer : tie.Need-enum-known-answer
 enum-known-answer c = search needs
 
--- src/find.rt:142:9
 enum-told-4 : tie.Need-enum-told-4
 enum-told-4 c = search needs
 
--- src/find.rt:142:9
 returns-3 : tie.Need-returns-3
 returns-3 c =
     ap locatedOf
@@ -139,57 +115,44 @@ returns-3 c =
     (lost _ (c .before .before .seek-record .result) _ _
     (c .before .before .seek-record .ensures ∙ ap (λ z. recordLocated (seekAt (opening (c .before .before .before .before .before .before .before .before) .category) 3 z (c .before .before .before .before .before .before .before .before .before .before .before .before .args .n))) (to-end (c .before .before .before .before .before .before .before .before .before .before .before .before .args .block .now) 3)) (c .enum-told4 .given .1))))
 
--- src/find.rt:148:28
 sub-first : tie.Need-sub-first
 sub-first c = omega (arith, named (c .before .before .before .before .before .before) .frn-is)
 
--- src/find.rt:148:17
 mul-first : tie.Need-mul-first
 mul-first c = record { fits = omega (arith, index-in _ _ (c .before .before .before .before .before .before .before .before .before .before .before .before .before .before .args .n) _ _ (is-open (c .before .before .before .before .before .before .before .before .before .before)) _ (named (c .before .before .before .before .before .before))) }
 
--- src/find.rt:148:17
 element-copy-out-first : tie.Need-element-copy-out-first
 element-copy-out-first c = index-in _ _ (c .before .before .before .before .before .before .before .before .before .before .before .before .before .before .args .n) _ _ (is-open (c .before .before .before .before .before .before .before .before .before .before)) _ (named (c .before .before .before .before .before .before))
 
--- src/find.rt:150:9
 returns-4 : tie.Need-returns-4
 returns-4 c =
     ap (itemLocated.Refused 20) (sym (sought (c .before .before .before) .start-is))
     ∙ ap locatedOf (sym (absent-at _ _ _ _ _ (is-open (c .before .before .before .before .before .before .before .before .before .before .before .before)) _ (sought (c .before .before .before) .map) _ (named (c .before .before .before .before .before .before .before .before)) (sought (c .before .before .before) .found) (sought (c .before .before .before) .starts-is) (c .if1 .taken)))
 
--- src/find.rt:155:14
 cast-at : tie.Need-cast-at
 cast-at c = record { fits = omega (arith, there c .start-is, there c .inside, is-open (c .before .before .before .before .before .before .before .before .before .before .before .before) .few) }
 
--- src/find.rt:156:48
 sub-check-item : tie.Need-sub-check-item
 sub-check-item c = omega (arith, there c .start-is, there c .inside)
 
--- src/find.rt:156:48
 part-check-item-start : tie.Need-part-check-item-start
 part-check-item-start c = omega (arith, there c .start-is, there c .inside)
 
--- src/find.rt:156:48
 part-check-item-end : tie.Need-part-check-item-end
 part-check-item-end c = search needs
 
--- src/find.rt:156:9
 check-item-requires : tie.Need-check-item-requires
 check-item-requires c κs = search needs
 
--- src/find.rt:157:26
 enum-known-item : tie.Need-enum-known-item
 enum-known-item c = search needs
 
--- src/find.rt:158:9
 enum-told-5 : tie.Need-enum-told-5
 enum-told-5 c = search needs
 
--- src/find.rt:158:9
 returns-5 : tie.Need-returns-5
 returns-5 c = refused-ok (ap checkedOf (sym (c .enum-told5 .given .1)) ∙ c .before .before .check-item .ensures ∙ checked (c .before .before .before .before))
 
--- src/find.rt:120:1
 returns-6 : tie.Need-returns-6
 returns-6 c =
     ap₂ itemLocated.At (there (c .before .before .before .before .before) .start-is) (ok-inj (ap checkedOf (sym (c .before .item .given .1)) ∙ c .before .before .before .check-item .ensures ∙ checked (c .before .before .before .before .before)))

@@ -1,24 +1,17 @@
 -- `find::locate_record` meets its contract: a block that is refused is not searched; else the record is sought among those after the head.
 -- Assumes nothing.
-use mathlib.Core.Path.{_≡_, sym, ap, ap₂, _∙_}
+use mathlib.Core.Path.{sym, ap, ap₂, _∙_}
 use borrow.Author.Needs.{needs}
 use native.Mathlib.Omega.{arith}
-use Rattle.rules.specs.Answer.{ok, refused}
+use Rattle.rules.specs.Answer.{refused}
 use Rattle.records.specs.Sets.{categoryAt}
-use Rattle.blocks.specs.Read.{Records, seekAt, Opening}
+use Rattle.blocks.specs.Read.{seekAt, Opening}
 use Rattle.blocks.specs.Answers.{checkedNumber, checkedPlace, openedBy}
 use Rattle.blocks.specs.Found.{recordLocated}
 use Rattle.blocks.proofs.LoopLaws.{octets-each, to-end}
 use Rattle.blocks.proofs.FindLaws.{Opens, opens, opens-records, find-refused, find-record}
 use Rattle.blocks.proofs.find.locate_record.Statement.{statement}
 use Rattle.blocks.proofs.find.locate_record.Tie as tie
-use Rattle.blocks.proofs.find.locate_record.Reads as reads
-use Rattle.blocks.proofs.find.locate_record.Lts as lts
-use Rattle.blocks.proofs.check.BlockChecked.number.Reads as number-reads
-use Rattle.blocks.proofs.check.BlockChecked.place.Reads as place-reads
-use Rattle.blocks.proofs.check.open_block.Reads as open-block-reads
-use Rattle.blocks.proofs.find.record_lost.Reads as record-lost-reads
-use Rattle.blocks.proofs.find.seek_record.Reads as seek-record-reads
 
 -- the block that was opened
 abbrev opening : tie.After-enum-told → Opening
@@ -29,30 +22,24 @@ is-open c =
     opens (c .before .before .before .before .args .block .now) (opening c) (octets-each (c .before .before .before .before .args .block .now) (c .before .before .before .shared-slice-known .given))
     (sym (c .before .before .open-block .ensures) ∙ ap (openedBy (c .before .before .open-block .result .profile)) (c .enum-told .given .1))
 
--- src/find.rt:91:9
 open-block-requires : tie.Need-open-block-requires
 open-block-requires c κs = search needs
 
 enum-told : tie.Need-enum-told
 enum-told c = search needs
 
--- src/find.rt:94:28
 enum-told-2 : tie.Need-enum-told-2
 enum-told-2 c = search needs
 
--- src/find.rt:94:28
 number-requires : tie.Need-number-requires
 number-requires c κs = search needs
 
--- src/find.rt:94:46
 place-requires : tie.Need-place-requires
 place-requires c κs = search needs
 
--- src/find.rt:94:9
 record-lost-requires : tie.Need-record-lost-requires
 record-lost-requires c κs = search needs
 
--- src/find.rt:94:9
 returns : tie.Need-returns
 returns c =
     c .record-lost .ensures
@@ -60,23 +47,18 @@ returns c =
     (ap₂ refused (c .before .before .number .ensures ∙ ap checkedNumber (c .before .before .before .enum-told2 .given .1)) (c .before .place .ensures ∙ ap checkedPlace (c .before .before .before .enum-told2 .given .1))
     ∙ sym (find-refused _ _ _ _ (sym (c .before .before .before .before .before .open-block .ensures) ∙ ap (openedBy (c .before .before .before .before .before .open-block .result .profile)) (c .before .before .before .enum-told2 .given .1))))
 
--- src/find.rt:96:33
 sub-seek-record : tie.Need-sub-seek-record
 sub-seek-record c = omega (arith, is-open c .room)
 
--- src/find.rt:96:33
 part-seek-record-start : tie.Need-part-seek-record-start
 part-seek-record-start c = omega (arith, is-open c .room)
 
--- src/find.rt:96:33
 part-seek-record-end : tie.Need-part-seek-record-end
 part-seek-record-end c = search needs
 
--- src/find.rt:96:5
 seek-record-requires : tie.Need-seek-record-requires
 seek-record-requires c κs = (omega (arith, is-open (c .before) .few, is-open (c .before) .room, c .seek-record-arg .given .2), rw (to-end (c .before .before .before .before .before .args .block .now) 3) (opens-records (is-open (c .before))))
 
--- src/find.rt:88:1
 returns-2 : tie.Need-returns-2
 returns-2 c =
     c .seek-record .ensures

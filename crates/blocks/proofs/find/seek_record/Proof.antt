@@ -1,7 +1,7 @@
 -- `find::seek_record` meets its contract. The loop's invariant: the rule on what is left, with as many fewer to pass, is the rule on the whole. The measure is
 -- the length of what is left. Assumes nothing.
 use Prim.Native.Nat.{_-_}
-use mathlib.Core.Path.{refl, sym, ap, ap₂, _∙_}
+use mathlib.Core.Path.{refl, sym, ap, _∙_}
 use borrow.Author.Needs.{needs}
 use native.Mathlib.Omega.{arith}
 use lib.ListN.{length}
@@ -11,10 +11,6 @@ use Rattle.blocks.proofs.LoopLaws.{octets-each, to-end}
 use Rattle.blocks.proofs.RecordLaws.{Accepted, walked-accepted, walked-refused, walked-map, seek-end, seek-stop, seek-here, Seeking, seek-again, located-at}
 use Rattle.blocks.proofs.find.seek_record.Statement.{statement}
 use Rattle.blocks.proofs.find.seek_record.Tie as tie
-use Rattle.blocks.proofs.find.seek_record.Reads as reads
-use Rattle.blocks.proofs.find.seek_record.Lts as lts
-use Rattle.blocks.proofs.find.record_lost.Reads as record-lost-reads
-use Rattle.records.proofs.check_record.Reads as check-record-reads
 
 abbrev Inv-loop : tie.InvT-loop
 Inv-loop profile part from n rest₀ at₀ left₀ rest at left = Seeking (categoryAt profile) part from n rest at left
@@ -30,72 +26,56 @@ accepted c =
     walked-accepted _ _ (c .before .before .before .before .before .loop .rest .now) (c .before .before .before .check-record .result) (c .before .before .before .check-record .ensures) _
     (c .before .before .before .before .before .loop .inv .octets) (c .before .checked .given .1)
 
--- src/find.rt:62:5
 loop-holds : tie.Need-loop-holds Inv-loop μ-loop
 loop-holds c = record { room = c .before .pre .0; octets = octets-each (c .before .args .part .now) (c .shared-slice-known .given); records = c .before .pre .1; same = refl }
 
--- src/find.rt:63:13
 check-record-requires : tie.Need-check-record-requires Inv-loop μ-loop
 check-record-requires c κs = omega arith
 
--- src/find.rt:65:35
 enum-known-checked : tie.Need-enum-known-checked Inv-loop μ-loop
 enum-known-checked c = search needs
 
--- src/find.rt:66:13
 enum-told : tie.Need-enum-told Inv-loop μ-loop
 enum-told c = search needs
 
--- src/find.rt:66:13
 record-lost-requires : tie.Need-record-lost-requires Inv-loop μ-loop
 record-lost-requires c κs = search needs
 
--- src/find.rt:66:13
 returns : tie.Need-returns Inv-loop μ-loop
 returns c =
     seek-stop _ _ (c .before .before .before .before .before .loop .rest .now) _ _ (c .before .before .before .before .before .loop .inv .records) (c .before .before .before .before .loop-test .taken)
     (walked-refused _ _ _ (c .before .before .before .check-record .result) (c .before .before .before .check-record .ensures) _ _ (c .before .enum-told .given .1))
 
--- src/find.rt:68:20
 sub-used : tie.Need-sub-used Inv-loop μ-loop
 sub-used c = omega (arith, accepted c .low)
 
--- src/find.rt:71:13
 returns-2 : tie.Need-returns-2 Inv-loop μ-loop
 returns-2 c =
     located-at (accepted (c .before .before)) (c .before .before .before .before .before .check-record .result .map) (walked-map _ _ _ (c .before .before .before .before .before .check-record .result) (c .before .before .before .before .before .check-record .ensures) _ (accepted (c .before .before)))
     ∙ ap recordLocated (sym (seek-here _ _ (c .before .before .before .before .before .before .before .loop .rest .now) _ _ (c .before .before .before .before .before .before .before .loop .inv .octets) (c .before .before .before .before .before .before .before .loop .inv .records) (accepted (c .before .before)) (c .before .if1 .taken)) ∙ c .before .before .before .before .before .before .before .loop .inv .same)
 
--- src/find.rt:79:16
 sub-rest : tie.Need-sub-rest Inv-loop μ-loop
 sub-rest c = omega (arith, accepted (c .before) .low, accepted (c .before) .high)
 
--- src/find.rt:79:16
 part-rest-start : tie.Need-part-rest-start Inv-loop μ-loop
 part-rest-start c = omega (arith, accepted (c .before) .low, accepted (c .before) .high)
 
--- src/find.rt:79:16
 part-rest-end : tie.Need-part-rest-end Inv-loop μ-loop
 part-rest-end c = omega (arith, accepted (c .before) .low, accepted (c .before) .high)
 
--- src/find.rt:81:16
 sub-left : tie.Need-sub-left Inv-loop μ-loop
 sub-left c = omega arith
 
--- src/find.rt:62:5
 loop-less : tie.Need-loop-less Inv-loop μ-loop
 loop-less c = omega (arith, accepted (c .before .before) .low, accepted (c .before .before) .high, c .rest .given .2)
 
--- src/find.rt:62:5
 loop-again : tie.Need-loop-again Inv-loop μ-loop
 loop-again c =
     seek-again _ _ _ _ (c .before .before .before .before .before .before .before .loop .rest .now) _ _ _ _ (c .before .before .before .before .before .before .before .loop .inv) (accepted (c .before .before)) (to-end (c .before .before .before .before .before .before .before .loop .rest .now) (c .before .before .before .checked .given .0 .0 - c .before .before .before .before .before .before .before .loop .at)) (c .before .if1 .left)
 
--- src/find.rt:83:5
 record-lost-requires-2 : tie.Need-record-lost-requires-2 Inv-loop μ-loop
 record-lost-requires-2 c κs = search needs
 
--- src/find.rt:54:1
 returns-3 : tie.Need-returns-3 Inv-loop μ-loop
 returns-3 c = c .record-lost2 .ensures ∙ ap recordLocated (sym (seek-end _ _ _ _ (omega arith)) ∙ c .before .before .loop .inv .same)
 

@@ -1,5 +1,5 @@
 -- `head::front_head` meets its contract: what is refused before is refused, and then LEN is more than is left or it is not. Assumes nothing.
-use mathlib.Core.Path.{_≡_, sym, ap, _∙_}
+use mathlib.Core.Path.{sym, ap, _∙_}
 use lib.Dec.{leb}
 use borrow.Author.Tests.{le-leb, lt-leb}
 use borrow.Author.Needs.{needs}
@@ -7,31 +7,22 @@ use Rattle.blocks.specs.Answers.{headOf}
 use Rattle.blocks.proofs.HeadLaws.{by-no-head, by-bad-len, by-head}
 use Rattle.blocks.proofs.head.front_head.Statement.{statement}
 use Rattle.blocks.proofs.head.front_head.Tie as tie
-use Rattle.blocks.proofs.head.front_head.Reads as reads
-use Rattle.blocks.proofs.head.front_head.Lts as lts
-use Rattle.blocks.proofs.head.read_head.Reads as read-head-reads
 
--- src/head.rt:96:9
 read-head-requires : tie.Need-read-head-requires
 read-head-requires c κs = search needs
 
--- src/head.rt:97:38
 enum-known-head : tie.Need-enum-known-head
 enum-known-head c = search needs
 
--- src/head.rt:98:9
 enum-told : tie.Need-enum-told
 enum-told c = search needs
 
--- src/head.rt:98:9
 returns : tie.Need-returns
 returns c = ap headOf (c .enum-told .given .1) ∙ sym (by-no-head leb _ _ _ (sym (c .before .before .read-head .ensures) ∙ ap headOf (c .enum-told .given .1)))
 
--- src/head.rt:101:9
 returns-2 : tie.Need-returns-2
 returns-2 c = sym (by-bad-len leb _ _ (sym (c .before .before .before .before .read-head .ensures) ∙ ap headOf (c .before .before .head .given .1)) (lt-leb _ _ (c .if1 .taken)))
 
--- src/head.rt:93:1
 returns-3 : tie.Need-returns-3
 returns-3 c = sym (by-head leb _ _ (sym (c .before .before .before .before .read-head .ensures) ∙ ap headOf (c .before .before .head .given .1)) (le-leb _ _ (c .if1 .left)))
 

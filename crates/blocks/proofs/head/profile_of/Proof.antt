@@ -3,18 +3,13 @@ use mathlib.Core.Path.{sym}
 use Rattle.blocks.proofs.HeadLaws.{cat-017, cat-018, cat-other}
 use Rattle.blocks.proofs.head.profile_of.Statement.{statement}
 use Rattle.blocks.proofs.head.profile_of.Tie as tie
-use Rattle.blocks.proofs.head.profile_of.Reads as reads
-use Rattle.blocks.proofs.head.profile_of.Lts as lts
 
--- src/head.rt:25:1
 returns : tie.Need-returns
 returns c = sym (cat-017 _ (c .match .keys1))
 
--- src/head.rt:25:1
 returns-2 : tie.Need-returns-2
 returns-2 c = sym (cat-018 _ (c .match .keys2))
 
--- src/head.rt:25:1
 returns-3 : tie.Need-returns-3
 returns-3 c = sym (cat-other _ (c .match .rest .0 .1) (c .match .rest .1))
 

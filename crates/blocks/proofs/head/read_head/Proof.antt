@@ -1,75 +1,52 @@
 -- `head::read_head` meets its contract: at each `return` the tests that led there say which case of the head's rule holds. Assumes nothing.
-use mathlib.Core.Path.{_≡_, sym, ap, _∙_}
-use mathlib.Core.Option.{none, some}
-use lib.ListN.{getD}
-use Rattle.rules.specs.Block.{categoryOf}
-use Rattle.rules.specs.Entry.{categories}
-use Rattle.records.specs.Sets.{categoryAt}
+use mathlib.Core.Path.{sym, ap, _∙_}
 use Rattle.blocks.specs.Answers.{profileOf}
 use Rattle.blocks.proofs.HeadLaws.{head-none, head-alien, head-less, head-good}
 use borrow.Author.Needs.{needs}
 use Rattle.blocks.proofs.head.read_head.Statement.{statement}
 use Rattle.blocks.proofs.head.read_head.Tie as tie
-use Rattle.blocks.proofs.head.read_head.Reads as reads
-use Rattle.blocks.proofs.head.read_head.Lts as lts
-use Rattle.blocks.proofs.head.profile_of.Reads as profile-of-reads
-use Rattle.blocks.proofs.head.wide.Reads as wide-reads
 
--- src/head.rt:65:9
 returns : tie.Need-returns
 returns c = sym (head-none _ (c .if1 .taken))
 
--- src/head.rt:67:28
 shared-slice-read-profile-of : tie.Need-shared-slice-read-profile-of
 shared-slice-read-profile-of c = search needs
 
--- src/head.rt:67:9
 profile-of-requires : tie.Need-profile-of-requires
 profile-of-requires c κs = search needs
 
--- src/head.rt:68:31
 enum-known-found : tie.Need-enum-known-found
 enum-known-found c = search needs
 
--- src/head.rt:69:9
 enum-told : tie.Need-enum-told
 enum-told c = search needs
 
--- src/head.rt:69:9
 returns-2 : tie.Need-returns-2
 returns-2 c = sym (head-alien _ (c .before .before .before .before .if1 .left) (sym (c .before .before .profile-of .ensures) ∙ ap profileOf (c .enum-told .given .1)))
 
--- src/head.rt:71:20
 shared-slice-read-wide : tie.Need-shared-slice-read-wide
 shared-slice-read-wide c = search needs
 
--- src/head.rt:71:15
 wide-requires : tie.Need-wide-requires
 wide-requires c κs = search needs
 
--- src/head.rt:71:15
 mul-len : tie.Need-mul-len
 mul-len c = search needs
 
--- src/head.rt:71:42
 shared-slice-read-wide-2 : tie.Need-shared-slice-read-wide-2
 shared-slice-read-wide-2 c = search needs
 
--- src/head.rt:71:37
 wide-requires-2 : tie.Need-wide-requires-2
 wide-requires-2 c κs = search needs
 
--- src/head.rt:71:15
 add-len : tie.Need-add-len
 add-len c = search needs
 
--- src/head.rt:73:9
 returns-3 : tie.Need-returns-3
 returns-3 c = sym (head-less _ (c .before .before .before .before .before .before .before .before .before .before .if1 .left) _ _ _
     (sym (c .before .before .before .before .before .before .before .before .profile-of .ensures) ∙ ap profileOf (c .before .before .before .before .before .before .found .given .1))
     (c .before .before .before .wide .ensures .0) (c .before .wide2 .ensures .0) (c .if2 .taken))
 
--- src/head.rt:61:1
 returns-4 : tie.Need-returns-4
 returns-4 c = sym (head-good _ (c .before .before .before .before .before .before .before .before .before .before .if1 .left) _ _ _
     (sym (c .before .before .before .before .before .before .before .before .profile-of .ensures) ∙ ap profileOf (c .before .before .before .before .before .before .found .given .1))

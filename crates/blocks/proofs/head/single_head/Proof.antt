@@ -1,5 +1,5 @@
 -- `head::single_head` meets its contract: what is refused before is refused, and then LEN is the length lent or it is not. Assumes nothing.
-use mathlib.Core.Path.{_≡_, sym, ap, _∙_}
+use mathlib.Core.Path.{sym, ap, _∙_}
 use lib.Dec.{eqb}
 use borrow.Author.Tests.{eq-eqb, ne-eqb}
 use borrow.Author.Needs.{needs}
@@ -7,31 +7,22 @@ use Rattle.blocks.specs.Answers.{headOf}
 use Rattle.blocks.proofs.HeadLaws.{by-no-head, by-bad-len, by-head}
 use Rattle.blocks.proofs.head.single_head.Statement.{statement}
 use Rattle.blocks.proofs.head.single_head.Tie as tie
-use Rattle.blocks.proofs.head.single_head.Reads as reads
-use Rattle.blocks.proofs.head.single_head.Lts as lts
-use Rattle.blocks.proofs.head.read_head.Reads as read-head-reads
 
--- src/head.rt:82:9
 read-head-requires : tie.Need-read-head-requires
 read-head-requires c κs = search needs
 
--- src/head.rt:83:38
 enum-known-head : tie.Need-enum-known-head
 enum-known-head c = search needs
 
--- src/head.rt:84:9
 enum-told : tie.Need-enum-told
 enum-told c = search needs
 
--- src/head.rt:84:9
 returns : tie.Need-returns
 returns c = ap headOf (c .enum-told .given .1) ∙ sym (by-no-head eqb _ _ _ (sym (c .before .before .read-head .ensures) ∙ ap headOf (c .enum-told .given .1)))
 
--- src/head.rt:87:9
 returns-2 : tie.Need-returns-2
 returns-2 c = sym (by-bad-len eqb _ _ (sym (c .before .before .before .before .read-head .ensures) ∙ ap headOf (c .before .before .head .given .1)) (ne-eqb _ _ (c .if1 .taken)))
 
--- src/head.rt:79:1
 returns-3 : tie.Need-returns-3
 returns-3 c = sym (by-head eqb _ _ (sym (c .before .before .before .before .read-head .ensures) ∙ ap headOf (c .before .before .head .given .1)) (eq-eqb _ _ (c .if1 .left)))
 

@@ -1,6 +1,6 @@
 -- `least::least_length` meets its contract. The loop's invariant: what is summed, with what the rest of the octet names, is the whole. The measure
 -- is how many places are left. Assumes nothing.
-use Prim.Native.Nat.{_-_, _/_}
+use Prim.Native.Nat.{_+_, _-_, _*_, _/_}
 use mathlib.Core.Path.{refl, sym, ap, _∙_}
 use mathlib.Core.List.{[]}
 use borrow.Author.Needs.{needs}
@@ -11,82 +11,63 @@ use lib.ListN.{getD}
 use Rattle.rules.specs.Answer.{if_then_else_}
 use Rattle.rules.specs.Presence.{flags}
 use Rattle.rules.specs.Entry.{categories, profileAt, sumLeast, leastLength}
-use Rattle.blocks.proofs.LeastLaws.{size-is, no-profile, no-octet, Summing, half-some, sum-again, sum-end}
+use Rattle.blocks.specs.Least.{leasts}
+use Rattle.blocks.proofs.LeastLaws.{size-is, no-octet, Summing, half-some, sum-again, sum-end}
 use Rattle.blocks.proofs.least.least_length.Statement.{statement}
 use Rattle.blocks.proofs.least.least_length.Tie as tie
-use Rattle.blocks.proofs.least.least_length.Reads as reads
-use Rattle.blocks.proofs.least.least_length.Lts as lts
-use Rattle.blocks.proofs.least.named.Reads as named-reads
-use Rattle.blocks.proofs.least.wide.Reads as wide-reads
 
 abbrev Inv-loop : tie.InvT-loop
-Inv-loop profile place octet first sum₀ full₀ left₀ k₀ sum full left k = Summing (getD (profileAt categories profile) place []) (leastLength profile place octet) sum full left k
+Inv-loop profile place octet octets first sum₀ full₀ left₀ k₀ sum full left k = Summing (getD (profileAt categories profile) place []) (leastLength profile place octet) sum full left k
 
 abbrev μ-loop : tie.MeasureT-loop
-μ-loop profile place octet first sum₀ full₀ left₀ k₀ sum full left k = 7 - k
+μ-loop profile place octet octets first sum₀ full₀ left₀ k₀ sum full left k = 7 - k
 
--- src/least.rt:61:9
+rows-of-requires : tie.Need-rows-of-requires Inv-loop μ-loop
+rows-of-requires c κs = search needs
+
 returns : tie.Need-returns Inv-loop μ-loop
-returns c = sym (no-profile _ _ _ (c .if1 .taken))
+returns c = sym (no-octet _ _ _ (omega (arith, c .before .rows-of .ensures .1)))
 
--- src/least.rt:64:9
-returns-2 : tie.Need-returns-2 Inv-loop μ-loop
-returns-2 c = sym (no-octet _ _ _ (c .if2 .taken))
-
--- src/least.rt:66:18
 mul-first : tie.Need-mul-first Inv-loop μ-loop
-mul-first c = omega arith
+mul-first c = omega (arith, c .before .rows-of .ensures .0, c .before .rows-of .ensures .1, c .before .rows-of .ensures .2)
 
--- src/least.rt:66:18
 add-first : tie.Need-add-first Inv-loop μ-loop
-add-first c = omega arith
+add-first c = omega (arith, c .before .before .rows-of .ensures .0, c .before .before .rows-of .ensures .1, c .before .before .rows-of .ensures .2)
 
--- src/least.rt:66:17
-mul-first-2 : tie.Need-mul-first-2 Inv-loop μ-loop
-mul-first-2 c = omega arith
-
--- src/least.rt:69:20
 wide-requires : tie.Need-wide-requires Inv-loop μ-loop
 wide-requires c κs = search needs
 
--- src/least.rt:71:5
 loop-holds : tie.Need-loop-holds Inv-loop μ-loop
 unfolding leastLength
-loop-holds c = record { few = omega arith; turns = omega arith; power = refl; same = zero-add _ ∙ ap (λ n. sumLeast (getD (profileAt categories (c .before .before .before .args .profile)) (c .before .before .before .args .place) []) (flags 7 (n / 2))) (c .wide .ensures .0) }
+loop-holds c = record { few = omega arith; turns = omega arith; power = refl; same = zero-add _ ∙ ap (λ n. sumLeast (getD (profileAt categories (c .before .before .before .before .args .profile)) (c .before .before .before .before .args .place) []) (flags 7 (n / 2))) (c .wide .ensures .0) }
 
--- src/least.rt:73:27
 add-named : tie.Need-add-named Inv-loop μ-loop
-add-named c = omega arith
+add-named c = omega (arith, c .before .before .before .before .before .rows-of .ensures .0, c .before .before .before .before .before .rows-of .ensures .1, c .before .before .before .before .before .rows-of .ensures .2)
 
--- src/least.rt:73:21
 named-requires : tie.Need-named-requires Inv-loop μ-loop
-named-requires c κs = omega arith
+named-requires c κs = omega (arith, c .before .before .before .before .before .rows-of .ensures .0, c .before .before .before .before .before .rows-of .ensures .1, c .before .before .before .before .before .rows-of .ensures .2)
 
--- src/least.rt:73:15
 add-sum : tie.Need-add-sum Inv-loop μ-loop
 add-sum c = omega (arith, c .named .ensures .1)
 
--- src/least.rt:74:16
 rem-left : tie.Need-rem-left Inv-loop μ-loop
 rem-left c = half-some (c .before .before .loop .inv) (c .before .loop-test .taken)
 
--- src/least.rt:76:13
 add-k : tie.Need-add-k Inv-loop μ-loop
 add-k c = omega arith
 
--- src/least.rt:71:5
 loop-less : tie.Need-loop-less Inv-loop μ-loop
 loop-less c = omega arith
 
--- src/least.rt:71:5
 loop-again : tie.Need-loop-again Inv-loop μ-loop
 loop-again c =
     sum-again (c .named .result) (c .before .before .loop .inv) (c .before .loop-test .taken) (c .named .ensures .1)
-    (c .named .ensures .0 ∙ ap (λ n. if leb (c .before .before .loop .full / 2) (c .before .before .loop .left) then n else 0) (size-is _ _ _ (c .before .before .before .before .before .if1 .left) (c .before .before .before .before .if2 .left) (c .before .loop-test .taken)))
+    (c .named .ensures .0
+    ∙ ap (λ n. if leb (c .before .before .loop .full / 2) (c .before .before .loop .left) then n else 0)
+    (ap (λ n. getD leasts (n + c .before .before .before .before .before .before .before .args .place * 7 + c .before .before .loop .k) 0) (c .before .before .before .before .before .before .rows-of .ensures .0) ∙ size-is _ _ _ (omega (arith, c .before .before .before .before .before .before .rows-of .ensures .1)) (c .before .loop-test .taken)))
 
--- src/least.rt:57:1
-returns-3 : tie.Need-returns-3 Inv-loop μ-loop
-returns-3 c = sum-end (c .before .loop .inv) (c .loop-test .left)
+returns-2 : tie.Need-returns-2 Inv-loop μ-loop
+returns-2 c = sum-end (c .before .loop .inv) (c .loop-test .left)
 
 pub least-length-spec : {M : Type 1} → statement M
 least-length-spec =
@@ -94,11 +75,10 @@ least-length-spec =
     (tie.spec
     Inv-loop
     μ-loop
+    rows-of-requires
     returns
-    returns-2
     mul-first
     add-first
-    mul-first-2
     wide-requires
     loop-holds
     add-named
@@ -108,4 +88,4 @@ least-length-spec =
     add-k
     loop-less
     loop-again
-    returns-3)
+    returns-2)

@@ -6,19 +6,13 @@ use borrow.Author.Tests.{le-leb, lt-leb}
 use Rattle.rules.proofs.AnswerLaws.{if-true, if-false}
 use Rattle.blocks.proofs.least.named.Statement.{statement}
 use Rattle.blocks.proofs.least.named.Tie as tie
-use Rattle.blocks.proofs.least.named.Reads as reads
-use Rattle.blocks.proofs.least.named.Lts as lts
-use Rattle.blocks.proofs.least.size_at.Reads as size-at-reads
 
--- src/least.rt:51:9
 returns : tie.Need-returns
 returns c = (sym (if-false _ (lt-leb _ _ (c .if1 .taken)) refl), omega arith)
 
--- src/least.rt:53:5
 size-at-requires : tie.Need-size-at-requires
 size-at-requires c κs = search needs
 
--- src/least.rt:46:1
 returns-2 : tie.Need-returns-2
 returns-2 c = (c .size-at .ensures .0 ∙ sym (if-true _ (le-leb _ _ (c .before .if1 .left)) refl), c .size-at .ensures .1)
 

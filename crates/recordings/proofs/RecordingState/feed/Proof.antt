@@ -6,57 +6,41 @@ use Rattle.recordings.specs.Answers.{countsOf, stateOf}
 use Rattle.recordings.proofs.FeedLaws.{fed-stop, fed-on, fed-off}
 use Rattle.recordings.proofs.RecordingState.feed.Statement.{statement}
 use Rattle.recordings.proofs.RecordingState.feed.Tie as tie
-use Rattle.recordings.proofs.RecordingState.feed.Reads as reads
-use Rattle.recordings.proofs.RecordingState.feed.Lts as lts
-use Rattle.recordings.proofs.add.Reads as add-reads
-use Rattle.recordings.proofs.check_recording.Reads as check-recording-reads
 
--- src/lib.rt:118:13
 enum-known-state : tie.Need-enum-known-state
 enum-known-state c = search needs
 
--- src/lib.rt:123:13
 enum-told : tie.Need-enum-told
 enum-told c = search needs
 
--- src/lib.rt:123:13
 returns : tie.Need-returns
 returns c = ap stateOf (c .enum-told .given .1) ∙ sym (ap (λ s. fed s (c .before .before .before .args .piece .now)) (ap stateOf (c .enum-told .given .1)) ∙ fed-stop _ _ _)
 
--- src/lib.rt:125:13
 check-recording-requires : tie.Need-check-recording-requires
 check-recording-requires c κs = search needs
 
--- src/lib.rt:128:25
 enum-known-checked : tie.Need-enum-known-checked
 enum-known-checked c = search needs
 
--- src/lib.rt:131:24
 add-requires : tie.Need-add-requires
 add-requires c κs = search needs
 
--- src/lib.rt:132:25
 add-requires-2 : tie.Need-add-requires-2
 add-requires-2 c κs = search needs
 
--- src/lib.rt:133:26
 add-requires-3 : tie.Need-add-requires-3
 add-requires-3 c κs = search needs
 
--- src/lib.rt:135:41
 enum-known-checked-2 : tie.Need-enum-known-checked-2
 enum-known-checked-2 c = search needs
 
--- src/lib.rt:137:24
 add-requires-4 : tie.Need-add-requires-4
 add-requires-4 c κs = search needs
 
--- src/lib.rt:113:5
 returns-2 : tie.Need-returns-2
 returns-2 c =
     fed-on _ _ _ _ _ _ _ (ap stateOf (c .before .before .before .before .before .before .before .before .state .given .1)) (sym (c .before .before .before .before .before .before .check-recording .ensures) ∙ ap countsOf (c .before .before .before .before .checked .given .1)) (c .before .before .add .ensures) (c .before .add2 .ensures) (c .add3 .ensures)
 
--- src/lib.rt:113:5
 returns-3 : tie.Need-returns-3
 returns-3 c =
     fed-off _ _ _ _ _ _ (ap stateOf (c .before .before .before .before .before .before .state .given .1)) (sym (c .before .before .before .before .check-recording .ensures) ∙ ap countsOf (c .before .before .checked2 .given .1)) (c .add4 .ensures)

@@ -1,28 +1,22 @@
 -- `RecordingState::finish` meets its contract. Assumes nothing.
-use mathlib.Core.Path.{refl, sym, ap, _∙_}
+use mathlib.Core.Path.{refl, sym, ap}
 use borrow.Author.Needs.{needs}
 use Rattle.rules.proofs.AnswerLaws.{bind-in, bind-out}
 use Rattle.recordings.specs.Feed.{finished}
 use Rattle.recordings.specs.Answers.{stateOf}
 use Rattle.recordings.proofs.RecordingState.finish.Statement.{statement}
 use Rattle.recordings.proofs.RecordingState.finish.Tie as tie
-use Rattle.recordings.proofs.RecordingState.finish.Reads as reads
-use Rattle.recordings.proofs.RecordingState.finish.Lts as lts
 
--- src/lib.rt:140:17
 enum-known-self : tie.Need-enum-known-self
 enum-known-self c = search needs
 
--- src/lib.rt:143:39
 enum-known-self-2 : tie.Need-enum-known-self-2
 enum-known-self-2 c = search needs
 
--- src/lib.rt:134:5
 returns : tie.Need-returns
 unfolding finished
 returns c = sym (bind-in _ (ap stateOf (c .before .self .given .1)) refl)
 
--- src/lib.rt:134:5
 returns-2 : tie.Need-returns-2
 unfolding finished
 returns-2 c = sym (bind-out _ (ap stateOf (c .before .self2 .given .1)))

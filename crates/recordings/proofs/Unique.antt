@@ -1,0 +1,48 @@
+-- No two distinct results satisfy the statement of a public function.
+--
+-- In order: a recording's check, fed whole or block by block; the length of a piece. Assumes nothing.
+use Prim.Native.Nat.{ℕ}
+use mathlib.Core.Path.{_≡_, sym, ap, ap₂, _∙_}
+use mathlib.Core.List.{List}
+use native.Mathlib.Omega.{arith}
+use Rattle.rules.specs.Entry.{checkRecording}
+use Rattle.rules.proofs.AnswerLaws.{ok-inj}
+use Rattle.recordings.specs.declared.RecordingChecked.{RecordingChecked}
+use Rattle.recordings.specs.declared.RecordingChecked.the-variants as recordingChecked
+use Rattle.recordings.specs.declared.RecordingState.{RecordingState}
+use Rattle.recordings.specs.declared.RecordingState.the-variants as recordingState
+use Rattle.recordings.specs.Feed.{SoFar, fed, finished, blockLength}
+use Rattle.recordings.specs.Answers.{countsOf, stateOf}
+
+-- ---- `check_recording`, `RecordingState::finish`
+
+counts-told : (a b : RecordingChecked) → countsOf a ≡ countsOf b → a ≡ b
+counts-told (recordingChecked.Accepted k m) (recordingChecked.Accepted l n) e =
+    ap₂ recordingChecked.Accepted (ap (λ z. z .blocks) (ok-inj e)) (ap (λ z. z .records) (ok-inj e))
+counts-told (recordingChecked.Accepted k m) (recordingChecked.Refused n p) e = let z : _≡_ {A = ℕ} 0 1 = cc in absurd (omega arith)
+counts-told (recordingChecked.Refused m q) (recordingChecked.Accepted l n) e = let z : _≡_ {A = ℕ} 0 1 = cc in absurd (omega arith)
+counts-told (recordingChecked.Refused m q) (recordingChecked.Refused n p) e = cc
+
+pub one-check : (recording : List ℕ) (a b : RecordingChecked) → countsOf a ≡ checkRecording recording → countsOf b ≡ checkRecording recording → a ≡ b
+one-check recording a b p q = counts-told a b (p ∙ sym q)
+
+pub one-finish : (s : RecordingState) (a b : RecordingChecked) → countsOf a ≡ finished (stateOf s) → countsOf b ≡ finished (stateOf s) → a ≡ b
+one-finish s a b p q = counts-told a b (p ∙ sym q)
+
+-- ---- `RecordingState::feed`
+
+state-told : (a b : RecordingState) → stateOf a ≡ stateOf b → a ≡ b
+state-told (recordingState.SoFar j k m) (recordingState.SoFar i l n) e =
+    ap (λ x. recordingState.SoFar x k m) (ap (λ z. z .place) (ok-inj e))
+    ∙ ap₂ (recordingState.SoFar i) (ap (λ z. z .blocks) (ok-inj e)) (ap (λ z. z .records) (ok-inj e))
+state-told (recordingState.SoFar j k m) (recordingState.Refused n p) e = let z : _≡_ {A = ℕ} 0 1 = cc in absurd (omega arith)
+state-told (recordingState.Refused m q) (recordingState.SoFar i l n) e = let z : _≡_ {A = ℕ} 0 1 = cc in absurd (omega arith)
+state-told (recordingState.Refused m q) (recordingState.Refused n p) e = cc
+
+pub one-state : (s : RecordingState) (piece : List ℕ) (a b : RecordingState) → stateOf a ≡ fed (stateOf s) piece → stateOf b ≡ fed (stateOf s) piece → a ≡ b
+one-state s piece a b p q = state-told a b (p ∙ sym q)
+
+-- ---- `block_length`
+
+pub one-length : (head : List ℕ) (a b : ℕ) → a ≡ blockLength head → b ≡ blockLength head → a ≡ b
+one-length head a b p q = p ∙ sym q
