@@ -70,6 +70,16 @@ static bool take_number(const char *word, uint64_t *n)
     return *word >= '0' && *word <= '9' && *end == 0;
 }
 
+/* A number that may be larger than what a call can be given: the largest of those then. No category has an item 65535 or an FRN 63,
+ * and no item or block needs more room than there is. */
+static bool take_at_most(const char *word, uint64_t most, uint64_t *n)
+{
+    bool taken = take_number(word, n);
+    if (*n > most)
+        *n = most;
+    return taken;
+}
+
 static int digit(char c)
 {
     return c >= '0' && c <= '9'   ? c - '0'
@@ -190,7 +200,7 @@ static void ask_add(const uint8_t *old, size_t used, size_t room, const int64_t 
     static uint8_t out[1 << 20];
     uint64_t set = 0;
     for (size_t i = 0; i < count; i++)
-        set |= asterix_frn((unsigned)frns[i]);
+        set |= asterix_frn(frns[i] < 0 || frns[i] > 63 ? 63 : (unsigned)frns[i]);
     memcpy(out, old, used);
     struct asterix_record_added added = asterix_add_record(out, room, used, set, items, have);
     if (added.number) {
@@ -260,18 +270,18 @@ static bool ask(char *line)
     else if (strcmp(word[0], "recording") == 0 && words == 2 && take_octets(word[1], first, &n))
         ask_recording(first, n);
     else if (strcmp(word[0], "read") == 0 && words == 4 && take_number(word[1], &a) && a < 256 &&
-             take_number(word[2], &b) && b < 65536 && take_octets(word[3], first, &n))
+             take_at_most(word[2], 65535, &b) && take_octets(word[3], first, &n))
         ask_read(a, b, first, n);
     else if (strcmp(word[0], "write") == 0 && words == 5 && take_number(word[1], &a) && a < 256 &&
-             take_number(word[2], &b) && b < 65536 && take_number(word[3], &c) && c <= sizeof second &&
+             take_at_most(word[2], 65535, &b) && take_at_most(word[3], sizeof second, &c) &&
              take_list(word[4], given, &count))
         ask_write(a, b, c, given, count);
     else if (strcmp(word[0], "add") == 0 && words == 5 && take_octets(word[1], first, &n) &&
-             take_number(word[2], &a) && a <= sizeof second && take_list(word[3], given, &count) &&
+             take_at_most(word[2], sizeof second, &a) && take_list(word[3], given, &count) &&
              take_octets(word[4], second, &m))
         ask_add(first, n, a, given, count, second, m);
     else if (strcmp(word[0], "find") == 0 && words == 4 && take_octets(word[1], first, &n) &&
-             take_number(word[2], &a) && a < 65536 && take_number(word[3], &b))
+             take_at_most(word[2], 65535, &a) && take_number(word[3], &b))
         ask_find(first, n, a, b);
     else if (strcmp(word[0], "record") == 0 && words == 3 && take_octets(word[1], first, &n) &&
              take_number(word[2], &a))
