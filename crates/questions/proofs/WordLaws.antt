@@ -1,6 +1,6 @@
 -- What the words of a question say, by what the crate `lines` answers of them.
 --
--- In order: numbers; categories; octets; sets of FRNs, word by word. Assumes nothing.
+-- In order: numbers; categories; sets of FRNs, word by word; what each reading says. Assumes nothing.
 use Prim.Native.Nat.{ℕ, _+_, _-_, _/_, _^_, _<_, _≤_, min}
 use mathlib.Core.Path.{_≡_, refl, sym, ap, _∙_, subst}
 use mathlib.Core.Bool.{Bool, true, false, cond}
@@ -21,7 +21,14 @@ use Rattle.lines.proofs.NumberLaws.{number-is, large-is, not-is}
 use Rattle.lines.proofs.WordLaws.{later, first-is, none-later, some-later}
 use Rattle.questions.specs.declared.word.Number.{Number}
 use Rattle.questions.specs.declared.word.Number.the-variants as number
-use Rattle.questions.specs.Word.{_>>=_, atMost, numberIn, NumberWithin, categoryOf, withFrns, frnsOf}
+use Rattle.questions.specs.declared.word.Category.{Category}
+use Rattle.questions.specs.declared.word.Category.the-variants as category
+use Rattle.questions.specs.declared.word.Octets.{Octets}
+use Rattle.questions.specs.declared.word.Octets.the-variants as octets
+use Rattle.questions.specs.declared.word.Items.{Items}
+use Rattle.questions.specs.declared.word.Items.the-variants as items
+use Rattle.records.specs.declared.ItemSet.{ItemSet}
+use Rattle.questions.specs.Word.{_>>=_, atMost, numberIn, NumberWithin, categoryOf, categoryIn, octetsIn, OctetsWithin, withFrns, frnsOf, setIn}
 
 differ : {A : Type 0} → _≡_ {A = ℕ} 0 1 → A
 differ z = absurd (omega arith)
@@ -137,3 +144,26 @@ setting-none s e = rw e (ap some no-flags)
 
 pub setting-first : (s : List ℕ) → Setting s s 0
 setting-first s = record { short = omega arith; same = ap (λ (ts : List Bool). withFrns ts (words 44 s)) no-flags }
+
+-- ---- what a reading of a category, of octets and of a set says
+
+pub cat-is : (r : Category) (n : ℕ) {m : Option ℕ} → categoryIn r ≡ m → r ≡ category.Cat n → some n ≡ m
+cat-is r n h e = sym (ap categoryIn e) ∙ h
+
+pub cat-not : (r : Category) {m : Option ℕ} → categoryIn r ≡ m → r ≡ category.NotCategory → none ≡ m
+cat-not r h e = sym (ap categoryIn e) ∙ h
+
+pub count-is : (r : Octets) (l : List ℕ) (n : ℕ) {m : Option (List ℕ)} → octetsIn r l ≡ m → r ≡ octets.Count n → some (take n l) ≡ m
+count-is r l n h e = sym (ap (λ (x : Octets). octetsIn x l) e) ∙ h
+
+pub count-not : (r : Octets) (l : List ℕ) {m : Option (List ℕ)} → octetsIn r l ≡ m → r ≡ octets.NotOctets → none ≡ m
+count-not r l h e = sym (ap (λ (x : Octets). octetsIn x l) e) ∙ h
+
+pub count-few : (r : Octets) (n size : ℕ) → OctetsWithin r size → r ≡ octets.Count n → n ≤ size
+count-few r n size h e = subst (λ (x : Octets). OctetsWithin x size) e h
+
+pub set-is : (r : Items) (s : ItemSet) {m : Option (List Bool)} → setIn r ≡ m → r ≡ items.Set s → some (flags 64 (s .bits)) ≡ m
+set-is r s h e = sym (ap setIn e) ∙ h
+
+pub set-not : (r : Items) {m : Option (List Bool)} → setIn r ≡ m → r ≡ items.NotSet → none ≡ m
+set-not r h e = sym (ap setIn e) ∙ h

@@ -2,3 +2,4 @@
 pub mod Kind
 pub mod Split
 pub mod Word
+pub mod Ask
