@@ -1,0 +1,2 @@
+pub mod StructLaws
+pub mod Unique
