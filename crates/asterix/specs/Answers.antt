@@ -1,5 +1,5 @@
 -- The struct that an answer of the rules makes, for C and Rust: `number` is 0 where the work was done, and else the refusal's; `place` is the refusal's, 0 where
--- there is none; every other member is 0 on refusal. Assumes nothing.
+-- there is none; every other member is 0 on refusal. `proofs/NumberLaws` has that no refusal's number is 0. Assumes nothing.
 --
 -- In order: checking; finding; one item; adding a record.
 use Prim.Native.Nat.{ℕ, _-_}
