@@ -1,4 +1,3 @@
-pub mod Stores
 pub mod WriteRefusals
 pub mod WriteSound
 pub mod WriteFields
@@ -8,17 +7,9 @@ pub mod WriteSigns
 pub mod WriteParts
 pub mod WriteCode
 pub mod WriteTurns
-pub mod TableLaws
-pub mod FieldCodes
-pub mod Turns
-pub mod OctetLaws
-pub mod PartLaws
-pub mod ShapeLaws
 pub mod WriteItem
-pub mod ReadLaws
+pub mod PlaceLaws
 pub mod CheckLaws
 pub mod WriteTrip
-pub mod StoreLaws
 pub mod OneLaws
-pub mod RuleLaws
 pub mod Unique

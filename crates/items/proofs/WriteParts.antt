@@ -20,9 +20,9 @@ use Rattle.rules.specs.Field.{Kind, unsigned, signed, Field, spare, value, bits
 use Rattle.rules.specs.Layout.{octets}
 use Rattle.rules.proofs.AnswerLaws.{refused-ok, ok-inj, bind-elim, need-elim, bind-cong, bind-assoc, need-bind}
 use Rattle.items.specs.Write.{marked, packFirst, codeFor, widthOf, kindOf, fieldIn, groupIn, part, packFrom}
-use Rattle.items.specs.Tables.{fields, fieldRow, fieldAt, groupAt}
-use Rattle.items.specs.declared.tables.FieldRow.{FieldRow}
-use Rattle.items.specs.declared.tables.GroupRow.{GroupRow}
+use Rattle.layouts.specs.Tables.{fields, fieldRow, fieldAt, groupAt}
+use Rattle.layouts.specs.declared.tables.FieldRow.{FieldRow}
+use Rattle.layouts.specs.declared.tables.GroupRow.{GroupRow}
 use Rattle.items.proofs.WriteSound.{width-few}
 use Rattle.items.proofs.WriteTables.{fields-length, field-row, field-in-sound, group-end, group-in-sound}
 use Rattle.items.proofs.WriteLaid.{pow-256}

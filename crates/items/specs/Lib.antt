@@ -1,5 +1,2 @@
-pub mod Tables
 pub mod Write
-pub mod Read
 pub mod Answers
-pub mod FieldRules

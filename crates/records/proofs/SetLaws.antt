@@ -22,7 +22,7 @@ use Rattle.rules.specs.Presence.{flags, number, present, usable, house, flagRow
 use Rattle.rules.specs.Record.{Place, places}
 use Rattle.rules.proofs.AnswerLaws.{refused-ok, ok-inj, bind-in, bind-elim, bind-assoc, if-inv, if-true, if-false, both-left, both-right, Octets}
 use Rattle.rules.proofs.PresenceLaws.{flags-length, number-flags}
-use Rattle.items.proofs.CheckLaws.{octets-known}
+use Rattle.layouts.proofs.OctetLaws.{octets-known}
 use Rattle.records.specs.Sets.{categoryAt, bitsOf, within, setAt}
 use Rattle.records.specs.Walk.{usableBits, ended, setFrom}
 use Rattle.records.proofs.FlagLaws.{number-append, number-none, over-pad, bits-flags, bits-tail, within-pad, within-append}

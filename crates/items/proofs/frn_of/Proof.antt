@@ -3,7 +3,7 @@ use Prim.Native.Nat.{_-_}
 use mathlib.Core.Path.{sym, _∙_}
 use native.Mathlib.Omega.{arith}
 use borrow.Author.Needs.{needs}
-use Rattle.items.proofs.TableLaws.{Seeking, seek-first, seek-found, seek-next, seek-end}
+use Rattle.items.proofs.PlaceLaws.{Seeking, seek-first, seek-found, seek-next, seek-end}
 use Rattle.items.proofs.frn_of.Statement.{statement}
 use Rattle.items.proofs.frn_of.Tie as tie
 

@@ -2,7 +2,7 @@
 use mathlib.Core.Path.{ap, _∙_, sym}
 use borrow.Author.Tests.{eq-eqb, ne-eqb}
 use Rattle.items.specs.Answers.{isNamed}
-use Rattle.items.proofs.TableLaws.{place-named}
+use Rattle.items.proofs.PlaceLaws.{place-named}
 use borrow.Author.Needs.{needs}
 use Rattle.items.proofs.is_named.Statement.{statement}
 use Rattle.items.proofs.is_named.Tie as tie

@@ -1,11 +1,9 @@
 -- `items::is_usable` meets its contract: a place has an item where its layout is not that of no item. Assumes nothing.
-use Rattle.items.proofs.TableLaws.{usable-at, not-usable, none-past, none-other}
+use Rattle.layouts.proofs.TableLaws.{none-past, none-other}
+use Rattle.items.proofs.PlaceLaws.{usable-at, not-usable}
 use borrow.Author.Needs.{needs}
 use Rattle.items.proofs.is_usable.Statement.{statement}
 use Rattle.items.proofs.is_usable.Tie as tie
-use Rattle.items.proofs.is_usable.Reads as reads
-use Rattle.items.proofs.is_usable.Lts as lts
-use Rattle.items.proofs.tables.layout_row.Reads as layout-row-reads
 
 mul-layout-row : tie.Need-mul-layout-row
 mul-layout-row c = search needs

@@ -1,5 +1,5 @@
 -- `items::reference_of` meets its contract. Assumes nothing.
-use Rattle.items.proofs.TableLaws.{place-reference}
+use Rattle.items.proofs.PlaceLaws.{place-reference}
 use Rattle.items.specs.Answers.{referenceIn}
 use Rattle.rules.specs.Answer.{if_then_else_}
 use mathlib.Core.Path.{ap, _∙_, sym}
@@ -7,9 +7,6 @@ use borrow.Author.Tests.{eq-eqb, ne-eqb}
 use borrow.Author.Needs.{needs}
 use Rattle.items.proofs.reference_of.Statement.{statement}
 use Rattle.items.proofs.reference_of.Tie as tie
-use Rattle.items.proofs.reference_of.Reads as reads
-use Rattle.items.proofs.reference_of.Lts as lts
-use Rattle.items.proofs.place_of.Reads as place-of-reads
 
 -- src/lib.rt:65:9
 place-of-requires : tie.Need-place-of-requires

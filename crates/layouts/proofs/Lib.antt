@@ -1,0 +1,11 @@
+pub mod Stores
+pub mod TableLaws
+pub mod FieldCodes
+pub mod Turns
+pub mod OctetLaws
+pub mod PartLaws
+pub mod ShapeLaws
+pub mod ReadLaws
+pub mod WholeLaws
+pub mod StoreLaws
+pub mod RuleLaws

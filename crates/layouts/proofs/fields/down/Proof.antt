@@ -1,0 +1,17 @@
+-- `layouts::fields::down` meets its contract. Assumes nothing.
+use Rattle.layouts.proofs.FieldCodes.{down-fits, down-back}
+use borrow.Author.Needs.{needs}
+use Rattle.layouts.proofs.fields.down.Statement.{statement}
+use Rattle.layouts.proofs.fields.down.Tie as tie
+
+cast-result : tie.Need-cast-result
+cast-result c = search needs
+
+sub-result : tie.Need-sub-result
+sub-result c = down-fits (c .args .n) (c .pre)
+
+returns : tie.Need-returns
+returns c = down-back (c .args .n) (c .pre)
+
+pub down-spec : {M : Type 1} → statement M
+down-spec = tie.close (tie.spec cast-result sub-result returns)

@@ -1,0 +1,86 @@
+// The fields of a part, which is one number: they are cut off it from its highest bit down, each by its row of the table.
+use super::tables::FieldRow;
+use super::tables::SPARE;
+use super::tables::TWOS;
+use super::tables::field_at;
+ghost use mathlib.Core.Path.{_≡_};
+ghost use Prim.Native.Nat.{_+_, _≤_, _<_, _^_};
+ghost use mathlib.Core.List.{[]};
+ghost use lib.Seq.{sets};
+ghost use lib.IntN.{pos, negsuc};
+ghost use Rattle.layouts.specs.Read.{rows, valueOf, width, shown, takes, values, count};
+
+// The power of two.
+pub fn pow2(k: u64) -> u64
+    requires { ⌜ k < 64 ⌝ }
+    ensures { λ r. ⌜ r ≡ 2 ^ k ⌝ }
+{
+    1u64 << k
+}
+
+// n and -(n + 1): the only places where a signed number is made.
+fn up(n: u64) -> i64
+    requires { ⌜ n < 2 ^ 63 ⌝ }
+    ensures { λ r. ⌜ r ≡ pos n ⌝ }
+{
+    n as i64
+}
+
+fn down(n: u64) -> i64
+    requires { ⌜ n < 2 ^ 63 ⌝ }
+    ensures { λ r. ⌜ r ≡ negsuc n ⌝ }
+{
+    -1 - (n as i64)
+}
+
+// The value that a field's code stands for.
+pub fn value_of(f: FieldRow, code: u64) -> i64
+    requires { ⌜ (1 ≤ f .0) × (f .0 ≤ 62) ⌝ }
+    requires { ⌜ code < 2 ^ f .0 ⌝ }
+    ensures { λ v. ⌜ v ≡ valueOf f code ⌝ }
+{
+    let bits = f.0;
+    if f.1 != TWOS {
+        return up(code);
+    }
+    if code < pow2(bits - 1) {
+        return up(code);
+    }
+    down(pow2(bits) - 1 - code)
+}
+
+// ---- storing
+
+// A field's value at a place of the output, unless the field is spare; the place after it.
+fn put(f: FieldRow, v: i64, out: &mut [i64; 8192], at: usize) -> usize
+    requires { ⌜ at + takes f ≤ 8_192 ⌝ }
+    ensures { λ r. ⌜ (r ≡ at + takes f) × (now (out .exit) ≡ sets (now (out .entry)) at (shown f v [])) ⌝ }
+{
+    if f.1 == SPARE {
+        return at;
+    }
+    out[at] = v;
+    at + 1
+}
+
+// The values of the fields of a number of w bits, from a place of the output on; the place after them.
+pub fn fields_store(n: u64, w: u64, a: usize, e: usize, out: &mut [i64; 8192], at: usize) -> usize
+    requires { ⌜ (e ≤ 113) × (w ≡ width (rows a e)) ⌝ }
+    requires { ⌜ (w ≤ 64) × (n < 2 ^ w) ⌝ }
+    requires { ⌜ at + count (rows a e) ≤ 8_192 ⌝ }
+    ensures { λ r. ⌜ (r ≡ at + count (rows a e)) × (now (out .exit) ≡ sets (now (out .entry)) at (values (rows a e) n)) ⌝ }
+{
+    let mut rest = n;
+    let mut left = w;
+    let mut i = a;
+    let mut k = at;
+    while i < e {
+        let f = field_at(i);
+        left = left - f.0;
+        let v = value_of(f, rest >> left);
+        k = put(f, v, out, k);
+        rest = rest % pow2(left);
+        i = i + 1;
+    }
+    k
+}

@@ -1,0 +1,287 @@
+// The parts of an item, end to end: how many there are and how many octets they take, and their fields, part by part.
+use super::field_rules::are_obeyed;
+use super::field_rules::first_rule;
+use super::field_rules::is_free;
+use super::field_rules::size_at;
+use super::fields::fields_store;
+use super::tables::EXTENDED;
+use super::tables::FIXED;
+use super::tables::LED;
+use super::tables::LayoutRow;
+use super::tables::NONE;
+use super::tables::REPEATED;
+use super::tables::group_at;
+ghost use mathlib.Core.Path.{_≡_};
+ghost use mathlib.Core.Bool.{true};
+ghost use Prim.Native.Nat.{_+_, _-_, _*_, _%_, _≤_, _<_, _^_};
+ghost use lib.ListN.{length, take, drop};
+ghost use lib.Seq.{sets};
+ghost use Rattle.rules.specs.Layout.{joined, concat};
+ghost use Rattle.layouts.specs.Read.{rowsAt, partAt, legal, span, partSound, partsSound, partsLegal, values, count, holds, partValues, shapeIs, chain, listShape, headOf, stepOf, shapeOf, wholeOf, rowSound};
+ghost use lib.Dec.{eqb};
+ghost use Rattle.layouts.specs.Tables.{groupAt};
+
+fn wide(x: u8) -> u64
+    ensures { λ r. ⌜ (r ≡ x) × (r < 256) ⌝ }
+{
+    x as u64
+}
+
+// The number of some octets, high octet first.
+fn number_at(s: &[u8], at: usize, size: usize) -> u64
+    requires { ⌜ (size ≤ 8) × (at + size ≤ length (now s)) ⌝ }
+    ensures { λ r. ⌜ (r ≡ joined (take size (drop at (now (s .entry))))) × (r < 2 ^ (8 * size)) ⌝ }
+{
+    let mut n: u64 = 0;
+    let mut i: usize = 0;
+    while i < size {
+        n = n * 256 + wide(s[at + i]);
+        i = i + 1;
+    }
+    n
+}
+
+// Whether the fields of the part at a place, by a group, are legal: those that have a rule obey it.
+pub fn part_legal(s: &[u8], at: usize, group: usize, step: usize) -> bool
+    requires { ⌜ (step ≤ 1) × (group < 52) × (partSound step (groupAt group) ≡ true) × (at + groupAt group .0 ≤ length (now s)) ⌝ }
+    ensures { λ r. ⌜ r ≡ legal (rowsAt group) (partAt step group (drop at (now (s .entry)))) ⌝ }
+{
+    let a = first_rule(group);
+    let e = first_rule(group + 1);
+    if e <= a {
+        return true;
+    }
+    are_obeyed(number_at(s, at, size_at(group)) >> step, a, e)
+}
+
+// Whether the fields of so many parts, from a place on, are legal. The first part is by the group given; with step 1 each part has the next
+// group and ends in an FX bit, with step 0 all share that group.
+pub fn parts_legal(s: &[u8], at: usize, count: usize, group: usize, step: usize) -> bool
+    requires { ⌜ (step ≤ 1) × (partsSound step group count ≡ true) × (at + span step group count ≤ length (now s)) ⌝ }
+    ensures { λ r. ⌜ r ≡ partsLegal step group count (drop at (now (s .entry))) ⌝ }
+{
+    let mut p = at;
+    let mut g = group;
+    let mut k = count;
+    while 0 < k {
+        if !part_legal(s, p, g, step) {
+            return false;
+        }
+        p = p + size_at(g);
+        g = g + step;
+        k = k - 1;
+    }
+    true
+}
+
+// ---- shapes
+
+// How many parts an item has, and how many octets it takes.
+pub enum Shape {
+    Parts { count: usize, long: usize },
+    // The number of the refusal, which is at the item's start.
+    Refused { number: u8 },
+}
+
+fn octet(x: u8) -> usize
+    ensures { λ r. ⌜ (r ≡ x) × (r ≤ 255) ⌝ }
+{
+    x as usize
+}
+
+// Whether the FX bit of a part's last octet says that no other part follows.
+fn is_last(x: u8) -> bool
+    ensures { λ r. ⌜ r ≡ eqb (x % 2) 0 ⌝ }
+{
+    x % 2 == 0
+}
+
+// The shape of an item whose parts follow each other as far as the FX bits say, at most those of the groups from first to before last.
+fn chain_of(s: &[u8], first: usize, last: usize) -> Shape
+    requires { ⌜ (last ≤ 52) × (partsSound 1 first (last - first) ≡ true) ⌝ }
+    ensures { λ r. ⌜ shapeIs r ≡ chain first (last - first) (now (s .entry)) ⌝ }
+{
+    let mut g = first;
+    let mut at: usize = 0;
+    let mut count: usize = 0;
+    while g < last {
+        let size = size_at(g);
+        if s.len() - at < size {
+            return Shape::Refused { number: 9 };
+        }
+        at = at + size;
+        count = count + 1;
+        if is_last(s[at - 1]) {
+            return Shape::Parts { count, long: at };
+        }
+        g = g + 1;
+    }
+    Shape::Refused { number: 11 }
+}
+
+// The shape of a list of n parts, of which an item may have so many, in as many octets as there are.
+fn list_of(l: LayoutRow, n: usize, have: usize) -> Shape
+    requires { ⌜ (rowSound l ≡ true) × (l .0 ≡ 2) × (n ≤ 255) ⌝ }
+    ensures { λ r. ⌜ shapeIs r ≡ listShape (l .1) (l .2) (groupAt (l .3) .0) n have ⌝ }
+{
+    let long = 1 + n * size_at(l.3);
+    if have < long {
+        return Shape::Refused { number: 9 };
+    }
+    if n < l.1 {
+        return Shape::Refused { number: 11 };
+    }
+    if l.2 < n {
+        return Shape::Refused { number: 11 };
+    }
+    Shape::Parts { count: n, long }
+}
+
+// The shape of an item that starts a part of a block, by its layout: 21 where there is no item; 9 where its count or length octet is cut, 10
+// where its length is under the least, 9 where it is cut, 11 where its count is barred or FX asks for more than is printed.
+pub fn shape_of(l: LayoutRow, s: &[u8]) -> Shape
+    requires { ⌜ rowSound l ≡ true ⌝ }
+    ensures { λ r. ⌜ shapeIs r ≡ shapeOf l (now (s .entry)) ⌝ }
+{
+    let kind = l.0;
+    if kind == NONE {
+        return Shape::Refused { number: 21 };
+    }
+    if kind == FIXED {
+        let size = size_at(l.3);
+        if s.len() < size {
+            return Shape::Refused { number: 9 };
+        }
+        return Shape::Parts {
+            count: 1,
+            long: size,
+        };
+    }
+    if kind == EXTENDED {
+        return chain_of(s, l.3, l.4);
+    }
+    if s.len() < 1 {
+        return Shape::Refused { number: 9 };
+    }
+    let n = octet(s[0]);
+    if kind == LED {
+        if n <= l.1 {
+            return Shape::Refused { number: 10 };
+        }
+        if s.len() < n {
+            return Shape::Refused { number: 9 };
+        }
+        return Shape::Parts {
+            count: n - 1,
+            long: n,
+        };
+    }
+    list_of(l, n, s.len())
+}
+
+// How many octets come before the parts.
+fn head_of(kind: u8) -> usize
+    ensures { λ r. ⌜ r ≡ headOf kind ⌝ }
+{
+    if kind == REPEATED {
+        return 1;
+    }
+    if kind == LED {
+        return 1;
+    }
+    0
+}
+
+// The shape of an item whose fields are legal, else 11. The fields of a free group need no look, however many parts there are.
+pub fn whole_of(l: LayoutRow, s: &[u8]) -> Shape
+    requires { ⌜ rowSound l ≡ true ⌝ }
+    ensures { λ r. ⌜ shapeIs r ≡ wholeOf l (now (s .entry)) ⌝ }
+{
+    let shape = shape_of(l, s);
+    let Shape::Parts { count, long: _ } = shape else {
+        return shape;
+    };
+    let kind = l.0;
+    if kind == EXTENDED {
+        if parts_legal(s, 0, count, l.3, 1) {
+            return shape;
+        }
+        return Shape::Refused { number: 11 };
+    }
+    if is_free(l.3) {
+        return shape;
+    }
+    if parts_legal(s, head_of(kind), count, l.3, 0) {
+        return shape;
+    }
+    Shape::Refused { number: 11 }
+}
+
+// ---- storing
+
+// The values of the part at a place, by a group, from a place of the output on; the place after them.
+fn part_store(
+    s: &[u8],
+    at: usize,
+    group: usize,
+    step: usize,
+    out: &mut [i64; 8192],
+    q: usize,
+) -> usize
+    requires { ⌜ (step ≤ 1) × (group < 52) × (partSound step (groupAt group) ≡ true) × (at + groupAt group .0 ≤ length (now s)) ⌝ }
+    requires { ⌜ q + count (rowsAt group) ≤ 8_192 ⌝ }
+    ensures { λ r. ⌜ (r ≡ q + count (rowsAt group)) × (now (out .exit) ≡ sets (now (out .entry)) q (values (rowsAt group) (partAt step group (drop at (now (s .entry)))))) ⌝ }
+{
+    let r = group_at(group);
+    let size = r.0;
+    let w = 8 * size - step;
+    let n = number_at(s, at, size) >> step;
+    fields_store(n, w as u64, r.1, r.2, out, q)
+}
+
+// The values of so many parts, at the start of the output; how many they are.
+pub fn parts_store(
+    s: &[u8],
+    at: usize,
+    parts: usize,
+    group: usize,
+    step: usize,
+    out: &mut [i64; 8192],
+) -> usize
+    requires { ⌜ (step ≤ 1) × (partsSound step group parts ≡ true) × (at + span step group parts ≤ length (now s)) ⌝ }
+    requires { ⌜ holds step group parts ≤ 8_192 ⌝ }
+    ensures { λ r. ⌜ (r ≡ holds step group parts) × (now (out .exit) ≡ sets (now (out .entry)) 0 (concat (partValues step group parts (drop at (now (s .entry)))))) ⌝ }
+{
+    let mut p = at;
+    let mut g = group;
+    let mut k = parts;
+    let mut q: usize = 0;
+    while 0 < k {
+        q = part_store(s, p, g, step, out, q);
+        let r = group_at(g);
+        p = p + r.0;
+        g = g + step;
+        k = k - 1;
+    }
+    q
+}
+
+// Whether each part has its own group, and an FX bit.
+fn step_of(kind: u8) -> usize
+    ensures { λ r. ⌜ (r ≡ stepOf kind) × (r ≤ 1) ⌝ }
+{
+    if kind == EXTENDED {
+        return 1;
+    }
+    0
+}
+
+// The values of an item with so many parts, at the start of the output; how many they are.
+pub fn item_store(l: LayoutRow, s: &[u8], parts: usize, out: &mut [i64; 8192]) -> usize
+    requires { ⌜ (partsSound (stepOf (l .0)) (l .3) parts ≡ true) × (headOf (l .0) + span (stepOf (l .0)) (l .3) parts ≤ length (now s)) ⌝ }
+    requires { ⌜ holds (stepOf (l .0)) (l .3) parts ≤ 8_192 ⌝ }
+    ensures { λ r. ⌜ (r ≡ holds (stepOf (l .0)) (l .3) parts) × (now (out .exit) ≡ sets (now (out .entry)) 0 (concat (partValues (stepOf (l .0)) (l .3) parts (drop (headOf (l .0)) (now (s .entry)))))) ⌝ }
+{
+    let kind = l.0;
+    parts_store(s, head_of(kind), parts, l.3, step_of(kind), out)
+}
