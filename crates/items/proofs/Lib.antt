@@ -22,3 +22,4 @@ pub mod StoreLaws
 pub mod OneLaws
 pub mod RuleLaws
 pub mod Unique
+pub mod PlainLaws

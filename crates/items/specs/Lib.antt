@@ -3,3 +3,4 @@ pub mod Write
 pub mod Read
 pub mod Answers
 pub mod FieldRules
+pub mod Plain

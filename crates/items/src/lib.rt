@@ -2,6 +2,7 @@
 mod field_rules;
 mod fields;
 mod parts;
+mod plain;
 mod tables;
 mod write;
 
@@ -11,6 +12,8 @@ use parts::Shape;
 use parts::item_store;
 use parts::part_legal;
 use parts::whole_of;
+pub use plain::plain_item;
+pub use plain::step_table;
 use tables::FRNS;
 use tables::PROFILES;
 use tables::PlaceRow;

@@ -11,3 +11,4 @@ pub mod RecordLaws
 pub mod FspecLaws
 pub mod NewLaws
 pub mod Unique
+pub mod PlainLaws

@@ -1,3 +1,4 @@
 pub mod Sets
 pub mod Walk
 pub mod Answers
+pub mod Plain

@@ -1,0 +1,17 @@
+-- `records::plain::set_table` meets its contract: the rows are those of the rules' messages. Assumes nothing.
+use mathlib.Core.Path.{refl}
+use Rattle.rules.specs.Presence.{number}
+use Rattle.rules.specs.Category017.{category017}
+use Rattle.rules.specs.Category018.{category018}
+use Rattle.rules.specs.Entry.{categories}
+use Rattle.records.specs.Sets.{categoryAt, bitsOf}
+use Rattle.records.specs.Plain.{typeSets}
+use Rattle.records.proofs.plain.set_table.Statement.{statement}
+use Rattle.records.proofs.plain.set_table.Tie as tie
+
+returns : tie.Need-returns
+unfolding typeSets categoryAt categories category017 category018 bitsOf number
+returns c = refl
+
+pub set-table-spec : {M : Type 1} → statement M
+set-table-spec = tie.close (tie.spec returns)
