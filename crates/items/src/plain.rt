@@ -4,13 +4,15 @@ ghost use mathlib.Core.Bool.{true};
 ghost use Rattle.items.specs.Answers.{checkAt};
 ghost use Rattle.items.specs.Plain.{Plainly, soundSteps};
 
-pub fn step_table() -> [u32; 144]
+pub type Steps = [u32; 104];
+
+pub fn steps() -> Steps
     ensures { λ r. ⌜ soundSteps r ≡ true ⌝ }
 {
-    [0; 144]
+    [0; 104]
 }
 
-pub fn plain_item(t: &[u32; 144], profile: usize, frn: usize, part: &[u8]) -> usize
+pub fn plain_item(t: &Steps, profile: usize, frn: usize, part: &[u8]) -> usize
     requires { ⌜ soundSteps (now t) ≡ true ⌝ }
     ensures { λ r. ⌜ Plainly r (checkAt profile frn (now (part .entry))) ⌝ }
 {

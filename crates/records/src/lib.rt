@@ -7,6 +7,8 @@ use items::ItemCheck;
 use items::check_item;
 use messages::MessageRow;
 use messages::row_of;
+pub use plain::Sets;
+pub use plain::Types;
 pub use plain::record_end;
 pub use plain::set_table;
 pub use plain::type_table;

@@ -5,6 +5,7 @@ use super::RecordChecked;
 use super::SetRead;
 use super::check_record;
 use super::weight;
+use items::Steps;
 ghost use mathlib.Core.Path.{_≡_};
 ghost use mathlib.Core.Bool.{true};
 ghost use Prim.Native.Nat.{_/_, _%_, _<_, _+_, _^_};
@@ -16,10 +17,14 @@ ghost use Rattle.records.specs.Walk.{judgeSet};
 ghost use Rattle.records.specs.Answers.{endOf};
 ghost use Rattle.records.specs.Plain.{soundTypes, typeSets, Content, Passed, endAt};
 
+pub type Types = [u8; 256];
+
+pub type Sets = [u64; 72];
+
 // Message types, and the octets of the first items. A type's row, 0 where it is unknown, by profile and type, of which no known one is above 111; then, by
 // profile and the presence bits of FRN 4 to 7, the octets of FRN 1 to 7 where FRN 1 to 3 are there and all are free and fixed, else 0.
-const TYPES: [u8; 256] = [
-    1,
+const TYPES: Types = [
+    1, // I017/000  5.2.1  0  Network information
     0,
     0,
     0,
@@ -29,7 +34,7 @@ const TYPES: [u8; 256] = [
     0,
     0,
     0,
-    2,
+    2, // I017/000  5.2.1  10  Track data
     0,
     0,
     0,
@@ -39,20 +44,20 @@ const TYPES: [u8; 256] = [
     0,
     0,
     0,
-    3,
-    4,
-    5,
-    6,
+    3, // I017/000  5.2.1  20  Track data request
+    4, // I017/000  5.2.1  21  Track data stop
+    5, // I017/000  5.2.1  22  Cancel track data request ("Cancellation of Track Data")
+    6, // I017/000  5.2.1  23  Track data stop acknowledgement
     0,
     0,
     0,
     0,
     0,
     0,
-    7,
-    8,
-    9,
-    10,
+    7, // I017/000  5.2.1  30  New Node / Change-over, initial or intermediate message segment
+    8, // I017/000  5.2.1  31  New Node / Change-over, final or only message segment
+    9, // I017/000  5.2.1  32  New Node / Change-over, initial or intermediate message segment reply
+    10, // I017/000  5.2.1  33  New Node / Change-over, final or only message segment reply
     0,
     0,
     0,
@@ -129,14 +134,14 @@ const TYPES: [u8; 256] = [
     0,
     0,
     0,
-    11,
-    12,
-    13,
-    14,
-    15,
-    16,
-    17,
-    18,
+    11, // I017/000  5.2.1  110  Move node to new cluster state
+    12, // I017/000  5.2.1  111  Move node to new cluster state acknowledgement
+    13, // I018/000  5.2.1  0x00  Associate_req
+    14, // I018/000  5.2.1  0x01  Associate_resp
+    15, // I018/000  5.2.1  0x02  Release_req
+    16, // I018/000  5.2.1  0x03  Release_resp
+    17, // I018/000  5.2.1  0x04  Abort_req
+    18, // I018/000  5.2.1  0x05  Keep_alive
     0,
     0,
     0,
@@ -147,9 +152,9 @@ const TYPES: [u8; 256] = [
     0,
     0,
     0,
-    19,
-    20,
-    21,
+    19, // I018/000  5.2.1  0x10  Aircraft_report
+    20, // I018/000  5.2.1  0x11  Aircraft_command
+    21, // I018/000  5.2.1  0x12  II_code_change
     0,
     0,
     0,
@@ -163,14 +168,14 @@ const TYPES: [u8; 256] = [
     0,
     0,
     0,
-    22,
-    23,
-    24,
-    25,
+    22, // I018/000  5.2.1  0x20  Uplink_packet
+    23, // I018/000  5.2.1  0x21  Cancel_uplink_packet
+    24, // I018/000  5.2.1  0x22  Uplink_packet_ack
+    25, // I018/000  5.2.1  0x23  Downlink_packet
     0,
     0,
-    26,
-    27,
+    26, // I018/000  5.2.1  0x26  Data_XON
+    27, // I018/000  5.2.1  0x27  Data_XOFF
     0,
     0,
     0,
@@ -179,11 +184,11 @@ const TYPES: [u8; 256] = [
     0,
     0,
     0,
-    28,
-    29,
-    30,
+    28, // I018/000  5.2.1  0x30  Uplink_broadcast
+    29, // I018/000  5.2.1  0x31  Cancel_uplink_broadcast
+    30, // I018/000  5.2.1  0x32  Uplink_broadcast_ack
     0,
-    31,
+    31, // I018/000  5.2.1  0x34  Downlink_broadcast
     0,
     0,
     0,
@@ -195,10 +200,10 @@ const TYPES: [u8; 256] = [
     0,
     0,
     0,
-    32,
-    33,
-    34,
-    35,
+    32, // I018/000  5.2.1  0x40  GICB_extraction
+    33, // I018/000  5.2.1  0x41  Cancel_GICB_extraction
+    34, // I018/000  5.2.1  0x42  GICB_extraction_ack
+    35, // I018/000  5.2.1  0x43  GICB_response
     0,
     0,
     0,
@@ -243,42 +248,42 @@ const TYPES: [u8; 256] = [
     0,
     0,
     0,
-    5,
-    0,
-    7,
-    0,
-    8,
-    0,
-    10,
-    0,
-    0,
-    0,
-    0,
-    0,
-    0,
-    0,
-    0,
-    0,
-    5,
-    0,
-    9,
-    0,
-    8,
-    0,
-    12,
-    0,
-    6,
-    0,
-    10,
-    0,
-    9,
-    0,
-    13,
-    0,
+    5, // category 017, FRN 1 to 3
+    0, // category 017, FRN 1 to 3, 7
+    7, // category 017, FRN 1 to 3, 6
+    0, // category 017, FRN 1 to 3, 6, 7
+    8, // category 017, FRN 1 to 3, 5
+    0, // category 017, FRN 1 to 3, 5, 7
+    10, // category 017, FRN 1 to 3, 5, 6
+    0, // category 017, FRN 1 to 3, 5, 6, 7
+    0, // category 017, FRN 1 to 3, 4
+    0, // category 017, FRN 1 to 3, 4, 7
+    0, // category 017, FRN 1 to 3, 4, 6
+    0, // category 017, FRN 1 to 3, 4, 6, 7
+    0, // category 017, FRN 1 to 3, 4, 5
+    0, // category 017, FRN 1 to 3, 4, 5, 7
+    0, // category 017, FRN 1 to 3, 4, 5, 6
+    0, // category 017, FRN 1 to 3, 4, 5, 6, 7
+    5, // category 018, FRN 1 to 3
+    0, // category 018, FRN 1 to 3, 7
+    9, // category 018, FRN 1 to 3, 6
+    0, // category 018, FRN 1 to 3, 6, 7
+    8, // category 018, FRN 1 to 3, 5
+    0, // category 018, FRN 1 to 3, 5, 7
+    12, // category 018, FRN 1 to 3, 5, 6
+    0, // category 018, FRN 1 to 3, 5, 6, 7
+    6, // category 018, FRN 1 to 3, 4
+    0, // category 018, FRN 1 to 3, 4, 7
+    10, // category 018, FRN 1 to 3, 4, 6
+    0, // category 018, FRN 1 to 3, 4, 6, 7
+    9, // category 018, FRN 1 to 3, 4, 5
+    0, // category 018, FRN 1 to 3, 4, 5, 7
+    13, // category 018, FRN 1 to 3, 4, 5, 6
+    0, // category 018, FRN 1 to 3, 4, 5, 6, 7
 ];
 
 // Rows of message types: what the type must have; what it must or may have. The first row is no type's.
-const SETS: [u64; 72] = [
+const SETS: Sets = [
     0,
     0,
     0x7800_0000_0000_0000, // I017/000 type 0  Network information
@@ -353,13 +358,13 @@ const SETS: [u64; 72] = [
     0x7C0F_0000_0000_0000,
 ];
 
-pub fn type_table() -> [u8; 256]
+pub fn type_table() -> Types
     ensures { λ r. ⌜ soundTypes r ≡ true ⌝ }
 {
     TYPES
 }
 
-pub fn set_table() -> [u64; 72]
+pub fn set_table() -> Sets
     ensures { λ r. ⌜ r ≡ typeSets ⌝ }
 {
     SETS
@@ -372,7 +377,7 @@ fn octet(x: u8) -> usize
 }
 
 // Whether a record has what its message type asks for: true only where it does.
-fn is_content(types: &[u8; 256], sets: &[u64; 72], profile: usize, items: ItemSet, kind: u8) -> bool
+fn is_content(types: &Types, sets: &Sets, profile: usize, items: ItemSet, kind: u8) -> bool
     requires { ⌜ (soundTypes (now types) ≡ true) × (now sets ≡ typeSets) × (profile < 2) ⌝ }
     ensures { λ r. ⌜ Content r (judgeSet profile (items .bits) kind) ⌝ }
 {
@@ -417,13 +422,7 @@ fn first_octets(sum: usize) -> usize
 }
 
 // How many octets the items of a set take that has FRN 1 to 3.
-fn plain_items(
-    steps: &[u32; 144],
-    types: &[u8; 256],
-    profile: usize,
-    bits: u64,
-    part: &[u8],
-) -> usize
+fn plain_items(steps: &Steps, types: &Types, profile: usize, bits: u64, part: &[u8]) -> usize
     requires { ⌜ (soundSteps (now steps) ≡ true) × (soundTypes (now types) ≡ true) × (profile < 2) × (bits / 2 ^ 60 ≡ 7) ⌝ }
     ensures { λ r. ⌜ Passed profile bits (now (part .entry)) r ⌝ }
 {
@@ -447,13 +446,7 @@ fn plain_items(
 }
 
 // How many octets the record takes that starts a part of a block.
-fn plain_record(
-    steps: &[u32; 144],
-    types: &[u8; 256],
-    sets: &[u64; 72],
-    profile: usize,
-    part: &[u8],
-) -> usize
+fn plain_record(steps: &Steps, types: &Types, sets: &Sets, profile: usize, part: &[u8]) -> usize
     requires { ⌜ (soundSteps (now steps) ≡ true) × (soundTypes (now types) ≡ true) × (now sets ≡ typeSets) × (length (now part) < 65536) ⌝ }
     ensures { λ r. ⌜ Plainly r (endAt profile 0 (now (part .entry))) ⌝ }
 {
@@ -483,9 +476,9 @@ fn plain_record(
 
 // Where the record ends that starts a part, which stands at a place, or its refusal.
 pub fn record_end(
-    steps: &[u32; 144],
-    types: &[u8; 256],
-    sets: &[u64; 72],
+    steps: &Steps,
+    types: &Types,
+    sets: &Sets,
     profile: usize,
     part: &[u8],
     at: usize,
