@@ -21,5 +21,5 @@ pub mod WriteTrip
 pub mod StoreLaws
 pub mod OneLaws
 pub mod RuleLaws
-pub mod Unique
 pub mod PlainLaws
+pub mod Unique

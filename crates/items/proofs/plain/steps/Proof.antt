@@ -1,11 +1,16 @@
--- `items::plain::steps` meets its contract. Assumes nothing.
+-- `items::plain::steps` meets its contract: each word, by one test of the whole table. Assumes nothing.
 use mathlib.Core.Path.{refl}
-use Rattle.items.specs.Plain.{soundSteps}
+use Rattle.rules.specs.Entry.{categories}
+use Rattle.rules.specs.Category017.{category017}
+use Rattle.rules.specs.Category018.{category018}
+use Rattle.items.specs.FieldRules.{rules, firstRule}
+use Rattle.items.specs.Plain.{downAt, addedAt, upAt, limitAt, soundRow, soundRuled, soundCounted, soundExtended, soundWord, soundWords, soundSteps}
+use Rattle.items.specs.Tables.{groups, layouts, groupAt, layoutAt}
 use Rattle.items.proofs.plain.steps.Statement.{statement}
 use Rattle.items.proofs.plain.steps.Tie as tie
 
 returns : tie.Need-returns
-unfolding soundSteps
+unfolding downAt addedAt upAt limitAt soundRow soundRuled soundCounted soundExtended soundWord soundWords soundSteps firstRule rules groupAt layoutAt groups layouts categories category017 category018
 returns c = refl
 
 pub steps-spec : {M : Type 1} → statement M
