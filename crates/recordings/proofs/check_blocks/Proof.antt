@@ -53,8 +53,8 @@ front-number-requires c κs = search needs
 front-place-requires : tie.Need-front-place-requires Inv-loop μ-loop
 front-place-requires c κs = search needs
 
-add-t13 : tie.Need-add-t13 Inv-loop μ-loop
-add-t13 c = omega (arith, front-inside (c .before .before .before .before .before .before .loop .rest .now) (c .before .before .before .before .before .before .loop .inv .octets) _ _ (barred c))
+add-t16 : tie.Need-add-t16 Inv-loop μ-loop
+add-t16 c = omega (arith, front-inside (c .before .before .before .before .before .before .loop .rest .now) (c .before .before .before .before .before .before .loop .inv .octets) _ _ (barred c))
 
 returns : tie.Need-returns Inv-loop μ-loop
 returns c = sym (counts-stop _ _ _ _ _ _ (c .before .before .before .before .before .loop-test .taken) (barred c)) ∙ c .before .before .before .before .before .before .loop .inv .same
@@ -98,7 +98,7 @@ check-blocks-spec =
     enum-told
     front-number-requires
     front-place-requires
-    add-t13
+    add-t16
     returns
     sub-rest
     part-rest-start
