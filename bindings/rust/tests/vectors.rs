@@ -42,17 +42,52 @@ fn octets(word: &str) -> Option<Vec<u8>> {
     if word == "-" {
         return Some(Vec::new());
     }
+    if word.is_empty() || !word.bytes().all(|c| c.is_ascii_hexdigit()) {
+        return None;
+    }
     (0..word.len())
         .step_by(2)
         .map(|i| u8::from_str_radix(word.get(i..i + 2)?, 16).ok())
         .collect()
 }
 
-fn numbers<T: std::str::FromStr>(word: &str) -> Option<Vec<T>> {
+// A number of any size, which may be larger than what a call can be given: the largest of those
+// then. No category has an item 65535 or an FRN 63, no field has 63 bits, and no item or block
+// needs more than ROOM.
+fn number(word: &str, most: u64) -> Option<u64> {
+    if word.is_empty() || !word.bytes().all(|c| c.is_ascii_digit()) {
+        return None;
+    }
+    Some(word.parse().unwrap_or(most).min(most))
+}
+
+const ROOM: u64 = 1 << 20;
+
+fn small(word: &str) -> Option<u8> {
+    number(word, u64::MAX)?.try_into().ok()
+}
+
+fn item(word: &str) -> Option<u16> {
+    number(word, u16::MAX.into())?.try_into().ok()
+}
+
+fn size(word: &str, most: u64) -> Option<usize> {
+    number(word, most)?.try_into().ok()
+}
+
+fn signed(word: &str) -> Option<i64> {
+    let (digits, sign) = match word.strip_prefix('-') {
+        Some(digits) => (digits, -1),
+        None => (word, 1),
+    };
+    Some(sign * i64::try_from(number(digits, i64::MAX as u64)?).ok()?)
+}
+
+fn list<T>(word: &str, part: impl Fn(&str) -> Option<T>) -> Option<Vec<T>> {
     if word == "-" {
         return Some(Vec::new());
     }
-    word.split(',').map(|n| n.parse().ok()).collect()
+    word.split(',').map(part).collect()
 }
 
 fn hex(octets: &[u8]) -> String {
@@ -104,24 +139,18 @@ fn answer(question: &str, fields: &mut [i64; FIELDS]) -> Option<String> {
         ["block", bytes] => said(block(&octets(bytes)?, fields)),
         ["recording", bytes] => said(check_recording(&octets(bytes)?).map(|c| format!("{} {}", c.blocks, c.records))),
         ["read", category, reference, bytes] => {
-            said(read_item(category.parse().ok()?, reference.parse().ok()?, &octets(bytes)?, fields).map(commas))
+            said(read_item(small(category)?, item(reference)?, &octets(bytes)?, fields).map(commas))
         }
         ["write", category, reference, room, values] => {
-            let mut out = vec![0; room.parse().ok()?];
-            let written = write_item(
-                category.parse().ok()?,
-                reference.parse().ok()?,
-                &numbers(values)?,
-                &mut out,
-            );
+            let mut out = vec![0; size(room, ROOM)?];
+            let written = write_item(small(category)?, item(reference)?, &list(values, signed)?, &mut out);
             said(written.map(|length| format!("{length} {}", hex(&out[..length]))))
         }
         ["add", old, room, frns, items] => {
             let old = octets(old)?;
-            let room: usize = room.parse().ok()?;
             let mut out = old.clone();
-            out.resize(room, 0);
-            let set: ItemSet = numbers::<usize>(frns)?.into_iter().collect();
+            out.resize(size(room, ROOM)?, 0);
+            let set: ItemSet = list(frns, |frn| size(frn, 63))?.into_iter().collect();
             match add_record(&mut out, old.len(), set, &octets(items)?) {
                 Ok(length) => format!("ok {length} {}", hex(&out[..length])),
                 Err(AddRefused::Old(refused)) => said(Err(refused)) + " old",
@@ -130,12 +159,12 @@ fn answer(question: &str, fields: &mut [i64; FIELDS]) -> Option<String> {
         }
         ["find", bytes, reference, n] => {
             let bytes = octets(bytes)?;
-            said(find_item(&bytes, reference.parse().ok()?, n.parse().ok()?).map(|item| {
+            said(find_item(&bytes, item(reference)?, size(n, u64::MAX)?).map(|item| {
                 let start = item.as_ptr() as usize - bytes.as_ptr() as usize;
                 format!("{start} {} {}", item.len(), hex(item))
             }))
         }
-        ["record", bytes, n] => said(find_record(&octets(bytes)?, n.parse().ok()?).map(|r| {
+        ["record", bytes, n] => said(find_record(&octets(bytes)?, size(n, u64::MAX)?).map(|r| {
             let map = (1..=FRNS).filter_map(|frn| Some(format!(" {frn}@{}", r.item_start(frn)?)));
             format!("{} {} {}{}", r.start, r.octets.len(), r.count, map.collect::<String>())
         })),

@@ -1,0 +1,3 @@
+pub mod StructLaws
+pub mod Unique
+pub mod NumberLaws

@@ -1,0 +1,406 @@
+-- Every refusal of the rules has a number from 1 to 21, whatever octets are lent: so a struct's `number` is 0 exactly where the work was done.
+--
+-- In order: answers; fields; an item; an FSPEC; a record; blocks; finding; one item; adding a record; the structs. Assumes nothing.
+use Prim.Native.Nat.{ℕ, zero, suc, _+_, _-_, _≤_}
+use mathlib.Core.Path.{_≡_, refl, sym, subst}
+use mathlib.Core.Bool.{Bool, true, false, _&&_}
+use mathlib.Core.Option.{Option, none, some}
+use mathlib.Core.List.{List, [], _∷_}
+use native.Mathlib.Omega.{arith}
+use native.Mathlib.Nat.{le-refl}
+use lib.Dec.{T, leb, eqb, leb→le}
+use lib.IntN.{ℤ, pos, negsuc}
+use lib.ListN.{length, take}
+use Rattle.rules.specs.Answer.{Answer, ok, refused, _>>=_, need_or_then_, if_then_else_, expect_or_, later, Read, Write}
+use Rattle.rules.specs.Field.{Kind, unsigned, signed, Field, spare, value, put, pack, get, unpack}
+use Rattle.rules.specs.Layout.{Layout, fixed, repeated, led, extended, Values, writeNum, readNum, writeMany, readMany, writeChain, readChain, writeParts, readParts, packAll, unpackAll, writeItem, readItem, partsFrom, writeFields, readFields}
+use Rattle.rules.specs.Presence.{flagRows, readPresence, readRow, readRows, readPlaces}
+use Rattle.rules.specs.Record.{Place, Message, Category, Record, items, places, valueOf, typeOf, messageOf, judge, readPlace, readRecord}
+use Rattle.rules.specs.Block.{categoryOf, readUpTo, readAll, Head, readHead, readBody, readBlock}
+use Rattle.rules.specs.Recording.{readRecording}
+use Rattle.rules.specs.Entry.{categories, checkBlock, checkRecording, openBlock, numbered, findRecord, findItem, layoutAs, layoutOf, readOne, writeOne, Added, added, refusedOld, refusedNew, oldBlock, newRecord, joinRecord, inNew, inOld, addRecord}
+use Rattle.rules.proofs.AnswerLaws.{refused-ok, Octets, Split, Laws, Starts, after}
+use Rattle.rules.proofs.LayoutLaws.{octets-take}
+use Rattle.rules.proofs.RecordLaws.{record-laws, record-starts}
+use Rattle.rules.proofs.BlockLaws.{HeadCame, head-forth, block-laws, block-starts}
+use Rattle.blocks.proofs.LoopLaws.{Taken, taken}
+use Rattle.asterix.specs.Answers.{blockChecked, recordingChecked, recordFound, itemFound, itemRead, itemWritten, recordAdded}
+
+-- ---- answers
+
+abbrev Number : ℕ → Type 0
+Number n = T (leb 1 n && leb n 21)
+
+T-both : (a b : Bool) → T (a && b) → T a × T b
+T-both true b t = (tt, t)
+T-both false b t = absurd t
+
+abbrev pub Numbered : {A : Type 0} → Answer A → Type 0
+Numbered m = (n p : ℕ) → m ≡ refused n p → Number n
+
+done : {A : Type 0} (a : A) → Numbered (ok a)
+done a n p e = refused-ok (sym e)
+
+refusal : {A : Type 0} (m q : ℕ) → Number m → Numbered {A = A} (refused m q)
+refusal m q h n p e = let z : m ≡ n = cc in subst Number z h
+
+test : {A : Type 0} (t : Bool) (m : ℕ) (x : Answer A) → Number m → Numbered x → Numbered (need t or m then x)
+unfolding need_or_then_
+test true m x h i = i
+test false m x h i = refusal m 0 h
+
+either : {A : Type 0} (t : Bool) (x y : Answer A) → Numbered x → Numbered y → Numbered (if t then x else y)
+unfolding if_then_else_
+either true x y h i = h
+either false x y h i = i
+
+lookup : {A : Type 0} (x : Option A) (m : ℕ) → Number m → Numbered (expect x or m)
+unfolding expect_or_
+lookup none m h = refusal m 0 h
+lookup (some a) m h = done a
+
+step : {A B : Type 0} (m : Answer A) (f : A → Answer B) → Numbered m → ((a : A) → m ≡ ok a → Numbered (f a)) → Numbered (m >>= f)
+unfolding _>>=_
+step (ok a) f h i = i a refl
+step (refused m q) f h i = λ n p e. h n p (cc)
+
+on : {A : Type 0} (k : ℕ) (m : Answer A) → Numbered m → Numbered (later k m)
+unfolding later
+on k (ok a) h = done a
+on k (refused m q) h = refusal m (k + q) (h m q refl)
+
+-- ---- fields
+
+puts : (w : ℕ) (k : Kind) (v : ℤ) → Numbered (put w k v)
+unfolding put
+puts w (unsigned lo hi) (pos n) = test _ 11 _ tt (test _ 11 _ tt (done _))
+puts w (unsigned lo hi) (negsuc n) = refusal 11 0 tt
+puts w (signed lo hi) (pos n) = test _ 11 _ tt (test _ 11 _ tt (done _))
+puts w (signed lo hi) (negsuc n) = test _ 11 _ tt (test _ 11 _ tt (done _))
+
+packs : (fs : List Field) (vs : List ℤ) → Numbered (pack fs vs)
+unfolding pack
+packs [] [] = done _
+packs [] (v ∷ vs) = refusal 11 0 tt
+packs (spare w ∷ fs) vs = packs fs vs
+packs (value w k ∷ fs) [] = refusal 11 0 tt
+packs (value w k ∷ fs) (v ∷ vs) = step _ _ (puts w k v) (λ c e. test _ 11 _ tt (step _ _ (packs fs vs) (λ n f. done _)))
+
+gets : (w : ℕ) (k : Kind) (c : ℕ) → Numbered (get w k c)
+unfolding get
+gets w (unsigned lo hi) c = test _ 11 _ tt (test _ 11 _ tt (done _))
+gets w (signed lo hi) c = either _ _ _ (test _ 11 _ tt (done _)) (test _ 11 _ tt (test _ 11 _ tt (done _)))
+
+unpacks : (fs : List Field) (n : ℕ) → Numbered (unpack fs n)
+unfolding unpack
+unpacks [] n = test _ 11 _ tt (done _)
+unpacks (spare w ∷ fs) n = test _ 11 _ tt (unpacks fs _)
+unpacks (value w k ∷ fs) n = step _ _ (gets w k _) (λ v e. test _ 11 _ tt (step _ _ (unpacks fs _) (λ vs f. done _)))
+
+-- ---- an item
+
+number-written : (k n : ℕ) → Numbered (writeNum k n)
+unfolding writeNum
+number-written k n = test _ 11 _ tt (done _)
+
+number-read : (cut k : ℕ) (bs : List ℕ) → Number cut → Numbered (readNum cut k bs)
+unfolding readNum
+number-read cut k bs h = test _ cut _ h (done _)
+
+many-written : (k : ℕ) (ns : List ℕ) → Numbered (writeMany k ns)
+unfolding writeMany
+many-written k [] = done _
+many-written k (n ∷ ns) = step _ _ (number-written k n) (λ b e. step _ _ (many-written k ns) (λ bs f. done _))
+
+many-read : (k c : ℕ) (bs : List ℕ) → Numbered (readMany k c bs)
+unfolding readMany
+many-read k zero bs = done _
+many-read k (suc c) bs = step _ _ (number-read 9 k bs tt) (λ x e. step _ _ (many-read k c (x .1)) (λ y f. done _))
+
+chain-written : (ks ns : List ℕ) → Numbered (writeChain ks ns)
+unfolding writeChain
+chain-written [] ns = refusal 11 0 tt
+chain-written (k ∷ ks) [] = refusal 11 0 tt
+chain-written (k ∷ ks) (n ∷ []) = number-written k _
+chain-written (k ∷ ks) (n ∷ (m ∷ ns)) = step _ _ (number-written k _) (λ b e. step _ _ (chain-written ks (m ∷ ns)) (λ bs f. done _))
+
+chain-read : (cut past : ℕ) (ks bs : List ℕ) → Number cut → Number past → Numbered (readChain cut past ks bs)
+unfolding readChain
+chain-read cut past [] bs h i = refusal past 0 i
+chain-read cut past (k ∷ ks) bs h i =
+    step _ _ (number-read cut k bs h) (λ x e. either _ _ _ (done _) (step _ _ (chain-read cut past ks (x .1) h i) (λ y f. done _)))
+
+parts-written : (l : Layout) (ns : List ℕ) → Numbered (writeParts l ns)
+unfolding writeParts
+parts-written (fixed g) ns = test _ 11 _ tt (many-written (g .size) ns)
+parts-written (repeated lo hi g) ns = step _ _ (number-written 1 _) (λ c e. step _ _ (many-written (g .size) ns) (λ bs f. done _))
+parts-written (led lo) ns = test _ 11 _ tt (step _ _ (number-written 1 _) (λ c e. step _ _ (many-written 1 ns) (λ bs f. done _)))
+parts-written (extended gs) ns = chain-written _ ns
+
+parts-read : (l : Layout) (bs : List ℕ) → Numbered (readParts l bs)
+unfolding readParts
+parts-read (fixed g) bs = many-read (g .size) 1 bs
+parts-read (repeated lo hi g) bs = step _ _ (number-read 9 1 bs tt) (λ x e. many-read (g .size) (x .0) (x .1))
+parts-read (led lo) bs = step _ _ (number-read 9 1 bs tt) (λ x e. test _ 10 _ tt (many-read 1 _ (x .1)))
+parts-read (extended gs) bs = chain-read 9 11 _ bs tt tt
+
+all-packed : (gs : List (List Field)) (vs : Values) → Numbered (packAll gs vs)
+unfolding packAll
+all-packed gs [] = done _
+all-packed [] (v ∷ vs) = refusal 11 0 tt
+all-packed (g ∷ gs) (v ∷ vs) = step _ _ (packs g v) (λ n e. step _ _ (all-packed gs vs) (λ ns f. done _))
+
+all-unpacked : (gs : List (List Field)) (ns : List ℕ) → Numbered (unpackAll gs ns)
+unfolding unpackAll
+all-unpacked gs [] = done _
+all-unpacked [] (n ∷ ns) = refusal 11 0 tt
+all-unpacked (g ∷ gs) (n ∷ ns) = step _ _ (unpacks g n) (λ v e. step _ _ (all-unpacked gs ns) (λ vs f. done _))
+
+item-written : (l : Layout) (vs : Values) → Numbered (writeItem l vs)
+unfolding writeItem
+item-written l vs = step _ _ (test _ 11 _ tt (all-packed _ vs)) (λ ns e. parts-written l ns)
+
+item-read : (l : Layout) (bs : List ℕ) → Numbered (readItem l bs)
+unfolding readItem
+item-read l bs = step _ _ (parts-read l bs) (λ x e. step _ _ (test _ 11 _ tt (all-unpacked _ (x .0))) (λ vs f. done _))
+
+parts-cut : (gs : List (List Field)) (vs : List ℤ) → Numbered (partsFrom gs vs)
+unfolding partsFrom
+parts-cut [] vs = test _ 11 _ tt (done _)
+parts-cut (g ∷ gs) vs = either _ _ _ (done _) (test _ 11 _ tt (step _ _ (parts-cut gs _) (λ ps e. done _)))
+
+-- ---- an FSPEC
+
+rows-flagged : (ps : List (List (Option Place))) (ns : List ℕ) → Numbered (flagRows ps ns)
+unfolding flagRows
+rows-flagged ps [] = done _
+rows-flagged [] (n ∷ ns) = refusal 8 0 tt
+rows-flagged (p ∷ ps) (n ∷ ns) = test _ 8 _ tt (test _ 8 _ tt (step _ _ (rows-flagged ps ns) (λ ts e. done _)))
+
+presence-read : (ps : List (List (Option Place))) (bs : List ℕ) → Numbered (readPresence 5 ps bs)
+unfolding readPresence
+presence-read ps bs = step _ _ (chain-read 5 6 _ bs tt tt) (λ x e. step _ _ (test _ 7 _ tt (rows-flagged ps (x .0))) (λ ts f. done _))
+
+row-read : (ps : List (Option Place)) (ts : List Bool) (bs : List ℕ) → Numbered (readRow readPlace ps ts bs)
+unfolding readRow readPlace
+row-read [] [] bs = done _
+row-read [] (t ∷ ts) bs = refusal 8 0 tt
+row-read (p ∷ ps) [] bs = refusal 8 0 tt
+row-read (p ∷ ps) (false ∷ ts) bs = step _ _ (row-read ps ts bs) (λ x e. done _)
+row-read (none ∷ ps) (true ∷ ts) bs = refusal 8 0 tt
+row-read (some p ∷ ps) (true ∷ ts) bs = step _ _ (item-read (p .layout) bs) (λ x e. step _ _ (on _ _ (row-read ps ts (x .1))) (λ y f. done _))
+
+rows-read : (ps : List (List (Option Place))) (ts : List (List Bool)) (bs : List ℕ) → Numbered (readRows readPlace ps ts bs)
+unfolding readRows
+rows-read ps [] bs = done _
+rows-read [] (t ∷ ts) bs = refusal 8 0 tt
+rows-read (p ∷ ps) (t ∷ ts) bs = step _ _ (row-read p t bs) (λ x e. step _ _ (on _ _ (rows-read ps ts (x .1))) (λ y f. done _))
+
+-- ---- a record
+
+type-read : (x : Option Values) → Numbered (typeOf x)
+unfolding typeOf
+type-read none = refusal 12 0 tt
+type-read (some []) = refusal 13 0 tt
+type-read (some ([] ∷ ps)) = refusal 13 0 tt
+type-read (some ((pos n ∷ vs) ∷ ps)) = done _
+type-read (some ((negsuc n ∷ vs) ∷ ps)) = refusal 13 0 tt
+
+message-found : (t : ℕ) (ms : List Message) → Numbered (messageOf t ms)
+unfolding messageOf
+message-found t [] = refusal 13 0 tt
+message-found t (m ∷ ms) = either _ _ _ (done _) (message-found t ms)
+
+judged : (c : Category) (r : Record) → Numbered (judge c r)
+unfolding judge
+judged c r = step _ _ (type-read (valueOf 0 (items c r))) (λ t e. step _ _ (message-found t (c .messages)) (λ m f. test _ 14 _ tt (test _ 15 _ tt (done _))))
+
+record-read : (c : Category) (bs : List ℕ) → Numbered (readRecord c bs)
+unfolding readRecord readPlaces
+record-read c bs =
+    step _ _ (step _ _ (presence-read (c .profile) bs) (λ x e. on _ _ (rows-read (c .profile) (x .0) (x .1)))) (λ x e. step _ _ (judged c (x .0)) (λ s f. done _))
+
+-- ---- blocks
+
+-- things end to end, each of one octet at least: there are no more of them than octets, so the count of turns never ends the work
+upTo-read : {A : Type 0} {r : Read A} {w : Write A} → Laws r w → Starts r → ((bs : List ℕ) → Octets bs → Numbered (r bs))
+    → (f : ℕ) (bs : List ℕ) → Octets bs → length bs ≤ f → Numbered (readUpTo r f bs)
+unfolding readUpTo
+upTo-read laws starts h zero [] o l = done _
+upTo-read laws starts h zero (b ∷ bs) o l = absurd (omega arith)
+upTo-read laws starts h (suc f) [] o l = done _
+upTo-read {r = r} {w = w} laws starts h (suc f) (b ∷ bs) o l =
+    step (r (b ∷ bs)) _ (h (b ∷ bs) o) λ x e.
+    let s : Split w (x .0) (b ∷ bs) (x .1) = laws .forth (x .0) (b ∷ bs) (x .1) o e in
+    let t : Taken (b ∷ bs) (x .1) (suc (length bs) - length (x .1)) = taken laws starts (x .0) (b ∷ bs) (x .1) o e in
+    step _ _ (on _ _ (upTo-read laws starts h f (x .1) (after s o) (omega (arith, t .some)))) (λ y g. done _)
+
+all-read : {A : Type 0} {r : Read A} {w : Write A} → Laws r w → Starts r → ((bs : List ℕ) → Octets bs → Numbered (r bs))
+    → (bs : List ℕ) → Octets bs → Numbered (readAll r bs)
+unfolding readAll
+all-read laws starts h bs o = upTo-read laws starts h (length bs) bs o (le-refl _)
+
+head-read : (fits : ℕ → ℕ → Bool) (bs : List ℕ) → Numbered (readHead fits categories bs)
+unfolding readHead
+head-read fits bs =
+    step _ _ (number-read 1 1 bs tt) λ x e.
+    step _ _ (number-read 1 2 (x .1) tt) λ y f.
+    step _ _ (lookup (categoryOf (x .0) categories) 2 tt) λ c g.
+    test _ 3 _ tt (test _ 3 _ tt (done _))
+
+body-read : (h : Head) (bs : List ℕ) → Octets bs → Numbered (readBody h bs)
+unfolding readBody
+body-read h bs o =
+    step _ _ (on 3 _ (all-read (record-laws (h .category)) (record-starts (h .category)) (λ us p. record-read (h .category) us) _ (octets-take (h .len - 3) bs o))) (λ rs e. done _)
+
+block-read : (fits : ℕ → ℕ → Bool) (bs : List ℕ) → Octets bs → Numbered (readBlock fits categories bs)
+unfolding readBlock
+block-read fits bs o =
+    step _ _ (head-read fits bs) λ x e.
+    let h : HeadCame fits categories (x .0) bs (x .1) = head-forth fits categories (x .0) bs (x .1) o e in
+    test _ 4 _ tt (step _ _ (body-read (x .0) (x .1) (h .octets)) (λ y f. done _))
+
+block-checked : (bs : List ℕ) → Octets bs → Numbered (checkBlock bs)
+unfolding checkBlock
+block-checked bs o = step _ _ (block-read eqb bs o) (λ x e. done _)
+
+recording-checked : (bs : List ℕ) → Octets bs → Numbered (checkRecording bs)
+unfolding checkRecording readRecording
+recording-checked bs o = step _ _ (all-read (block-laws categories) (block-starts categories) (block-read leb) bs o) (λ ks e. done _)
+
+-- ---- finding
+
+block-opened : (bs : List ℕ) → Octets bs → Numbered (openBlock bs)
+unfolding openBlock
+block-opened bs o = step _ _ (block-read eqb bs o) (λ x e. step _ _ (lookup (categoryOf (x .0 .cat) categories) 2 tt) (λ c f. done _))
+
+record-numbered : (c : Category) (k : ℕ) (rs : List Record) (n : ℕ) → Numbered (numbered c k rs n)
+unfolding numbered
+record-numbered c k [] n = refusal 19 0 tt
+record-numbered c k (r ∷ rs) zero = done _
+record-numbered c k (r ∷ rs) (suc n) = record-numbered c _ rs n
+
+record-found : (bs : List ℕ) (n : ℕ) → Octets bs → Numbered (findRecord bs n)
+unfolding findRecord
+record-found bs n o = step _ _ (block-opened bs o) (λ b e. step _ _ (record-numbered (b .category) 3 (b .records) n) (λ r f. done _))
+
+item-found : (bs : List ℕ) (ref n : ℕ) → Octets bs → Numbered (findItem bs ref n)
+unfolding findItem
+item-found bs ref n o =
+    step _ _ (block-opened bs o) (λ b e. test _ 21 _ tt (step _ _ (record-numbered (b .category) 3 (b .records) n) (λ r f. on _ _ (lookup _ 20 tt))))
+
+-- ---- one item
+
+layout-found : (cat ref : ℕ) → Numbered (layoutOf cat ref)
+unfolding layoutOf
+layout-found cat ref = step _ _ (lookup (categoryOf cat categories) 21 tt) (λ c e. lookup (layoutAs ref (places c)) 21 tt)
+
+one-read : (cat ref : ℕ) (bs : List ℕ) → Numbered (readOne cat ref bs)
+unfolding readOne readFields
+one-read cat ref bs =
+    step _ _ (layout-found cat ref) (λ l e. step _ _ (step _ _ (item-read l bs) (λ x f. done _)) (λ x f. on _ _ (test _ 18 _ tt (done _))))
+
+one-written : (cat ref : ℕ) (fs : List ℤ) (room : ℕ) → Numbered (writeOne cat ref fs room)
+unfolding writeOne writeFields
+one-written cat ref fs room =
+    step _ _ (layout-found cat ref) (λ l e. step _ _ (step _ _ (parts-cut _ fs) (λ vs f. item-written l vs)) (λ bs f. test _ 16 _ tt (done _)))
+
+-- ---- adding a record
+
+old-read : (out : List ℕ) (used : ℕ) → Octets out → Numbered (oldBlock out used)
+unfolding oldBlock
+old-read out used o =
+    test _ 16 _ tt
+    (step _ _ (head-read eqb (take used out)) λ x e.
+    let h : HeadCame eqb categories (x .0) (take used out) (x .1) = head-forth eqb categories (x .0) (take used out) (x .1) (octets-take used out o) e in
+    step _ _ (body-read (x .0) (x .1) (h .octets)) (λ y f. done _))
+
+new-read : (c : Category) (fs bs : List ℕ) → Numbered (newRecord c fs bs)
+unfolding newRecord
+new-read c fs bs =
+    test _ 7 _ tt
+    (test _ 8 _ tt
+    (step _ _ (rows-read (c .profile) _ bs) (λ x e. step _ _ (on _ _ (test _ 18 _ tt (done _))) (λ r f. step _ _ (judged c r) (λ t g. done _)))))
+
+record-joined : (room : ℕ) (old new : List ℕ) → Numbered (joinRecord room old new)
+unfolding joinRecord
+record-joined room old new = test _ 17 _ tt (test _ 16 _ tt (done _))
+
+-- the answer of adding, without where a refusal's place lies
+abbrev pub answerOf : Added → Answer (List ℕ)
+answerOf (added bs) = ok bs
+answerOf (refusedOld n p) = refused n p
+answerOf (refusedNew n p) = refused n p
+
+in-old : (a : Answer Category) (f : Category → Added) → Numbered a → ((c : Category) → Numbered (answerOf (f c))) → Numbered (answerOf (inOld a f))
+in-old (ok c) f h i = i c
+in-old (refused m q) f h i = refusal m q (h m q refl)
+
+in-new : (a : Answer (List ℕ)) → Numbered a → Numbered (answerOf (inNew a))
+in-new (ok bs) h = done bs
+in-new (refused m q) h = h
+
+record-added : (out : List ℕ) (used : ℕ) (fs bs : List ℕ) → Octets out → Numbered (answerOf (addRecord out used fs bs))
+unfolding addRecord
+record-added out used fs bs o = in-old _ _ (old-read out used o) (λ c. in-new _ (step _ _ (new-read c fs bs) (λ new e. record-joined (length out) (take used out) new)))
+
+-- ---- the structs
+
+-- a number tells an answer: it is 0 exactly where the work was done, and at most 21
+pub record Tells {A : Type 0} (a : Answer A) (n : ℕ) : Type 0 where
+  pub accepted : (v : A) → a ≡ ok v → n ≡ 0
+  pub zero : n ≡ 0 → (v : A) × (a ≡ ok v)
+  pub most : n ≤ 21
+
+tells : {A : Type 0} (number : Answer A → ℕ) → ((v : A) → number (ok v) ≡ 0) → ((n p : ℕ) → number (refused n p) ≡ n) → (a : Answer A) → Numbered a → Tells a (number a)
+tells number d r (ok v) h = record { accepted = λ w e. d v; zero = λ e. (v, refl); most = omega (arith, d v) }
+tells number d r (refused n p) h =
+    let t : T (leb 1 n) × T (leb n 21) = T-both (leb 1 n) (leb n 21) (h n p refl) in
+    record {
+      accepted = λ w e. refused-ok e;
+      zero = λ e. absurd (omega (arith, r n p, leb→le 1 n (t .0)));
+      most = omega (arith, r n p, leb→le n 21 (t .1));
+    }
+
+abbrev numberOf : Answer (List ℕ) → ℕ
+numberOf (ok bs) = 0
+numberOf (refused n p) = n
+
+number-added : (a : Added) → numberOf (answerOf a) ≡ recordAdded a .number
+unfolding recordAdded
+number-added (added bs) = refl
+number-added (refusedOld n p) = refl
+number-added (refusedNew n p) = refl
+
+pub check-block-tells : (block : List ℕ) → Octets block → Tells (checkBlock block) (blockChecked (checkBlock block) .number)
+unfolding blockChecked
+check-block-tells block o = tells (λ a. blockChecked a .number) (λ v. refl) (λ n p. refl) (checkBlock block) (block-checked block o)
+
+pub check-recording-tells : (recording : List ℕ) → Octets recording → Tells (checkRecording recording) (recordingChecked (checkRecording recording) .number)
+unfolding recordingChecked
+check-recording-tells recording o =
+    tells (λ a. recordingChecked a .number) (λ v. refl) (λ n p. refl) (checkRecording recording) (recording-checked recording o)
+
+pub find-record-tells : (block : List ℕ) (n : ℕ) → Octets block → Tells (findRecord block n) (recordFound (findRecord block n) .number)
+unfolding recordFound
+find-record-tells block n o = tells (λ a. recordFound a .number) (λ v. refl) (λ m p. refl) (findRecord block n) (record-found block n o)
+
+pub find-item-tells : (block : List ℕ) (reference n : ℕ) → Octets block → Tells (findItem block reference n) (itemFound (findItem block reference n) .number)
+unfolding itemFound
+find-item-tells block reference n o = tells (λ a. itemFound a .number) (λ v. refl) (λ m p. refl) (findItem block reference n) (item-found block reference n o)
+
+pub read-item-tells : (category reference : ℕ) (item : List ℕ) → Tells (readOne category reference item) (itemRead (readOne category reference item) .number)
+unfolding itemRead
+read-item-tells category reference item = tells (λ a. itemRead a .number) (λ v. refl) (λ n p. refl) (readOne category reference item) (one-read category reference item)
+
+pub write-item-tells : (category reference : ℕ) (fields : List ℤ) (room : ℕ)
+    → Tells (writeOne category reference fields room) (itemWritten (writeOne category reference fields room) .number)
+unfolding itemWritten
+write-item-tells category reference fields room =
+    tells (λ a. itemWritten a .number) (λ v. refl) (λ n p. refl) (writeOne category reference fields room) (one-written category reference fields room)
+
+pub add-record-tells : (out : List ℕ) (used : ℕ) (frns items : List ℕ) → Octets out
+    → Tells (answerOf (addRecord out used frns items)) (recordAdded (addRecord out used frns items) .number)
+add-record-tells out used frns items o =
+    subst (Tells (answerOf (addRecord out used frns items))) (number-added (addRecord out used frns items))
+    (tells numberOf (λ v. refl) (λ n p. refl) (answerOf (addRecord out used frns items)) (record-added out used frns items o))

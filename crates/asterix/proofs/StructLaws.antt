@@ -1,0 +1,114 @@
+-- The struct that the code makes of an answer in hand, by its cases, and that it is the struct of the rules' answer.
+--
+-- In order: a case of an answer; checking; finding; one item; adding a record. Assumes nothing.
+use Prim.Native.Nat.{ℕ}
+use mathlib.Core.Path.{_≡_, refl, sym, ap, _∙_}
+use mathlib.Core.List.{List}
+use lib.IntN.{ℤ}
+use Rattle.rules.specs.Answer.{Answer, ok, refused, _>>=_}
+use Rattle.rules.specs.Entry.{Counts, RecordMap, Laid, Added, added, refusedOld, refusedNew}
+use Rattle.items.specs.Answers.{readOf, countOf}
+use Rattle.items.specs.Write.{writtenAs}
+use Rattle.items.specs.declared.ItemRead as items-read
+use Rattle.items.specs.declared.write.ItemWritten as items-written
+use Rattle.records.specs.Answers.{mapIn}
+use Rattle.records.specs.declared.RecordMap as records
+use Rattle.blocks.specs.Answers.{checkedOf}
+use Rattle.blocks.specs.Found.{placeOf, recordLocated, locatedOf}
+use Rattle.blocks.specs.Added.{addedOf}
+use Rattle.blocks.specs.declared.check.BlockChecked as blocks-checked
+use Rattle.blocks.specs.declared.find.RecordPlace.{RecordPlace}
+use Rattle.blocks.specs.declared.find.RecordPlace.the-variants as recordPlace
+use Rattle.blocks.specs.declared.find.RecordLocated.{RecordLocated}
+use Rattle.blocks.specs.declared.find.ItemLocated.{ItemLocated}
+use Rattle.blocks.specs.declared.find.ItemLocated.the-variants as itemLocated
+use Rattle.blocks.specs.declared.add.RecordAdded as blocks-added
+use Rattle.blocks.specs.declared.add.RecordAdded.the-variants as blocksAdded
+use Rattle.recordings.specs.Answers.{countsOf}
+use Rattle.recordings.specs.declared.RecordingChecked as recordings-checked
+use Rattle.asterix.specs.declared.RecordFound.{RecordFound}
+use Rattle.asterix.specs.declared.ItemFound.{ItemFound}
+use Rattle.asterix.specs.declared.ItemRead.{ItemRead}
+use Rattle.asterix.specs.declared.ItemWritten.{ItemWritten}
+use Rattle.asterix.specs.declared.RecordAdded.{RecordAdded}
+use Rattle.asterix.specs.Answers.{blockChecked, recordingChecked, recordFound, itemFound, itemRead, itemWritten, recordAdded}
+
+-- an answer whose struct is s, and which is the case y: y makes s
+in-case : {A S : Type 0} (f : A → S) {x y : A} {s : S} → f x ≡ s → x ≡ y → f y ≡ s
+in-case f h e = sym (ap f e) ∙ h
+
+-- ---- checking
+
+pub block-checked : {r y : blocks-checked.BlockChecked} (a : Answer ℕ) → checkedOf r ≡ a → r ≡ y → blockChecked (checkedOf y) ≡ blockChecked a
+block-checked a h e = in-case (λ x. blockChecked (checkedOf x)) (ap blockChecked h) e
+
+pub recording-checked : {r y : recordings-checked.RecordingChecked} (a : Answer Counts) → countsOf r ≡ a → r ≡ y → recordingChecked (countsOf y) ≡ recordingChecked a
+recording-checked a h e = in-case (λ x. recordingChecked (countsOf x)) (ap recordingChecked h) e
+
+-- ---- finding
+
+abbrev pub recordBy : records.RecordMap → RecordPlace → RecordFound
+recordBy m (recordPlace.At s l) = record { number = 0; place = 0; start = s; length = l; end = m .end; count = m .count; starts = m .starts }
+recordBy m (recordPlace.Refused n p) = record { number = n; place = p; start = 0; length = 0; end = 0; count = 0; starts = m .starts }
+
+record-by : (a : Answer RecordMap) → recordBy (mapIn a) (placeOf a) ≡ recordFound a
+unfolding recordFound
+record-by (ok m) = refl
+record-by (refused n p) = refl
+
+pub record-found : (r : RecordLocated) {y : RecordPlace} (a : Answer RecordMap) → r ≡ recordLocated a → r .answer ≡ y → recordBy (r .map) y ≡ recordFound a
+record-found r a h e = in-case (recordBy (r .map)) (ap (λ (l : RecordLocated). recordBy (l .map) (l .answer)) h ∙ record-by a) e
+
+abbrev pub itemBy : ItemLocated → ItemFound
+itemBy (itemLocated.At s l) = record { number = 0; place = 0; start = s; length = l }
+itemBy (itemLocated.Refused n p) = record { number = n; place = p; start = 0; length = 0 }
+
+item-by : (a : Answer Laid) → itemBy (locatedOf a) ≡ itemFound a
+unfolding itemFound
+item-by (ok l) = refl
+item-by (refused n p) = refl
+
+pub item-found : {r y : ItemLocated} (a : Answer Laid) → r ≡ locatedOf a → r ≡ y → itemBy y ≡ itemFound a
+item-found a h e = in-case itemBy (ap itemBy h ∙ item-by a) e
+
+-- ---- one item
+
+abbrev pub readBy : Answer ℕ → ItemRead
+readBy (ok n) = record { number = 0; place = 0; count = n }
+readBy (refused n p) = record { number = n; place = p; count = 0 }
+
+read-by : (a : Answer (List ℤ)) → readBy (countOf a) ≡ itemRead a
+unfolding itemRead countOf _>>=_
+read-by (ok fs) = refl
+read-by (refused n p) = refl
+
+pub item-read : {r y : items-read.ItemRead} (a : Answer (List ℤ)) → readOf r ≡ countOf a → r ≡ y → readBy (readOf y) ≡ itemRead a
+item-read a h e = in-case (λ x. readBy (readOf x)) (ap readBy h ∙ read-by a) e
+
+abbrev pub writtenBy : Answer ℕ → ItemWritten
+writtenBy (ok n) = record { number = 0; place = 0; length = n }
+writtenBy (refused n p) = record { number = n; place = p; length = 0 }
+
+written-by : (a : Answer (List ℕ)) → writtenBy (countOf a) ≡ itemWritten a
+unfolding itemWritten countOf _>>=_
+written-by (ok bs) = refl
+written-by (refused n p) = refl
+
+pub item-written : {r y : items-written.ItemWritten} (a : Answer (List ℕ)) → writtenAs r ≡ countOf a → r ≡ y → writtenBy (writtenAs y) ≡ itemWritten a
+item-written a h e = in-case (λ x. writtenBy (writtenAs x)) (ap writtenBy h ∙ written-by a) e
+
+-- ---- adding a record
+
+abbrev pub addedBy : blocks-added.RecordAdded → RecordAdded
+addedBy (blocksAdded.Length n) = record { number = 0; «in_new» = 0; place = 0; length = n }
+addedBy (blocksAdded.RefusedOld n p) = record { number = n; «in_new» = 0; place = p; length = 0 }
+addedBy (blocksAdded.RefusedNew n p) = record { number = n; «in_new» = 1; place = p; length = 0 }
+
+added-by : (a : Added) → addedBy (addedOf a) ≡ recordAdded a
+unfolding recordAdded
+added-by (added bs) = refl
+added-by (refusedOld n p) = refl
+added-by (refusedNew n p) = refl
+
+pub record-added : {r y : blocks-added.RecordAdded} (a : Added) → r ≡ addedOf a → r ≡ y → addedBy y ≡ recordAdded a
+record-added a h e = in-case addedBy (ap addedBy h ∙ added-by a) e

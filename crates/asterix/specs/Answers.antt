@@ -1,0 +1,59 @@
+-- The struct that an answer of the rules makes, for C and Rust: `number` is 0 where the work was done, and else the refusal's; `place` is the refusal's, 0 where
+-- there is none; every other member is 0 on refusal. `proofs/NumberLaws` has that no refusal's number is 0. Assumes nothing.
+--
+-- In order: checking; finding; one item; adding a record.
+use Prim.Native.Nat.{ℕ, _-_}
+use mathlib.Core.List.{List}
+use lib.IntN.{ℤ}
+use lib.ListN.{length, replicate}
+use Rattle.rules.specs.Answer.{Answer, ok, refused}
+use Rattle.rules.specs.Entry.{Counts, RecordMap, Laid, Added, added, refusedOld, refusedNew}
+use Rattle.asterix.specs.declared.BlockChecked.{BlockChecked}
+use Rattle.asterix.specs.declared.RecordingChecked.{RecordingChecked}
+use Rattle.asterix.specs.declared.RecordFound.{RecordFound}
+use Rattle.asterix.specs.declared.ItemFound.{ItemFound}
+use Rattle.asterix.specs.declared.ItemRead.{ItemRead}
+use Rattle.asterix.specs.declared.ItemWritten.{ItemWritten}
+use Rattle.asterix.specs.declared.RecordAdded.{RecordAdded}
+
+-- ---- checking
+
+unfoldable pub blockChecked : Answer ℕ → BlockChecked
+blockChecked (ok n) = record { number = 0; place = 0; records = n }
+blockChecked (refused n p) = record { number = n; place = p; records = 0 }
+
+unfoldable pub recordingChecked : Answer Counts → RecordingChecked
+recordingChecked (ok c) = record { number = 0; place = 0; blocks = c .blocks; records = c .records }
+recordingChecked (refused n p) = record { number = n; place = p; blocks = 0; records = 0 }
+
+-- ---- finding
+
+-- on refusal every place of the map is absent
+unfoldable pub recordFound : Answer RecordMap → RecordFound
+recordFound (ok m) =
+    record { number = 0; place = 0; start = m .start; length = m .end - m .start; end = m .end; count = m .count; starts = m .starts }
+recordFound (refused n p) = record { number = n; place = p; start = 0; length = 0; end = 0; count = 0; starts = replicate 35 0 }
+
+unfoldable pub itemFound : Answer Laid → ItemFound
+itemFound (ok l) = record { number = 0; place = 0; start = l .start; length = l .size }
+itemFound (refused n p) = record { number = n; place = p; start = 0; length = 0 }
+
+-- ---- one item
+
+-- how many fields it has
+unfoldable pub itemRead : Answer (List ℤ) → ItemRead
+itemRead (ok fs) = record { number = 0; place = 0; count = length fs }
+itemRead (refused n p) = record { number = n; place = p; count = 0 }
+
+-- how many octets it has
+unfoldable pub itemWritten : Answer (List ℕ) → ItemWritten
+itemWritten (ok bs) = record { number = 0; place = 0; length = length bs }
+itemWritten (refused n p) = record { number = n; place = p; length = 0 }
+
+-- ---- adding a record
+
+-- the block's new length; `in_new` is 1 where the place of a refusal lies in the new items
+unfoldable pub recordAdded : Added → RecordAdded
+recordAdded (added bs) = record { number = 0; «in_new» = 0; place = 0; length = length bs }
+recordAdded (refusedOld n p) = record { number = n; «in_new» = 0; place = p; length = 0 }
+recordAdded (refusedNew n p) = record { number = n; «in_new» = 1; place = p; length = 0 }

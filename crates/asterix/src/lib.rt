@@ -1,0 +1,263 @@
+// The functions of include/asterix.h, for C and Rust: a slice goes as a pointer and how many elements it points to, an array as a pointer. Each answer is
+// a struct by value whose `number` is 0 or the refusal's (document 01, "Refusal numbers and their order"), whose `place` is the refusal's, and whose other
+// members are 0 on refusal.
+//
+// In order, as in the header: checking; finding; one item; adding a record; lengths.
+use blocks::ItemLocated;
+use blocks::RecordPlace;
+use records::ItemSet;
+ghost use mathlib.Core.Path.{_≡_};
+ghost use lib.ListN.{length};
+ghost use Rattle.rules.specs.Entry.{categories, leaves, checkBlock, checkRecording, findRecord, findItem, readOne, writeOne, addRecord, leavesAdded, leastLength};
+ghost use Rattle.items.specs.Answers.{profileIn};
+ghost use Rattle.records.specs.Sets.{frnsOf};
+ghost use Rattle.asterix.specs.Answers.{blockChecked, recordingChecked, recordFound, itemFound, itemRead, itemWritten, recordAdded};
+
+// ---- checking
+
+#[repr(C)]
+pub struct BlockChecked {
+    pub number: u8,
+    pub place: usize,
+    pub records: usize,
+}
+
+// A single block: all of the bytes lent.
+#[no_mangle]
+pub extern "C" fn asterix_check_block(block: &[u8]) -> BlockChecked
+    ensures { λ r. ⌜ r ≡ blockChecked (checkBlock (now (block .entry))) ⌝ }
+{
+    match blocks::check_block(block) {
+        blocks::BlockChecked::Accepted { records } => BlockChecked {
+            number: 0,
+            place: 0,
+            records,
+        },
+        blocks::BlockChecked::Refused { number, place } => BlockChecked {
+            number,
+            place,
+            records: 0,
+        },
+    }
+}
+
+#[repr(C)]
+pub struct RecordingChecked {
+    pub number: u8,
+    pub place: usize,
+    pub blocks: usize,
+    pub records: usize,
+}
+
+// A recording: blocks end to end, or none.
+#[no_mangle]
+pub extern "C" fn asterix_check_recording(recording: &[u8]) -> RecordingChecked
+    ensures { λ r. ⌜ r ≡ recordingChecked (checkRecording (now (recording .entry))) ⌝ }
+{
+    match recordings::check_recording(recording) {
+        recordings::RecordingChecked::Accepted { blocks, records } => RecordingChecked {
+            number: 0,
+            place: 0,
+            blocks: blocks as usize,
+            records: records as usize,
+        },
+        recordings::RecordingChecked::Refused { number, place } => RecordingChecked {
+            number,
+            place: place as usize,
+            blocks: 0,
+            records: 0,
+        },
+    }
+}
+
+// ---- finding
+
+#[repr(C)]
+pub struct RecordFound {
+    pub number: u8,
+    pub place: usize,
+    pub start: usize,
+    pub length: usize,
+    pub end: usize,
+    pub count: usize,
+    pub starts: [u16; 35],
+}
+
+// The record with a number, counted from 0: where it lies, and its map.
+#[no_mangle]
+pub extern "C" fn asterix_find_record(block: &[u8], n: usize) -> RecordFound
+    ensures { λ r. ⌜ r ≡ recordFound (findRecord (now (block .entry)) n) ⌝ }
+{
+    let located = blocks::locate_record(block, n);
+    let map = located.map;
+    let starts = map.starts;
+    let answer = located.answer;
+    match answer {
+        RecordPlace::At { start, length } => RecordFound {
+            number: 0,
+            place: 0,
+            start,
+            length,
+            end: map.end,
+            count: map.count,
+            starts,
+        },
+        RecordPlace::Refused { number, place } => RecordFound {
+            number,
+            place,
+            start: 0,
+            length: 0,
+            end: 0,
+            count: 0,
+            starts,
+        },
+    }
+}
+
+#[repr(C)]
+pub struct ItemFound {
+    pub number: u8,
+    pub place: usize,
+    pub start: usize,
+    pub length: usize,
+}
+
+// The item with a reference, the number after its slash, in the record with a number: where it lies.
+#[no_mangle]
+pub extern "C" fn asterix_find_item(block: &[u8], reference: u16, n: usize) -> ItemFound
+    ensures { λ r. ⌜ r ≡ itemFound (findItem (now (block .entry)) reference n) ⌝ }
+{
+    match blocks::locate_item(block, reference, n) {
+        ItemLocated::At { start, length } => ItemFound {
+            number: 0,
+            place: 0,
+            start,
+            length,
+        },
+        ItemLocated::Refused { number, place } => ItemFound {
+            number,
+            place,
+            start: 0,
+            length: 0,
+        },
+    }
+}
+
+// ---- one item
+
+#[repr(C)]
+pub struct ItemRead {
+    pub number: u8,
+    pub place: usize,
+    pub count: usize,
+}
+
+// The fields of an item that is all of the bytes lent, at the start of the output.
+#[no_mangle]
+pub extern "C" fn asterix_read_item(
+    category: u8,
+    reference: u16,
+    item: &[u8],
+    fields: &mut [i64; 8192],
+) -> ItemRead
+    ensures answer { λ r. ⌜ r ≡ itemRead (readOne category reference (now (item .entry))) ⌝ }
+    ensures left { λ _. ⌜ now (fields .exit) ≡ leaves (readOne category reference (now (item .entry))) (now (fields .entry)) ⌝ }
+{
+    match items::read_item(category, reference, item, fields) {
+        items::ItemRead::Fields { count } => ItemRead {
+            number: 0,
+            place: 0,
+            count,
+        },
+        items::ItemRead::Refused { number, place } => ItemRead {
+            number,
+            place,
+            count: 0,
+        },
+    }
+}
+
+#[repr(C)]
+pub struct ItemWritten {
+    pub number: u8,
+    pub place: usize,
+    pub length: usize,
+}
+
+// An item from its fields, at the start of the output.
+#[no_mangle]
+pub extern "C" fn asterix_write_item(
+    category: u8,
+    reference: u16,
+    fields: &[i64],
+    out: &mut [u8],
+) -> ItemWritten
+    ensures answer { λ r. ⌜ r ≡ itemWritten (writeOne category reference (now (fields .entry)) (length (now (out .entry)))) ⌝ }
+    ensures left { λ _. ⌜ now (out .exit) ≡ leaves (writeOne category reference (now (fields .entry)) (length (now (out .entry)))) (now (out .entry)) ⌝ }
+{
+    match items::write_item(category, reference, fields, out) {
+        items::ItemWritten::Length(length) => ItemWritten {
+            number: 0,
+            place: 0,
+            length,
+        },
+        items::ItemWritten::Refused { number, place } => ItemWritten {
+            number,
+            place,
+            length: 0,
+        },
+    }
+}
+
+// ---- adding a record
+
+#[repr(C)]
+pub struct RecordAdded {
+    pub number: u8,
+    pub in_new: u8,
+    pub place: usize,
+    pub length: usize,
+}
+
+// Into an output whose first bytes, so many as are used, are a block: the record of a set of FRNs, FRN f being bit 63 - f, whose items are lent end to end.
+#[no_mangle]
+pub extern "C" fn asterix_add_record(
+    out: &mut [u8],
+    used: usize,
+    frns: u64,
+    items: &[u8],
+) -> RecordAdded
+    ensures answer { λ r. ⌜ r ≡ recordAdded (addRecord (now (out .entry)) used (frnsOf frns) (now (items .entry))) ⌝ }
+    ensures left { λ _. ⌜ now (out .exit) ≡ leavesAdded (addRecord (now (out .entry)) used (frnsOf frns) (now (items .entry))) (now (out .entry)) ⌝ }
+{
+    match blocks::add_record(out, used, ItemSet { bits: frns }, items) {
+        blocks::RecordAdded::Length(length) => RecordAdded {
+            number: 0,
+            in_new: 0,
+            place: 0,
+            length,
+        },
+        blocks::RecordAdded::RefusedOld { number, place } => RecordAdded {
+            number,
+            in_new: 0,
+            place,
+            length: 0,
+        },
+        blocks::RecordAdded::RefusedNew { number, place } => RecordAdded {
+            number,
+            in_new: 1,
+            place,
+            length: 0,
+        },
+    }
+}
+
+// ---- lengths
+
+// The fewest octets that the items take that an octet of an FSPEC names, by its place, counted from 0; 0 where the category has no such octet.
+#[no_mangle]
+pub extern "C" fn asterix_least_length(category: u8, place: usize, octet: u8) -> usize
+    ensures { λ r. ⌜ r ≡ leastLength (profileIn category categories) place octet ⌝ }
+{
+    blocks::least_length(items::profile_of(category), place, octet)
+}
