@@ -19,7 +19,7 @@ use Rattle.records.specs.declared.RecordMap.{RecordMap as RecordMap′}
 use Rattle.records.specs.declared.RecordChecked.{RecordChecked}
 use Rattle.records.specs.declared.RecordWalked.{RecordWalked}
 use Rattle.records.specs.Answers.{endOf, mapIn, Walked, recordAt}
-use Rattle.records.specs.Plain.{endAt}
+use Rattle.plain.specs.Record.{endAt}
 use Rattle.blocks.specs.declared.find.RecordPlace.the-variants.{At}
 use Rattle.blocks.specs.Found.{recordLocated}
 use Rattle.blocks.specs.Read.{countFrom, Records, seekAt}

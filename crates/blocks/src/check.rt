@@ -4,18 +4,18 @@ use crate::head::HeadRead;
 use crate::head::LEAST;
 use crate::head::front_head;
 use crate::head::single_head;
-use items::Steps;
+use plain::Sets;
+use plain::Steps;
+use plain::Types;
 use records::RecordChecked;
-use records::Sets;
-use records::Types;
 ghost use mathlib.Core.Path.{_≡_};
 ghost use mathlib.Core.Bool.{true};
 ghost use Prim.Native.Nat.{_+_, _<_};
 ghost use lib.ListN.{length};
 ghost use Rattle.rules.specs.Entry.{checkBlock};
-ghost use Rattle.items.specs.Plain.{soundSteps};
+ghost use Rattle.plain.specs.Item.{soundSteps};
 ghost use Rattle.records.specs.Sets.{categoryAt};
-ghost use Rattle.records.specs.Plain.{soundTypes, typeSets};
+ghost use Rattle.plain.specs.Record.{soundTypes, typeSets};
 ghost use Rattle.blocks.specs.Read.{countFrom, openFrom, checkFront};
 ghost use Rattle.blocks.specs.Answers.{checkedOf, checkedBy, checkedNumber, checkedPlace, openedOf, frontOf};
 
@@ -73,7 +73,7 @@ fn check_records_by(
     let mut at = from;
     let mut n: usize = 0;
     while 0 < rest.len() {
-        let checked = records::record_end(steps, types, sets, profile, rest, at);
+        let checked = plain::record_end(steps, types, sets, profile, rest, at);
         let RecordChecked::Ends { end } = checked else {
             return refused_by(checked);
         };
@@ -90,9 +90,9 @@ fn check_records(profile: usize, part: &[u8], from: usize) -> BlockChecked
     requires { ⌜ from + length (now part) < 65536 ⌝ }
     ensures { λ r. ⌜ checkedOf r ≡ countFrom (categoryAt profile) 0 from (now (part .entry)) ⌝ }
 {
-    let steps = items::steps();
-    let types = records::type_table();
-    let sets = records::set_table();
+    let steps = plain::steps();
+    let types = plain::type_table();
+    let sets = plain::set_table();
     check_records_by(&steps, &types, &sets, profile, part, from)
 }
 

@@ -21,5 +21,4 @@ pub mod WriteTrip
 pub mod StoreLaws
 pub mod OneLaws
 pub mod RuleLaws
-pub mod PlainLaws
 pub mod Unique

@@ -3,4 +3,3 @@ pub mod Write
 pub mod Read
 pub mod Answers
 pub mod FieldRules
-pub mod Plain

@@ -2,7 +2,6 @@
 mod field_rules;
 mod fields;
 mod parts;
-mod plain;
 mod tables;
 mod write;
 
@@ -12,9 +11,6 @@ use parts::Shape;
 use parts::item_store;
 use parts::part_legal;
 use parts::whole_of;
-pub use plain::Steps;
-pub use plain::plain_item;
-pub use plain::steps;
 use tables::FRNS;
 use tables::PROFILES;
 use tables::PlaceRow;

@@ -1,14 +1,14 @@
 // A recording: blocks end to end, checked whole, or block by block as it is read (document 01, "What the reader and writer cover").
 use blocks::FrontChecked;
-use items::Steps;
-use records::Sets;
-use records::Types;
+use plain::Sets;
+use plain::Steps;
+use plain::Types;
 ghost use mathlib.Core.Path.{_≡_};
 ghost use mathlib.Core.Bool.{true};
 ghost use Prim.Native.Nat.{_+_, _<_};
 ghost use Rattle.rules.specs.Entry.{checkRecording};
-ghost use Rattle.items.specs.Plain.{soundSteps};
-ghost use Rattle.records.specs.Plain.{soundTypes, typeSets};
+ghost use Rattle.plain.specs.Item.{soundSteps};
+ghost use Rattle.plain.specs.Record.{soundTypes, typeSets};
 ghost use Rattle.recordings.specs.Feed.{capped, fed, finished, blockLength};
 ghost use Rattle.recordings.specs.Answers.{countsOf, frontNumber, frontPlace, stateOf};
 
@@ -67,9 +67,9 @@ fn check_blocks(steps: &Steps, types: &Types, sets: &Sets, recording: &[u8]) -> 
 pub fn check_recording(recording: &[u8]) -> RecordingChecked
     ensures { λ r. ⌜ countsOf r ≡ checkRecording (now (recording .entry)) ⌝ }
 {
-    let steps = items::steps();
-    let types = records::type_table();
-    let sets = records::set_table();
+    let steps = plain::steps();
+    let types = plain::type_table();
+    let sets = plain::set_table();
     check_blocks(&steps, &types, &sets, recording)
 }
 

@@ -11,4 +11,3 @@ pub mod RecordLaws
 pub mod FspecLaws
 pub mod NewLaws
 pub mod Unique
-pub mod PlainLaws

@@ -1,4 +1,3 @@
 pub mod Sets
 pub mod Walk
 pub mod Answers
-pub mod Plain

@@ -1,17 +1,11 @@
 // One record of categories 017 and 018: the set of its items, the row of its message type, its items end to end and the record map (document 01,
 // "Block, record, item" and "Refusal numbers and their order"). Profile 0 is category 017, edition 1.3; profile 1 is category 018, edition 1.6.
 mod messages;
-mod plain;
 
 use items::ItemCheck;
 use items::check_item;
 use messages::MessageRow;
 use messages::row_of;
-pub use plain::Sets;
-pub use plain::Types;
-pub use plain::record_end;
-pub use plain::set_table;
-pub use plain::type_table;
 ghost use mathlib.Core.Path.{_≡_};
 ghost use mathlib.Core.Bool.{true, false};
 ghost use Prim.Native.Nat.{_+_, _-_, _*_, _/_, _^_, _<_, _≤_, min};
@@ -120,7 +114,7 @@ impl ItemSet {
     }
 
     // Whether another set has every item of this one.
-    fn is_within(self, other: ItemSet) -> bool
+    pub fn is_within(self, other: ItemSet) -> bool
         ensures { λ r. ⌜ r ≡ within (flags 64 (self .bits)) (flags 64 (other .bits)) ⌝ }
     {
         let bits = self.bits;
