@@ -16,8 +16,10 @@ use Rattle.rules.proofs.RecordLaws.{record-laws, record-starts}
 use Rattle.records.specs.Sets.{categoryAt}
 use Rattle.records.specs.declared.RecordChecked.the-variants as recordChecked
 use Rattle.records.specs.declared.RecordMap.{RecordMap as RecordMap′}
+use Rattle.records.specs.declared.RecordChecked.{RecordChecked}
 use Rattle.records.specs.declared.RecordWalked.{RecordWalked}
 use Rattle.records.specs.Answers.{endOf, mapIn, Walked, recordAt}
+use Rattle.plain.specs.Record.{endAt}
 use Rattle.blocks.specs.declared.find.RecordPlace.the-variants.{At}
 use Rattle.blocks.specs.Found.{recordLocated}
 use Rattle.blocks.specs.Read.{countFrom, Records, seekAt}
@@ -88,18 +90,19 @@ unfolding _>>=_
 made-refused (ok a) f n p h = refused-ok h
 made-refused (refused m q) f n p h = (cc)
 
-module _ (i k : ℕ) (bs : List ℕ) (w : RecordWalked) (walked : Walked w (recordAt i k bs)) where
-  pub walked-accepted : (e : ℕ) → Octets bs → w .checked ≡ recordChecked.Ends e → Accepted (categoryAt i) k bs e
-  walked-accepted e o h =
-      let (m, p, q) = made-ok (recordAt i k bs) (λ m. m .end) e (ap endOf (sym h) ∙ walked .answer) in
+module _ (i k : ℕ) (bs : List ℕ) (x : RecordChecked) (ended : endOf x ≡ endAt i k bs) where
+  pub ended-accepted : (e : ℕ) → Octets bs → x ≡ recordChecked.Ends e → Accepted (categoryAt i) k bs e
+  ended-accepted e o h =
+      let (m, p, q) = made-ok (recordAt i k bs) (λ m. m .end) e (ap endOf (sym h) ∙ ended) in
       record-accepted (categoryAt i) k bs m e o (sym (record-is i k bs) ∙ p) q
 
-  pub walked-map : (e : ℕ) (a : Accepted (categoryAt i) k bs e) → w .map ≡ mapIn (ok (mapOf (categoryAt i) (record { start = k; value = a .value })))
-  walked-map e a = walked .map ∙ ap mapIn (record-is i k bs ∙ a .mapped)
+  pub ended-refused : (n q : ℕ) → x ≡ recordChecked.Refused n q → Refusal (categoryAt i) k bs n q
+  ended-refused n q h =
+      record-refusal (categoryAt i) k bs n q (sym (record-is i k bs) ∙ made-refused (recordAt i k bs) (λ m. m .end) n q (ap endOf (sym h) ∙ ended))
 
-  pub walked-refused : (n q : ℕ) → w .checked ≡ recordChecked.Refused n q → Refusal (categoryAt i) k bs n q
-  walked-refused n q h =
-      record-refusal (categoryAt i) k bs n q (sym (record-is i k bs) ∙ made-refused (recordAt i k bs) (λ m. m .end) n q (ap endOf (sym h) ∙ walked .answer))
+pub walked-map : (i k : ℕ) (bs : List ℕ) (w : RecordWalked) → Walked w (recordAt i k bs) → (e : ℕ) (a : Accepted (categoryAt i) k bs e)
+    → w .map ≡ mapIn (ok (mapOf (categoryAt i) (record { start = k; value = a .value })))
+walked-map i k bs w walked e a = walked .map ∙ ap mapIn (record-is i k bs ∙ a .mapped)
 
 -- ---- how many there are
 

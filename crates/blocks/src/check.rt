@@ -4,12 +4,18 @@ use crate::head::HeadRead;
 use crate::head::LEAST;
 use crate::head::front_head;
 use crate::head::single_head;
+use plain::Sets;
+use plain::Steps;
+use plain::Types;
 use records::RecordChecked;
 ghost use mathlib.Core.Path.{_≡_};
+ghost use mathlib.Core.Bool.{true};
 ghost use Prim.Native.Nat.{_+_, _<_};
 ghost use lib.ListN.{length};
 ghost use Rattle.rules.specs.Entry.{checkBlock};
+ghost use Rattle.plain.specs.Item.{soundSteps};
 ghost use Rattle.records.specs.Sets.{categoryAt};
+ghost use Rattle.plain.specs.Record.{soundTypes, typeSets};
 ghost use Rattle.blocks.specs.Read.{countFrom, openFrom, checkFront};
 ghost use Rattle.blocks.specs.Answers.{checkedOf, checkedBy, checkedNumber, checkedPlace, openedOf, frontOf};
 
@@ -51,17 +57,23 @@ fn refused_by(checked: RecordChecked) -> BlockChecked
     }
 }
 
-// The records that fill a part, which starts at a place of its block.
-pub fn check_records(profile: usize, part: &[u8], from: usize) -> BlockChecked
-    requires { ⌜ from + length (now part) < 65536 ⌝ }
+// The records that fill a part, which starts at a place of its block. The tables are lent.
+fn check_records_by(
+    steps: &Steps,
+    types: &Types,
+    sets: &Sets,
+    profile: usize,
+    part: &[u8],
+    from: usize,
+) -> BlockChecked
+    requires { ⌜ (soundSteps (now steps) ≡ true) × (soundTypes (now types) ≡ true) × (now sets ≡ typeSets) × (from + length (now part) < 65536) ⌝ }
     ensures { λ r. ⌜ checkedOf r ≡ countFrom (categoryAt profile) 0 from (now (part .entry)) ⌝ }
 {
     let mut rest = part;
     let mut at = from;
     let mut n: usize = 0;
     while 0 < rest.len() {
-        let walked = records::check_record(profile, rest, at);
-        let checked = walked.checked;
+        let checked = plain::record_end(steps, types, sets, profile, rest, at);
         let RecordChecked::Ends { end } = checked else {
             return refused_by(checked);
         };
@@ -71,6 +83,17 @@ pub fn check_records(profile: usize, part: &[u8], from: usize) -> BlockChecked
         n = n + 1;
     }
     BlockChecked::Accepted { records: n }
+}
+
+// The same, with tables of its own.
+fn check_records(profile: usize, part: &[u8], from: usize) -> BlockChecked
+    requires { ⌜ from + length (now part) < 65536 ⌝ }
+    ensures { λ r. ⌜ checkedOf r ≡ countFrom (categoryAt profile) 0 from (now (part .entry)) ⌝ }
+{
+    let steps = plain::steps();
+    let types = plain::type_table();
+    let sets = plain::set_table();
+    check_records_by(&steps, &types, &sets, profile, part, from)
 }
 
 // A single block: its profile, 0 where it is refused, and its check.
@@ -120,7 +143,9 @@ pub enum FrontChecked {
     Refused { number: u8, place: usize },
 }
 
-pub fn check_front(part: &[u8]) -> FrontChecked
+// The tables are lent, so that a recording's blocks share them.
+pub fn check_front(steps: &Steps, types: &Types, sets: &Sets, part: &[u8]) -> FrontChecked
+    requires { ⌜ (soundSteps (now steps) ≡ true) × (soundTypes (now types) ≡ true) × (now sets ≡ typeSets) ⌝ }
     ensures { λ r. ⌜ frontOf r ≡ checkFront (now (part .entry)) ⌝ }
 {
     let head = front_head(part);
@@ -136,7 +161,7 @@ pub fn check_front(part: &[u8]) -> FrontChecked
             place: 0,
         };
     }
-    let checked = check_records(profile, &part[HEAD..len], HEAD);
+    let checked = check_records_by(steps, types, sets, profile, &part[HEAD..len], HEAD);
     let BlockChecked::Accepted { records } = checked else {
         return FrontChecked::Refused {
             number: checked.number(),

@@ -1,8 +1,14 @@
 // A recording: blocks end to end, checked whole, or block by block as it is read (document 01, "What the reader and writer cover").
 use blocks::FrontChecked;
+use plain::Sets;
+use plain::Steps;
+use plain::Types;
 ghost use mathlib.Core.Path.{_≡_};
+ghost use mathlib.Core.Bool.{true};
 ghost use Prim.Native.Nat.{_+_, _<_};
 ghost use Rattle.rules.specs.Entry.{checkRecording};
+ghost use Rattle.plain.specs.Item.{soundSteps};
+ghost use Rattle.plain.specs.Record.{soundTypes, typeSets};
 ghost use Rattle.recordings.specs.Feed.{capped, fed, finished, blockLength};
 ghost use Rattle.recordings.specs.Answers.{countsOf, frontNumber, frontPlace, stateOf};
 
@@ -30,8 +36,9 @@ fn front_place(front: FrontChecked) -> usize
     }
 }
 
-// All of a recording, which may be empty.
-pub fn check_recording(recording: &[u8]) -> RecordingChecked
+// All of a recording, which may be empty. The tables are lent, so that its blocks share them.
+fn check_blocks(steps: &Steps, types: &Types, sets: &Sets, recording: &[u8]) -> RecordingChecked
+    requires { ⌜ (soundSteps (now steps) ≡ true) × (soundTypes (now types) ≡ true) × (now sets ≡ typeSets) ⌝ }
     ensures { λ r. ⌜ countsOf r ≡ checkRecording (now (recording .entry)) ⌝ }
 {
     let mut rest = recording;
@@ -39,7 +46,7 @@ pub fn check_recording(recording: &[u8]) -> RecordingChecked
     let mut count: usize = 0;
     let mut total: usize = 0;
     while 0 < rest.len() {
-        let front = blocks::check_front(rest);
+        let front = blocks::check_front(steps, types, sets, rest);
         let FrontChecked::Block { len, records } = front else {
             return RecordingChecked::Refused {
                 number: front_number(front),
@@ -55,6 +62,15 @@ pub fn check_recording(recording: &[u8]) -> RecordingChecked
         blocks: count as u64,
         records: total as u64,
     }
+}
+
+pub fn check_recording(recording: &[u8]) -> RecordingChecked
+    ensures { λ r. ⌜ countsOf r ≡ checkRecording (now (recording .entry)) ⌝ }
+{
+    let steps = plain::steps();
+    let types = plain::type_table();
+    let sets = plain::set_table();
+    check_blocks(&steps, &types, &sets, recording)
 }
 
 // ---- block by block

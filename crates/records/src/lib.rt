@@ -114,7 +114,7 @@ impl ItemSet {
     }
 
     // Whether another set has every item of this one.
-    fn is_within(self, other: ItemSet) -> bool
+    pub fn is_within(self, other: ItemSet) -> bool
         ensures { λ r. ⌜ r ≡ within (flags 64 (self .bits)) (flags 64 (other .bits)) ⌝ }
     {
         let bits = self.bits;

@@ -54,17 +54,18 @@ returns c =
 returns-2 : tie.Need-returns-2
 returns-2 c = sym (front-empty _ (record { category = categoryAt (c .before .before .head .given .0 .0); len = c .before .before .head .given .0 .1 .0 }) (sym (c .before .before .before .before .front-head .ensures) ∙ ap headOf (c .before .before .head .given .1)) (c .if1 .taken))
 
-sub-check-records : tie.Need-sub-check-records
-sub-check-records c = omega (arith, least c)
+sub-check-records-by : tie.Need-sub-check-records-by
+sub-check-records-by c = omega (arith, least c)
 
-part-check-records-start : tie.Need-part-check-records-start
-part-check-records-start c = omega (arith, least c)
+part-check-records-by-start : tie.Need-part-check-records-by-start
+part-check-records-by-start c = omega (arith, least c)
 
-part-check-records-end : tie.Need-part-check-records-end
-part-check-records-end c = omega (arith, least c, len-is c)
+part-check-records-by-end : tie.Need-part-check-records-by-end
+part-check-records-by-end c = omega (arith, least c, len-is c)
 
-check-records-requires : tie.Need-check-records-requires
-check-records-requires c κs = omega (arith, few (c .before), len-is (c .before), least (c .before), c .check-records-arg .given .2)
+check-records-by-requires : tie.Need-check-records-by-requires
+check-records-by-requires c κs =
+    (c .before .before .before .before .before .before .before .pre .0, c .before .before .before .before .before .before .before .pre .1, c .before .before .before .before .before .before .before .pre .2, omega (arith, few (c .before), len-is (c .before), least (c .before), c .check-records-by-arg .given .2))
 
 enum-known-checked : tie.Need-enum-known-checked
 enum-known-checked c = search needs
@@ -82,12 +83,12 @@ returns-3 : tie.Need-returns-3
 returns-3 c =
     ap₂ refused (c .before .number2 .ensures ∙ ap checkedNumber (c .before .before .enum-told2 .given .1)) (c .place .ensures ∙ ap checkedPlace (c .before .before .enum-told2 .given .1))
     ∙ sym (front-stop _ (head-of (c .before .before .before .before .before .before)) _ _ (has-head (c .before .before .before .before .before .before)) (c .before .before .before .before .before .before .if1 .left)
-    (sym (c .before .before .before .before .check-records .ensures) ∙ ap checkedOf (c .before .before .enum-told2 .given .1)))
+    (sym (c .before .before .before .before .check-records-by .ensures) ∙ ap checkedOf (c .before .before .enum-told2 .given .1)))
 
 returns-4 : tie.Need-returns-4
 returns-4 c =
     sym (front-all _ (head-of (c .before .before .before .before .before)) _ (has-head (c .before .before .before .before .before)) (c .before .before .before .before .before .if1 .left)
-    (sym (c .before .before .before .check-records .ensures) ∙ ap checkedOf (c .before .checked .given .1)))
+    (sym (c .before .before .before .check-records-by .ensures) ∙ ap checkedOf (c .before .checked .given .1)))
 
 pub check-front-spec : {M : Type 1} → statement M
 check-front-spec =
@@ -99,10 +100,10 @@ check-front-spec =
     number-requires
     returns
     returns-2
-    sub-check-records
-    part-check-records-start
-    part-check-records-end
-    check-records-requires
+    sub-check-records-by
+    part-check-records-by-start
+    part-check-records-by-end
+    check-records-by-requires
     enum-known-checked
     enum-told-2
     number-requires-2

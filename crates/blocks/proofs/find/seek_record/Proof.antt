@@ -8,7 +8,7 @@ use lib.ListN.{length}
 use Rattle.records.specs.Sets.{categoryAt}
 use Rattle.blocks.specs.Found.{recordLocated}
 use Rattle.blocks.proofs.LoopLaws.{octets-each, to-end}
-use Rattle.blocks.proofs.RecordLaws.{Accepted, walked-accepted, walked-refused, walked-map, seek-end, seek-stop, seek-here, Seeking, seek-again, located-at}
+use Rattle.blocks.proofs.RecordLaws.{Accepted, ended-accepted, ended-refused, walked-map, seek-end, seek-stop, seek-here, Seeking, seek-again, located-at}
 use Rattle.blocks.proofs.find.seek_record.Statement.{statement}
 use Rattle.blocks.proofs.find.seek_record.Tie as tie
 
@@ -23,7 +23,7 @@ accepted : (c : tie.After-known-told Inv-loop μ-loop)
     → Accepted (categoryAt (c .before .before .before .before .before .before .before .args .profile)) (c .before .before .before .before .before .loop .at)
     (c .before .before .before .before .before .loop .rest .now) (c .before .checked .given .0 .0)
 accepted c =
-    walked-accepted _ _ (c .before .before .before .before .before .loop .rest .now) (c .before .before .before .check-record .result) (c .before .before .before .check-record .ensures) _
+    ended-accepted _ _ (c .before .before .before .before .before .loop .rest .now) (c .before .before .before .check-record .result .checked) (c .before .before .before .check-record .ensures .answer) _
     (c .before .before .before .before .before .loop .inv .octets) (c .before .checked .given .1)
 
 loop-holds : tie.Need-loop-holds Inv-loop μ-loop
@@ -44,7 +44,7 @@ record-lost-requires c κs = search needs
 returns : tie.Need-returns Inv-loop μ-loop
 returns c =
     seek-stop _ _ (c .before .before .before .before .before .loop .rest .now) _ _ (c .before .before .before .before .before .loop .inv .records) (c .before .before .before .before .loop-test .taken)
-    (walked-refused _ _ _ (c .before .before .before .check-record .result) (c .before .before .before .check-record .ensures) _ _ (c .before .enum-told .given .1))
+    (ended-refused _ _ _ (c .before .before .before .check-record .result .checked) (c .before .before .before .check-record .ensures .answer) _ _ (c .before .enum-told .given .1))
 
 sub-used : tie.Need-sub-used Inv-loop μ-loop
 sub-used c = omega (arith, accepted c .low)

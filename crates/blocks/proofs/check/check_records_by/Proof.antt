@@ -1,4 +1,4 @@
--- `check::check_records` meets its contract. The loop's invariant: the rule on what is left, counted on, is the rule on the whole. The measure is
+-- `check::check_records_by` meets its contract. The loop's invariant: the rule on what is left, counted on, is the rule on the whole. The measure is
 -- the length of what is left. Assumes nothing.
 use Prim.Native.Nat.{_-_}
 use mathlib.Core.Path.{refl, sym, ap, _∙_}
@@ -8,29 +8,29 @@ use lib.ListN.{length}
 use Rattle.records.specs.Sets.{categoryAt}
 use Rattle.blocks.specs.Answers.{checkedBy}
 use Rattle.blocks.proofs.LoopLaws.{octets-each, to-end}
-use Rattle.blocks.proofs.RecordLaws.{Accepted, walked-accepted, walked-refused, count-end, count-stop, Counting, count-again}
-use Rattle.blocks.proofs.check.check_records.Statement.{statement}
-use Rattle.blocks.proofs.check.check_records.Tie as tie
+use Rattle.blocks.proofs.RecordLaws.{Accepted, ended-accepted, ended-refused, count-end, count-stop, Counting, count-again}
+use Rattle.blocks.proofs.check.check_records_by.Statement.{statement}
+use Rattle.blocks.proofs.check.check_records_by.Tie as tie
 
 abbrev Inv-loop : tie.InvT-loop
-Inv-loop profile part from rest₀ at₀ n₀ rest at n = Counting (categoryAt profile) part from rest at n
+Inv-loop steps types sets profile part from rest₀ at₀ n₀ rest at n = Counting (categoryAt profile) part from rest at n
 
 abbrev μ-loop : tie.MeasureT-loop
-μ-loop profile part from rest₀ at₀ n₀ rest at n = length rest
+μ-loop steps types sets profile part from rest₀ at₀ n₀ rest at n = length rest
 
 -- the record of this turn
 accepted : (c : tie.After-known-told Inv-loop μ-loop)
     → Accepted (categoryAt (c .before .before .before .before .before .before .before .args .profile)) (c .before .before .before .before .before .loop .at)
     (c .before .before .before .before .before .loop .rest .now) (c .before .checked .given .0 .0)
 accepted c =
-    walked-accepted _ _ (c .before .before .before .before .before .loop .rest .now) (c .before .before .before .check-record .result) (c .before .before .before .check-record .ensures) _
+    ended-accepted _ _ (c .before .before .before .before .before .loop .rest .now) (c .before .before .before .record-end .result) (c .before .before .before .record-end .ensures) _
     (c .before .before .before .before .before .loop .inv .octets) (c .before .checked .given .1)
 
 loop-holds : tie.Need-loop-holds Inv-loop μ-loop
-loop-holds c = record { room = c .before .pre; few = omega arith; octets = octets-each (c .before .args .part .now) (c .shared-slice-known .given); same = refl }
+loop-holds c = record { room = c .before .pre .3; few = omega arith; octets = octets-each (c .before .args .part .now) (c .shared-slice-known .given); same = refl }
 
-check-record-requires : tie.Need-check-record-requires Inv-loop μ-loop
-check-record-requires c κs = omega arith
+record-end-requires : tie.Need-record-end-requires Inv-loop μ-loop
+record-end-requires c κs = (c .before .before .before .pre .0, c .before .before .before .pre .1, c .before .before .before .pre .2, omega arith)
 
 enum-known-checked : tie.Need-enum-known-checked Inv-loop μ-loop
 enum-known-checked c = search needs
@@ -45,7 +45,7 @@ returns : tie.Need-returns Inv-loop μ-loop
 returns c =
     c .refused-by .ensures
     ∙ ap checkedBy (c .before .enum-told .given .1)
-    ∙ sym (count-stop _ _ _ _ _ _ (c .before .before .before .before .loop-test .taken) (walked-refused _ _ _ (c .before .before .before .check-record .result) (c .before .before .before .check-record .ensures) _ _ (c .before .enum-told .given .1)))
+    ∙ sym (count-stop _ _ _ _ _ _ (c .before .before .before .before .loop-test .taken) (ended-refused _ _ _ (c .before .before .before .record-end .result) (c .before .before .before .record-end .ensures) _ _ (c .before .enum-told .given .1)))
     ∙ c .before .before .before .before .before .loop .inv .same
 
 sub-used : tie.Need-sub-used Inv-loop μ-loop
@@ -73,14 +73,14 @@ loop-again c =
 returns-2 : tie.Need-returns-2 Inv-loop μ-loop
 returns-2 c = sym (count-end _ _ _ _ (omega arith)) ∙ c .before .loop .inv .same
 
-pub check-records-spec : {M : Type 1} → statement M
-check-records-spec =
+pub check-records-by-spec : {M : Type 1} → statement M
+check-records-by-spec =
     tie.close
     (tie.spec
     Inv-loop
     μ-loop
     loop-holds
-    check-record-requires
+    record-end-requires
     enum-known-checked
     enum-told
     refused-by-requires

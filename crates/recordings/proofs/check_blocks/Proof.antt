@@ -1,4 +1,4 @@
--- `check_recording` meets its contract. The loop's invariant: the rule on what is left, counted on, is the rule on the whole. The measure is the
+-- `check_blocks` meets its contract. The loop's invariant: the rule on what is left, counted on, is the rule on the whole. The measure is the
 -- length of what is left. Assumes nothing.
 use mathlib.Core.Path.{_≡_, sym, ap, ap₂, _∙_}
 use borrow.Author.Needs.{needs}
@@ -11,14 +11,14 @@ use Rattle.blocks.proofs.LoopLaws.{octets-each, to-end}
 use Rattle.blocks.proofs.InsideLaws.{front-inside}
 use Rattle.recordings.specs.Answers.{frontNumber, frontPlace}
 use Rattle.recordings.proofs.CountLaws.{FrontTaken, front-taken, counts-end, counts-stop, Checking, check-start, check-again}
-use Rattle.recordings.proofs.check_recording.Statement.{statement}
-use Rattle.recordings.proofs.check_recording.Tie as tie
+use Rattle.recordings.proofs.check_blocks.Statement.{statement}
+use Rattle.recordings.proofs.check_blocks.Tie as tie
 
 abbrev Inv-loop : tie.InvT-loop
-Inv-loop recording rest₀ place₀ count₀ total₀ rest place count total = Checking recording rest place count total
+Inv-loop steps types sets recording rest₀ place₀ count₀ total₀ rest place count total = Checking recording rest place count total
 
 abbrev μ-loop : tie.MeasureT-loop
-μ-loop recording rest₀ place₀ count₀ total₀ rest place count total = length rest
+μ-loop steps types sets recording rest₀ place₀ count₀ total₀ rest place count total = length rest
 
 -- the block of this turn
 abbrev front-of : tie.After-known-told Inv-loop μ-loop → Front
@@ -39,7 +39,7 @@ loop-holds : tie.Need-loop-holds Inv-loop μ-loop
 loop-holds c = check-start _ (octets-each (c .before .args .recording .now) (c .shared-slice-known .given))
 
 check-front-requires : tie.Need-check-front-requires Inv-loop μ-loop
-check-front-requires c κs = search needs
+check-front-requires c κs = c .before .before .before .pre
 
 enum-known-front : tie.Need-enum-known-front Inv-loop μ-loop
 enum-known-front c = search needs
@@ -53,8 +53,8 @@ front-number-requires c κs = search needs
 front-place-requires : tie.Need-front-place-requires Inv-loop μ-loop
 front-place-requires c κs = search needs
 
-add-t13 : tie.Need-add-t13 Inv-loop μ-loop
-add-t13 c = omega (arith, front-inside (c .before .before .before .before .before .before .loop .rest .now) (c .before .before .before .before .before .before .loop .inv .octets) _ _ (barred c))
+add-t16 : tie.Need-add-t16 Inv-loop μ-loop
+add-t16 c = omega (arith, front-inside (c .before .before .before .before .before .before .loop .rest .now) (c .before .before .before .before .before .before .loop .inv .octets) _ _ (barred c))
 
 returns : tie.Need-returns Inv-loop μ-loop
 returns c = sym (counts-stop _ _ _ _ _ _ (c .before .before .before .before .before .loop-test .taken) (barred c)) ∙ c .before .before .before .before .before .before .loop .inv .same
@@ -86,8 +86,8 @@ loop-again c = check-again _ (c .before .before .before .before .before .before 
 returns-2 : tie.Need-returns-2 Inv-loop μ-loop
 returns-2 c = sym (counts-end _ _ _ _ (omega arith)) ∙ c .before .loop .inv .same
 
-pub check-recording-spec : {M : Type 1} → statement M
-check-recording-spec =
+pub check-blocks-spec : {M : Type 1} → statement M
+check-blocks-spec =
     tie.close
     (tie.spec
     Inv-loop
@@ -98,7 +98,7 @@ check-recording-spec =
     enum-told
     front-number-requires
     front-place-requires
-    add-t13
+    add-t16
     returns
     sub-rest
     part-rest-start

@@ -1,0 +1,112 @@
+-- What tells, with few looks, that an item is plainly legal: a table with a word for each place of the profiles, and rows with a rule. A word says
+-- nothing that the layout of the item at its place does not have; it may say less. Assumes nothing.
+use Prim.Native.Nat.{ℕ, zero, suc, _+_, _-_, _*_, _/_, _%_, _^_}
+use mathlib.Core.Path.{_≡_}
+use mathlib.Core.Bool.{Bool, true, false, cond, _&&_}
+use mathlib.Core.List.{List, [], _∷_}
+use lib.Dec.{leb, ltb, eqb}
+use lib.ListN.{getD}
+use lib.Seq.{slice}
+use Rattle.rules.specs.Answer.{Answer, ok}
+use Rattle.rules.specs.Entry.{categories}
+use Rattle.layouts.specs.declared.tables.LayoutRow.{LayoutRow}
+use Rattle.layouts.specs.declared.tables.PlaceRow.{PlaceRow}
+use Rattle.layouts.specs.Tables.{groupAt, layoutAt, profileRows}
+use Rattle.layouts.specs.FieldRules.{Rule, rules, firstRule, singleOf}
+
+-- 0 tells nothing of an answer, and any other number that the answer is that number
+abbrev pub Plainly : ℕ → Answer ℕ → Type 0
+Plainly zero a = Unit {0}
+Plainly (suc n) a = a ≡ ok (suc n)
+
+-- ---- rules, which ask the first three octets of a part as one number, those that are missing as zeros
+
+unfoldable pub firstThree : List ℕ → ℕ
+firstThree bs = getD bs 0 0 * 65_536 + getD bs 1 0 * 256 + getD bs 2 0
+
+-- a row has two words: how many bits stand below the field, and what is added to its code; how many bits of 64 it has not, and the limit
+unfoldable pub downAt : List ℕ → ℕ → ℕ
+downAt t i = getD t (72 + i) 0 / 16_777_216 % 64
+
+unfoldable pub addedAt : List ℕ → ℕ → ℕ
+addedAt t i = getD t (72 + i) 0 % 16_777_216
+
+unfoldable pub upAt : List ℕ → ℕ → ℕ
+upAt t i = getD t (88 + i) 0 / 16_777_216 % 64
+
+unfoldable pub limitAt : List ℕ → ℕ → ℕ
+limitAt t i = getD t (88 + i) 0 % 16_777_216
+
+unfoldable pub asked : List ℕ → ℕ → ℕ → Bool
+asked t i n = leb ((n / 2 ^ downAt t i + addedAt t i) % 2 ^ (64 - upAt t i)) (limitAt t i)
+
+-- a row asks what a rule does of a part of so many octets, of which `step` bits are no field's
+abbrev pub sameRule : List ℕ → ℕ → ℕ → ℕ → Rule → Bool
+sameRule t i step size r =
+    eqb (downAt t i + 8 * size) (r .shift + step + 24) && eqb (addedAt t i) (r .added) && eqb (upAt t i + r .width) 64 && eqb (limitAt t i) (r .limit)
+
+-- a row asks all that a group does, which has one rule or none
+abbrev pub sameRules : List ℕ → ℕ → ℕ → ℕ → List Rule → Bool
+sameRules t i step size [] = true
+sameRules t i step size (r ∷ []) = sameRule t i step size r
+sameRules t i step size (r ∷ (q ∷ rs)) = false
+
+unfoldable pub soundRow : List ℕ → ℕ → ℕ → ℕ → Bool
+soundRow t i step g = sameRules t i step (groupAt g .0) (slice (firstRule g) (firstRule (g + 1)) rules)
+
+-- ---- words: four digits, of 16 each
+
+-- one free part: its octets; or nothing
+abbrev pub soundFree : ℕ → LayoutRow → Bool
+soundFree w l = cond (eqb w 0) true (eqb w (singleOf l))
+
+-- one part with a rule: the rule's row, 1, 0, its octets
+unfoldable pub soundRuled : List ℕ → ℕ → LayoutRow → Bool
+soundRuled t w l = eqb (l .0) 1 && eqb (groupAt (l .3) .0) (w % 16) && soundRow t (w / 4_096 % 16) 0 (l .3)
+
+-- a list of free parts: its least count, 2, the octets of a part, 1; a led item: its least length, 2, 1, 0
+unfoldable pub soundCounted : ℕ → LayoutRow → Bool
+soundCounted w l =
+    groupAt (l .3) .4
+    && cond (eqb (l .0) 2)
+    (eqb (w % 16) 1 && eqb (w / 16 % 16) (groupAt (l .3) .0) && leb (l .1) (w / 4_096 % 16) && leb 255 (l .2))
+    (eqb (l .0) 3 && eqb (w % 16) 0 && eqb (w / 16 % 16) 1 && ltb (l .1) (w / 4_096 % 16))
+
+-- an extended item of at most two parts, an octet each: the row of the first part's rule, which that of the second follows, 3, 0, 0
+unfoldable pub soundExtended : List ℕ → ℕ → LayoutRow → Bool
+soundExtended t w l =
+    eqb (l .0) 4 && eqb (l .3 + 2) (l .4) && eqb (groupAt (l .3) .0) 1 && eqb (groupAt (l .3 + 1) .0) 1
+    && soundRow t (w / 4_096 % 16) 1 (l .3) && soundRow t ((w / 4_096 + 1) % 16) 1 (l .3 + 1)
+
+-- two rows ask all that a group of so many octets does, which has two rules
+abbrev pub samePair : List ℕ → ℕ → ℕ → ℕ → List Rule → Bool
+samePair t i j size [] = false
+samePair t i j size (r ∷ []) = false
+samePair t i j size (r ∷ (q ∷ [])) = sameRule t i 0 size r && sameRule t j 0 size q
+samePair t i j size (r ∷ (q ∷ (p ∷ rs))) = false
+
+-- one part with two rules: the row of the first rule, which that of the second follows, 4, 0, its octets
+unfoldable pub soundTwice : List ℕ → ℕ → LayoutRow → Bool
+soundTwice t w l =
+    eqb (l .0) 1 && eqb (groupAt (l .3) .0) (w % 16)
+    && samePair t (w / 4_096 % 16) ((w / 4_096 + 1) % 16) (groupAt (l .3) .0) (slice (firstRule (l .3)) (firstRule (l .3 + 1)) rules)
+
+-- by the second digit
+abbrev pub soundBy : ℕ → List ℕ → ℕ → LayoutRow → Bool
+soundBy zero t w l = soundFree w l
+soundBy (suc zero) t w l = soundRuled t w l
+soundBy (suc (suc zero)) t w l = soundCounted w l
+soundBy (suc (suc (suc zero))) t w l = soundExtended t w l
+soundBy (suc (suc (suc (suc zero)))) t w l = soundTwice t w l
+soundBy (suc (suc (suc (suc (suc k))))) t w l = true
+
+unfoldable pub soundWord : List ℕ → ℕ → LayoutRow → Bool
+soundWord t w l = soundBy (w / 256 % 16) t w l
+
+unfoldable pub soundWords : List ℕ → List ℕ → List PlaceRow → Bool
+soundWords t [] ps = true
+soundWords t (w ∷ ws) [] = true
+soundWords t (w ∷ ws) (p ∷ ps) = soundWord t w (layoutAt (p .0)) && soundWords t ws ps
+
+unfoldable pub soundSteps : List ℕ → Bool
+soundSteps t = soundWords t t (profileRows 1 categories)
