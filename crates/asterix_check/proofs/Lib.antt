@@ -1,1 +1,3 @@
 pub mod WholeLaws
+pub mod TurnLaws
+pub mod VerdictLaws

@@ -7,7 +7,14 @@ use libc::STDOUT_FILENO;
 use recordings::RecordingChecked;
 use recordings::RecordingState;
 ghost use mathlib.Core.Path.{_≡_};
+ghost use Prim.Native.Nat.{_≤_};
+ghost use lib.ListN.{length};
+ghost use Rattle.rules.specs.Entry.{over};
+ghost use Rattle.recordings.specs.Answers.{countsOf, stateOf};
+ghost use Rattle.lines.specs.Page.{page, puts};
 ghost use Rattle.asterix_check.specs.Whole.{wholeIn};
+ghost use Rattle.asterix_check.specs.Turn.{isRefused, turnOf, turned, Came, Wanted};
+ghost use Rattle.asterix_check.specs.Verdict.{sentence, verdictText};
 
 // How many octets the whole blocks at the front of a part take, as their LEN says.
 fn whole_blocks(part: &[u8]) -> usize
@@ -24,31 +31,10 @@ fn whole_blocks(part: &[u8]) -> usize
     at
 }
 
-fn say_accepted(blocks: u64, records: u64) {
-    io::write_all(STDOUT_FILENO, b"accepted ");
-    io::print_decimal(STDOUT_FILENO, blocks);
-    io::write_all(STDOUT_FILENO, b" blocks ");
-    io::print_decimal(STDOUT_FILENO, records);
-    io::write_all(STDOUT_FILENO, b" records\n");
-}
-
-fn say_refused(number: u8, place: u64) {
-    io::write_all(STDOUT_FILENO, b"refused ");
-    io::print_decimal(STDOUT_FILENO, number as u64);
-    io::write_all(STDOUT_FILENO, b" at ");
-    io::print_decimal(STDOUT_FILENO, place);
-    io::write_all(STDOUT_FILENO, b"\n");
-}
-
-fn say(checked: RecordingChecked) {
-    match checked {
-        RecordingChecked::Accepted { blocks, records } => say_accepted(blocks, records),
-        RecordingChecked::Refused { number, place } => say_refused(number, place),
-    }
-}
-
 // Whether the first fault has been found: it ends the work.
-fn is_refused(state: RecordingState) -> bool {
+fn is_refused(state: RecordingState) -> bool
+    ensures { λ r. ⌜ r ≡ isRefused (stateOf state) ⌝ }
+{
     match state {
         RecordingState::SoFar {
             place: _,
@@ -62,6 +48,79 @@ fn is_refused(state: RecordingState) -> bool {
     }
 }
 
+// What one more read leads to.
+enum Turn {
+    // What is known so far, and the octets still wanted, from a place of the buffer to before another.
+    On {
+        state: RecordingState,
+        from: usize,
+        to: usize,
+    },
+    Verdict(RecordingChecked),
+    // The read failed.
+    Failed,
+}
+
+// Feeds the whole blocks that came, or at the input's end what is left over.
+fn advance(state: RecordingState, filled: Filled, buffer: &[u8]) -> Turn
+    requires { ⌜ Came filled (length (now buffer)) ⌝ }
+    ensures is { λ r. ⌜ turnOf r ≡ turned (stateOf state) filled (now (buffer .entry)) ⌝ }
+    ensures within { λ r. ⌜ Wanted r (length (now (buffer .entry))) ⌝ }
+{
+    match filled {
+        Filled::Failed => Turn::Failed,
+        Filled::End(n) => Turn::Verdict(state.feed(&buffer[0..n]).finish()),
+        Filled::More(n) => {
+            let whole = whole_blocks(&buffer[0..n]);
+            let next = state.feed(&buffer[0..whole]);
+            if is_refused(next) {
+                return Turn::Verdict(next.finish());
+            }
+            Turn::On {
+                state: next,
+                from: whole,
+                to: n,
+            }
+        }
+    }
+}
+
+// ---- the line
+
+// Two numbers between three texts, from the buffer's start on; what has no room is left out.
+fn put_sentence(out: &mut [u8], s: &[u8], n: u64, t: &[u8], m: u64, u: &[u8]) -> usize
+    ensures { λ r. ⌜ page (now (out .exit)) r ≡ puts (sentence (now (s .entry)) n (now (t .entry)) m (now (u .entry))) (page (now (out .entry)) 0) ⌝ }
+{
+    let a = lines::put_text(out, 0, s);
+    let b = lines::put_decimal(out, a, n);
+    let c = lines::put_text(out, b, t);
+    let d = lines::put_decimal(out, c, m);
+    lines::put_text(out, d, u)
+}
+
+// The line that says what a recording is, at the buffer's start, and its length: the longest has two numbers of 20 digits.
+fn verdict(checked: RecordingChecked, out: &mut [u8; 66]) -> usize
+    ensures size { λ r. ⌜ r ≡ length (verdictText (countsOf checked)) ⌝ }
+    ensures text { λ r. ⌜ now (out .exit) ≡ over (verdictText (countsOf checked)) (now (out .entry)) ⌝ }
+    ensures room { λ r. ⌜ r ≤ length (now (out .exit)) ⌝ }
+{
+    match checked {
+        RecordingChecked::Accepted { blocks, records } => {
+            put_sentence(
+                out,
+                b"accepted ",
+                blocks,
+                b" blocks ",
+                records,
+                b" records\n",
+            )
+        }
+        RecordingChecked::Refused { number, place } => {
+            put_sentence(out, b"refused ", number as u64, b" at ", place, b"\n")
+        }
+    }
+}
+
 fn main() {
     // A block has 65,535 octets at most, so that a full buffer always holds a whole one.
     let mut buffer = [0u8; 131072];
@@ -72,25 +131,27 @@ fn main() {
     while turns > 0 {
         turns = turns - 1;
         let filled = input::refill(&mut buffer, from, to);
-        match filled {
-            Filled::Failed => {
+        let turn = advance(state, filled, &buffer);
+        match turn {
+            Turn::Failed => {
                 io::write_all(
                     STDERR_FILENO,
                     b"asterix_check: standard input cannot be read\n",
                 );
                 return;
             }
-            Filled::End(n) => {
-                say(state.feed(&buffer[0..n]).finish());
+            Turn::Verdict(checked) => {
+                let mut line = [0u8; 66];
+                let n = verdict(checked, &mut line);
+                io::write_all(STDOUT_FILENO, &line[0..n]);
                 return;
             }
-            Filled::More(n) => {
-                let k = whole_blocks(&buffer[0..n]);
-                state = state.feed(&buffer[0..k]);
-                if is_refused(state) {
-                    say(state.finish());
-                    return;
-                }
+            Turn::On {
+                state: next,
+                from: k,
+                to: n,
+            } => {
+                state = next;
                 from = k;
                 to = n;
             }
