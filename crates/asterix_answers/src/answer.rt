@@ -1,5 +1,4 @@
-// The answer to a question of each kind but `block`, put on a page.
-use super::text::put_bad;
+// The answer to a question of each kind but `block`, put on a page, once its words are taken apart.
 use super::text::put_made;
 use super::text::put_number;
 use super::text::put_refused;
@@ -8,23 +7,23 @@ use blocks::RecordAdded;
 use blocks::RecordPlace;
 use items::ItemRead;
 use items::ItemWritten;
-use questions::AddAsked;
-use questions::FindAsked;
-use questions::Octets;
-use questions::ReadAsked;
-use questions::RecordAsked;
-use questions::WriteAsked;
 use recordings::RecordingChecked;
+use records::ItemSet;
+ghost use mathlib.Core.Path.{_≡_};
+ghost use lib.ListN.{length};
+ghost use Rattle.rules.specs.Entry.{addRecord};
+ghost use Rattle.records.specs.Sets.{frnsOf};
+ghost use Rattle.lines.specs.Page.{page, puts};
+ghost use Rattle.asterix_answers.specs.Text.{recordingText, readText, writeText, addedText, findText, startText, startsText, recordText};
 
 // recording HEX: ok B R
-pub fn answer_recording(text: &[u8], octets: &mut [u8], out: &mut [u8], at: usize) -> usize {
-    let Octets::Count(n) = questions::ask_octets(text, octets) else {
-        return put_bad(out, at);
-    };
-    match recordings::check_recording(&octets[0..n]) {
+pub fn put_recording(recording: &[u8], out: &mut [u8], at: usize) -> usize
+    ensures { λ r. ⌜ page (now (out .exit)) r ≡ puts (recordingText (now (recording .entry))) (page (now (out .entry)) at) ⌝ }
+{
+    match recordings::check_recording(recording) {
         RecordingChecked::Accepted { blocks, records } => {
-            let p = lines::put_text(out, at, b"ok");
-            let q = put_number(out, p, blocks);
+            let p = lines::put_text(out, at, b"ok ");
+            let q = lines::put_decimal(out, p, blocks);
             put_number(out, q, records)
         }
         RecordingChecked::Refused { number, place } => put_refused(out, at, number, place),
@@ -32,22 +31,19 @@ pub fn answer_recording(text: &[u8], octets: &mut [u8], out: &mut [u8], at: usiz
 }
 
 // read CAT REF HEX: ok fields
-pub fn answer_read(
-    text: &[u8],
-    octets: &mut [u8],
+pub fn put_read(
+    cat: u8,
+    reference: u16,
+    item: &[u8],
     values: &mut [i64; 8192],
     out: &mut [u8],
     at: usize,
-) -> usize {
-    let ReadAsked::Asked {
-        cat,
-        reference,
-        octets: n,
-    } = questions::ask_read(text, octets)
-    else {
-        return put_bad(out, at);
-    };
-    match items::read_item(cat, reference, &octets[0..n], values) {
+) -> usize
+    requires { ⌜ length (now values) ≡ 8_192 ⌝ }
+    ensures is { λ r. ⌜ page (now (out .exit)) r ≡ puts (readText (cat, (reference, now (item .entry)))) (page (now (out .entry)) at) ⌝ }
+    ensures size { λ _. ⌜ length (now (values .exit)) ≡ 8_192 ⌝ }
+{
+    match items::read_item(cat, reference, item, values) {
         ItemRead::Fields { count } => {
             let p = lines::put_text(out, at, b"ok ");
             lines::put_list(out, p, values, count)
@@ -57,47 +53,41 @@ pub fn answer_read(
 }
 
 // write CAT REF ROOM fields: ok LEN HEX
-pub fn answer_write(
-    text: &[u8],
-    values: &mut [i64],
+pub fn put_written(
+    cat: u8,
+    reference: u16,
+    fields: &[i64],
     made: &mut [u8],
     out: &mut [u8],
     at: usize,
-) -> usize {
-    let WriteAsked::Asked {
-        cat,
-        reference,
-        room,
-        values: n,
-    } = questions::ask_write(text, values)
-    else {
-        return put_bad(out, at);
-    };
-    match items::write_item(cat, reference, &values[0..n], &mut made[0..room]) {
-        ItemWritten::Length(len) => put_made(out, at, &made[0..len]),
+) -> usize
+    ensures { λ r. ⌜ page (now (out .exit)) r ≡ puts (writeText (cat, (reference, (length (now (made .entry)), now (fields .entry))))) (page (now (out .entry)) at) ⌝ }
+{
+    match items::write_item(cat, reference, fields, made) {
+        ItemWritten::Length(len) => {
+            let p = lines::put_text(out, at, b"ok ");
+            put_made(out, p, &made[0..len])
+        }
         ItemWritten::Refused { number, place } => put_refused(out, at, number, place as u64),
     }
 }
 
 // add USEDHEX ROOM FRN,FRN,.. ITEMSHEX: ok LEN HEX
-pub fn answer_add(
-    text: &[u8],
-    octets: &mut [u8],
+pub fn put_added(
     made: &mut [u8],
+    used: usize,
+    set: ItemSet,
+    items: &[u8],
     out: &mut [u8],
     at: usize,
-) -> usize {
-    let AddAsked::Asked {
-        used,
-        room,
-        set,
-        items: n,
-    } = questions::ask_add(text, made, octets)
-    else {
-        return put_bad(out, at);
-    };
-    match blocks::add_record(&mut made[0..room], used, set, &octets[0..n]) {
-        RecordAdded::Length(len) => put_made(out, at, &made[0..len]),
+) -> usize
+    ensures { λ r. ⌜ page (now (out .exit)) r ≡ puts (addedText (addRecord (now (made .entry)) used (frnsOf (set .bits)) (now (items .entry)))) (page (now (out .entry)) at) ⌝ }
+{
+    match blocks::add_record(made, used, set, items) {
+        RecordAdded::Length(len) => {
+            let p = lines::put_text(out, at, b"ok ");
+            put_made(out, p, &made[0..len])
+        }
         RecordAdded::RefusedOld { number, place } => {
             let p = put_refused(out, at, number, place as u64);
             lines::put_text(out, p, b" old")
@@ -110,20 +100,13 @@ pub fn answer_add(
 }
 
 // find HEX REF N: ok START LEN HEX
-pub fn answer_find(text: &[u8], octets: &mut [u8], out: &mut [u8], at: usize) -> usize {
-    let FindAsked::Asked {
-        octets: k,
-        reference,
-        n,
-    } = questions::ask_find(text, octets)
-    else {
-        return put_bad(out, at);
-    };
-    let block = &octets[0..k];
+pub fn put_found(block: &[u8], reference: u16, n: usize, out: &mut [u8], at: usize) -> usize
+    ensures { λ r. ⌜ page (now (out .exit)) r ≡ puts (findText (now (block .entry), (reference, n))) (page (now (out .entry)) at) ⌝ }
+{
     match blocks::locate_item(block, reference, n) {
         ItemLocated::At { start, length } => {
-            let p = lines::put_text(out, at, b"ok");
-            let q = put_number(out, p, start as u64);
+            let p = lines::put_text(out, at, b"ok ");
+            let q = lines::put_decimal(out, p, start as u64);
             let r = put_number(out, q, length as u64);
             let s = lines::put(out, r, b' ');
             lines::put_octets(out, s, blocks::find_item(block, reference, n))
@@ -132,18 +115,10 @@ pub fn answer_find(text: &[u8], octets: &mut [u8], out: &mut [u8], at: usize) ->
     }
 }
 
-// FRN@START, for each item that is there.
-fn put_starts(starts: &[u16], out: &mut [u8], at: usize) -> usize {
-    let mut p = at;
-    let mut i = 0;
-    while i < starts.len() {
-        p = put_start(i + 1, starts[i], out, p);
-        i += 1;
-    }
-    p
-}
-
-fn put_start(frn: usize, start: u16, out: &mut [u8], at: usize) -> usize {
+// FRN@START, where there is an item.
+fn put_start(frn: usize, start: u16, out: &mut [u8], at: usize) -> usize
+    ensures { λ r. ⌜ page (now (out .exit)) r ≡ puts (startText frn start) (page (now (out .entry)) at) ⌝ }
+{
     if start == 0 {
         return at;
     }
@@ -152,17 +127,29 @@ fn put_start(frn: usize, start: u16, out: &mut [u8], at: usize) -> usize {
     lines::put_decimal(out, q, start as u64)
 }
 
+fn put_starts(starts: &[u16], out: &mut [u8], at: usize) -> usize
+    ensures { λ r. ⌜ page (now (out .exit)) r ≡ puts (startsText 1 (now (starts .entry))) (page (now (out .entry)) at) ⌝ }
+{
+    let mut p = at;
+    let mut i = 0;
+    while i < starts.len() {
+        let frn = i + 1;
+        p = put_start(frn, starts[i], out, p);
+        i = frn;
+    }
+    p
+}
+
 // record HEX N: ok START LEN COUNT FRN@START FRN@START ..
-pub fn answer_record(text: &[u8], octets: &mut [u8], out: &mut [u8], at: usize) -> usize {
-    let RecordAsked::Asked { octets: k, n } = questions::ask_record(text, octets) else {
-        return put_bad(out, at);
-    };
-    let located = blocks::locate_record(&octets[0..k], n);
+pub fn put_map(block: &[u8], n: usize, out: &mut [u8], at: usize) -> usize
+    ensures { λ r. ⌜ page (now (out .exit)) r ≡ puts (recordText (now (block .entry), n)) (page (now (out .entry)) at) ⌝ }
+{
+    let located = blocks::locate_record(block, n);
     let answer = located.answer;
     match answer {
         RecordPlace::At { start, length } => {
-            let p = lines::put_text(out, at, b"ok");
-            let q = put_number(out, p, start as u64);
+            let p = lines::put_text(out, at, b"ok ");
+            let q = lines::put_decimal(out, p, start as u64);
             let r = put_number(out, q, length as u64);
             let map = located.map;
             let s = put_number(out, r, map.count as u64);

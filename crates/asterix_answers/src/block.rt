@@ -1,22 +1,32 @@
 // The answer to `block HEX`: `ok R`, and then for each record ` | START END REF=fields REF=fields ..` in the order of FRNs. One pass after the check.
-use super::text::put_bad;
 use super::text::put_number;
 use super::text::put_refused;
 use blocks::BlockChecked;
 use items::ItemCheck;
 use items::ItemRead;
-use questions::Octets;
+use records::ItemSet;
 use records::RecordChecked;
+use records::SetRead;
+ghost use mathlib.Core.Path.{_≡_};
+ghost use Prim.Native.Nat.{_+_, _<_};
+ghost use lib.ListN.{length, drop};
+ghost use Rattle.rules.specs.Presence.{flags};
+ghost use Rattle.lines.specs.Page.{page, puts};
+ghost use Rattle.asterix_answers.specs.Walk.{itemFrom, itemsFrom, recordFrom};
 
 // REF=fields, of an item that is all of the octets lent.
-fn put_fields(
+fn put_item(
     cat: u8,
     reference: u16,
     item: &[u8],
     values: &mut [i64; 8192],
     out: &mut [u8],
     at: usize,
-) -> usize {
+) -> usize
+    requires { ⌜ length (now values) ≡ 8_192 ⌝ }
+    ensures is { λ r. ⌜ page (now (out .exit)) r ≡ puts (itemFrom cat reference (now (item .entry))) (page (now (out .entry)) at) ⌝ }
+    ensures size { λ _. ⌜ length (now (values .exit)) ≡ 8_192 ⌝ }
+{
     let ItemRead::Fields { count } = items::read_item(cat, reference, item, values) else {
         return at;
     };
@@ -26,100 +36,122 @@ fn put_fields(
     lines::put_list(out, r, values, count)
 }
 
-// The item of an FRN, which starts at a place of its block; nothing at place 0, where no item starts.
-fn put_item(
-    cat: u8,
-    frn: usize,
-    start: u16,
-    block: &[u8],
-    values: &mut [i64; 8192],
-    out: &mut [u8],
-    at: usize,
-) -> usize {
-    if start == 0 {
-        return at;
-    }
-    let s = start as usize;
-    if block.len() < s {
-        return at;
-    }
-    let part = &block[s..];
-    let profile = items::profile_of(cat);
-    let ItemCheck::Whole(size) = items::check_item(profile, frn, part) else {
-        return at;
-    };
-    if part.len() < size {
-        return at;
-    }
-    put_fields(
-        cat,
-        items::reference_of(profile, frn),
-        &part[0..size],
-        values,
-        out,
-        at,
-    )
-}
-
+// The items of a set, one after the other.
 fn put_items(
     cat: u8,
-    starts: &[u16],
-    block: &[u8],
+    profile: usize,
+    set: ItemSet,
+    part: &[u8],
     values: &mut [i64; 8192],
     out: &mut [u8],
     at: usize,
-) -> usize {
+) -> usize
+    requires { ⌜ length (now values) ≡ 8_192 ⌝ }
+    ensures is { λ r. ⌜ page (now (out .exit)) r ≡ puts (itemsFrom profile cat (drop 1 (flags 64 (set .bits))) 1 (now (part .entry))) (page (now (out .entry)) at) ⌝ }
+    ensures size { λ _. ⌜ length (now (values .exit)) ≡ 8_192 ⌝ }
+{
+    let mut rest = part;
     let mut p = at;
-    let mut i = 0;
-    while i < starts.len() {
-        p = put_item(cat, i + 1, starts[i], block, values, out, p);
-        i += 1;
+    let mut frn: usize = 1;
+    while frn < 64 {
+        if !set.has(frn) {
+            frn += 1;
+            continue;
+        }
+        let ItemCheck::Whole(n) = items::check_item(profile, frn, rest) else {
+            return p;
+        };
+        p = put_item(
+            cat,
+            items::reference_of(profile, frn),
+            &rest[0..n],
+            values,
+            out,
+            p,
+        );
+        rest = &rest[n..];
+        frn += 1;
     }
     p
 }
 
-// The records of a block that is accepted.
-fn put_records(block: &[u8], values: &mut [i64; 8192], out: &mut [u8], at: usize) -> usize {
-    if block.len() < 3 {
-        return at;
-    }
-    let cat = block[0];
-    let profile = items::profile_of(cat);
-    let mut from: usize = 3;
+// The record at the start of a part, which stands at a place of its block, and ends at another.
+fn put_record(
+    cat: u8,
+    profile: usize,
+    part: &[u8],
+    start: usize,
+    end: usize,
+    values: &mut [i64; 8192],
+    out: &mut [u8],
+    at: usize,
+) -> usize
+    requires { ⌜ length (now values) ≡ 8_192 ⌝ }
+    ensures is { λ r. ⌜ page (now (out .exit)) r ≡ puts (recordFrom profile cat start end (now (part .entry))) (page (now (out .entry)) at) ⌝ }
+    ensures size { λ _. ⌜ length (now (values .exit)) ≡ 8_192 ⌝ }
+{
+    let p = lines::put_text(out, at, b" |");
+    let q = put_number(out, p, start as u64);
+    let r = put_number(out, q, end as u64);
+    let SetRead::Items { set, octets } = ItemSet::from_octets(profile, part) else {
+        return r;
+    };
+    put_items(cat, profile, set, &part[octets..], values, out, r)
+}
+
+// The records that fill a part, which starts at a place of its block.
+fn put_records(
+    cat: u8,
+    profile: usize,
+    part: &[u8],
+    from: usize,
+    values: &mut [i64; 8192],
+    out: &mut [u8],
+    at: usize,
+) -> usize
+    requires { ⌜ from + length (now part) < 65_536 ⌝ }
+    requires { ⌜ length (now values) ≡ 8_192 ⌝ }
+    ensures size { λ _. ⌜ length (now (values .exit)) ≡ 8_192 ⌝ }
+{
+    let mut rest = part;
+    let mut start = from;
     let mut p = at;
-    while from < block.len() {
-        let walked = records::check_record(profile, &block[from..], from);
+    while 0 < rest.len() {
+        let walked = records::check_record(profile, rest, start);
         let checked = walked.checked;
         let RecordChecked::Ends { end } = checked else {
             return p;
         };
-        let q = lines::put_text(out, p, b" |");
-        let r = put_number(out, q, from as u64);
-        let s = put_number(out, r, end as u64);
-        let map = walked.map;
-        let starts = map.starts;
-        p = put_items(cat, &starts, block, values, out, s);
-        from = end;
+        p = put_record(cat, profile, rest, start, end, values, out, p);
+        let used = end - start;
+        rest = &rest[used..];
+        start = end;
     }
     p
 }
 
-pub fn answer_block(
-    text: &[u8],
-    octets: &mut [u8],
-    values: &mut [i64; 8192],
-    out: &mut [u8],
-    at: usize,
-) -> usize {
-    let Octets::Count(n) = questions::ask_octets(text, octets) else {
-        return put_bad(out, at);
-    };
-    let block = &octets[0..n];
+// block HEX
+pub fn put_block(block: &[u8], values: &mut [i64; 8192], out: &mut [u8], at: usize) -> usize
+    requires { ⌜ length (now block) < 65_536 ⌝ }
+    requires { ⌜ length (now values) ≡ 8_192 ⌝ }
+    ensures size { λ _. ⌜ length (now (values .exit)) ≡ 8_192 ⌝ }
+{
     match blocks::check_block(block) {
         BlockChecked::Accepted { records } => {
-            let p = lines::put_text(out, at, b"ok");
-            let q = put_number(out, p, records as u64);
-            put_records(block, values, out, q)
+            let p = lines::put_text(out, at, b"ok ");
+            let q = lines::put_decimal(out, p, records as u64);
+            if block.len() < 3 {
+                return q;
+            }
+            put_records(
+                block[0],
+                items::profile_of(block[0]),
+                &block[3..],
+                3,
+                values,
+                out,
+                q,
+            )
         }
         BlockChecked::Refused { number, place } => put_refused(out, at, number, place as u64),
     }

@@ -7,74 +7,19 @@
 // has 5 more (a space, its reference and `=`); an FSPEC has 14 or fewer (` | 32764 32764`). That is fewer than 700,000 characters in all.
 mod answer;
 mod block;
+mod line;
 mod text;
 
-use answer::answer_add;
-use answer::answer_find;
-use answer::answer_read;
-use answer::answer_record;
-use answer::answer_recording;
-use answer::answer_write;
-use block::answer_block;
 use input::Filled;
 use libc::STDERR_FILENO;
 use libc::STDOUT_FILENO;
-use questions::Kind;
-use text::put_bad;
-
-// The longest line that is a question.
-const LONGEST: usize = 65535;
+use line::LONGEST;
+use line::answer_line;
+ghost use mathlib.Core.Path.{_≡_};
+ghost use lib.ListN.{length};
 
 // A page with fewer characters than this has room for any answer.
 const ENOUGH: usize = 300000;
-
-// What the words after the first ask.
-fn answer_kind(
-    kind: Kind,
-    text: &[u8],
-    octets: &mut [u8; 65536],
-    made: &mut [u8; 65536],
-    values: &mut [i64; 8192],
-    out: &mut [u8],
-    at: usize,
-) -> usize {
-    match kind {
-        Kind::Block => answer_block(text, octets, values, out, at),
-        Kind::Recording => answer_recording(text, octets, out, at),
-        Kind::Read => answer_read(text, octets, values, out, at),
-        Kind::Write => answer_write(text, values, made, out, at),
-        Kind::Add => answer_add(text, octets, made, out, at),
-        Kind::Find => answer_find(text, octets, out, at),
-        Kind::Record => answer_record(text, octets, out, at),
-        Kind::Unknown => put_bad(out, at),
-    }
-}
-
-fn answer_line(
-    line: &[u8],
-    octets: &mut [u8; 65536],
-    made: &mut [u8; 65536],
-    values: &mut [i64; 8192],
-    out: &mut [u8],
-    at: usize,
-) -> usize {
-    if LONGEST < line.len() {
-        return lines::put_text(out, at, b"too long");
-    }
-    let e = lines::end_of(line, b' ');
-    if e == line.len() {
-        return put_bad(out, at);
-    }
-    answer_kind(
-        questions::kind_of(&line[0..e]),
-        &line[e + 1..],
-        octets,
-        made,
-        values,
-        out,
-        at,
-    )
-}
 
 // Writes a page out, and starts it again.
 fn write_out(page: &[u8], at: usize) -> usize {
@@ -92,10 +37,33 @@ fn turn_page(page: &[u8], at: usize) -> usize {
     write_out(page, at)
 }
 
+// A line's answer, with the line feed after it; none where it has been answered.
+fn answer_once(
+    answered: bool,
+    line: &[u8],
+    octets: &mut [u8],
+    made: &mut [u8],
+    values: &mut [i64; 8192],
+    out: &mut [u8],
+    at: usize,
+) -> usize
+    requires { ⌜ length (now octets) ≡ 65_535 ⌝ }
+    requires { ⌜ length (now made) ≡ 65_536 ⌝ }
+    requires { ⌜ length (now values) ≡ 8_192 ⌝ }
+    ensures size { λ _. ⌜ length (now (values .exit)) ≡ 8_192 ⌝ }
+{
+    if answered {
+        return at;
+    }
+    let p = answer_line(line, octets, made, values, out, at);
+    let q = lines::put(out, p, b'\n');
+    turn_page(out, q)
+}
+
 fn main() {
     // Twice the longest line, so that a line that fills it is too long and there is always room to read on.
     let mut buffer = [0u8; 131072];
-    let mut octets = [0u8; 65536];
+    let mut octets = [0u8; 65535];
     let mut made = [0u8; 65536];
     let mut values = [0i64; 8192];
     let mut page = [0u8; 1048576];
@@ -109,31 +77,33 @@ fn main() {
         turns = turns - 1;
         let end = from + lines::end_of(&buffer[from..to], b'\n');
         if end < to {
-            if !answered {
-                at = answer_line(
-                    &buffer[from..end],
-                    &mut octets,
-                    &mut made,
-                    &mut values,
-                    &mut page,
-                    at,
-                );
-                at = lines::put(&mut page, at, b'\n');
-                at = turn_page(&page, at);
-            }
+            at = answer_once(
+                answered,
+                &buffer[from..end],
+                &mut octets,
+                &mut made,
+                &mut values,
+                &mut page,
+                at,
+            );
             answered = false;
             from = end + 1;
             continue;
         }
         if LONGEST < to - from {
-            if !answered {
-                at = lines::put_text(&mut page, at, b"too long\n");
-                at = turn_page(&page, at);
-            }
+            // The line is too long whatever follows.
+            at = answer_once(
+                answered,
+                &buffer[from..to],
+                &mut octets,
+                &mut made,
+                &mut values,
+                &mut page,
+                at,
+            );
             answered = true;
-        }
-        if answered {
             from = to;
+            continue;
         }
         match input::refill(&mut buffer, from, to) {
             Filled::Failed => {
@@ -145,19 +115,19 @@ fn main() {
                 return;
             }
             Filled::End(n) => {
-                if !answered {
-                    if 0 < n {
-                        at = answer_line(
-                            &buffer[0..n],
-                            &mut octets,
-                            &mut made,
-                            &mut values,
-                            &mut page,
-                            at,
-                        );
-                        at = lines::put(&mut page, at, b'\n');
-                    }
+                if n == 0 {
+                    write_out(&page, at);
+                    return;
                 }
+                at = answer_once(
+                    answered,
+                    &buffer[0..n],
+                    &mut octets,
+                    &mut made,
+                    &mut values,
+                    &mut page,
+                    at,
+                );
                 write_out(&page, at);
                 return;
             }

@@ -1,6 +1,6 @@
 -- What holds of the whole blocks at the front: how they are counted, one after the other, and that they are there. Assumes nothing.
 use Prim.Native.Nat.{ℕ, zero, suc, _+_, _-_, _≤_, _<_, min, max}
-use mathlib.Core.Path.{_≡_, refl, sym, ap, _∙_, subst}
+use mathlib.Core.Path.{_≡_, refl, sym, ap, _∙_}
 use mathlib.Core.Bool.{Bool, true, false}
 use mathlib.Core.List.{List}
 use mathlib.Core.Logic.{_⊎_, inl, inr, ⊎-elim}
@@ -12,9 +12,6 @@ use Rattle.rules.specs.Answer.{if_then_else_}
 use Rattle.rules.proofs.AnswerLaws.{if-true, if-false}
 use Rattle.blocks.specs.Read.{lenAt}
 use Rattle.recordings.specs.Feed.{blockLength}
-use Rattle.input.specs.declared.Filled.{Filled}
-use Rattle.input.specs.declared.Filled.the-variants.{More, End}
-use Rattle.input.specs.Filled.{Fills}
 use Rattle.asterix_check.specs.Whole.{wholeUpTo, wholeIn}
 
 at-least : (t : Bool) (n : ℕ) → 3 ≤ (if t then max 3 n else 3)
@@ -105,14 +102,6 @@ cut-less all bs rest at n c h e = let l : length rest ≡ length bs - n = ap len
 
 pub cut-end : (all bs : List ℕ) (at n : ℕ) → Cutting all bs at n → length bs < n → at ≡ wholeIn all
 cut-end all bs at n c h = let z : wholeIn bs ≡ 0 = whole-end bs (omega (arith, c .next)) in omega (arith, c .same-whole)
-
--- ---- what a read brought fits the buffer
-
-pub end-fits : (r : Filled) (n kept size : ℕ) → Fills r kept size → r ≡ End n → n ≤ size
-end-fits r n kept size f e = subst (λ z. Fills z kept size) e f .1
-
-pub more-fits : (r : Filled) (n kept size : ℕ) → Fills r kept size → r ≡ More n → n ≤ size
-more-fits r n kept size f e = subst (λ z. Fills z kept size) e f .1
 
 -- the whole blocks of a part that ends at a place end there at the latest
 pub whole-few : (k n : ℕ) (bs : List ℕ) → k ≡ wholeIn (take n bs) → k ≤ n

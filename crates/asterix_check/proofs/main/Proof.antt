@@ -4,7 +4,8 @@ use mathlib.Core.Path.{_≡_, _∙_}
 use native.Mathlib.Omega.{arith}
 use borrow.Author.Needs.{needs}
 use lib.ListN.{length}
-use Rattle.asterix_check.proofs.WholeLaws.{whole-few, end-fits, more-fits}
+use Rattle.input.proofs.FilledLaws.{end-fits, more-fits}
+use Rattle.asterix_check.proofs.WholeLaws.{whole-few}
 use Rattle.asterix_check.proofs.main.Statement.{statement}
 use Rattle.asterix_check.proofs.main.Tie as tie
 

@@ -1,0 +1,5 @@
+-- The laws that the proofs of this crate cite.
+pub mod FieldLaws
+pub mod TextLaws
+pub mod AskLaws
+pub mod ListLaws
