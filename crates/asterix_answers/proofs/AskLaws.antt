@@ -1,13 +1,14 @@
 -- What is answered where the words of a line are a question, and where they are none.
 --
--- In order: words that are no question; what the octets lent to an answer are; each kind of question. Assumes nothing.
+-- In order: words that are a question, and words that are none; each kind of question; a line. Assumes nothing.
 use Prim.Native.Nat.{ℕ, _+_, _-_, _<_, _≤_, min}
 use mathlib.Core.Path.{_≡_, refl, sym, ap, ap₂, _∙_, subst}
 use mathlib.Core.Bool.{Bool}
 use mathlib.Core.Logic.{⊎-elim}
 use mathlib.Core.Option.{Option, none, some}
-use mathlib.Core.List.{List, _++_}
+use mathlib.Core.List.{List, [], _∷_, _++_}
 use native.Mathlib.Omega.{arith}
+use borrow.Author.Tests.{lt-ltb, le-ltb}
 use lib.IntN.{ℤ}
 use lib.ListN.{length, take, drop, replicate, length-replicate, length-append, length-take}
 use lib.Seq.{length-take-le, take-at, take-take}
@@ -17,10 +18,16 @@ use Rattle.items.proofs.ReadLaws.{le-or-lt}
 use Rattle.records.specs.Sets.{frnsOf}
 use Rattle.records.specs.declared.ItemSet.{ItemSet}
 use Rattle.blocks.proofs.AddLaws.{add-none}
+use Rattle.lines.specs.Page.{codes}
+use Rattle.lines.specs.Word.{words, wordEnd}
 use Rattle.lines.proofs.ListLaws.{front}
-use Rattle.questions.specs.Split.{Text}
-use Rattle.questions.specs.Word.{octetsIn}
-use Rattle.questions.specs.Ask.{readIn, writeAsked, writeIn, addIn, findIn, recordIn}
+use Rattle.lines.proofs.WordLaws.{first-is, none-later, some-later}
+use Rattle.questions.specs.Kind.{kindOf}
+use Rattle.questions.specs.Split.{Text, twoOf, threeOf, fourOf}
+use Rattle.questions.specs.Word.{_>>=_, octetsIn}
+use Rattle.questions.specs.Ask.{octetsAsked, readAsked, readIn, writeAsked, writeIn, addAsked, addIn, findAsked, findIn, recordAsked, recordIn}
+use Rattle.questions.specs.declared.kind.Kind.{Kind}
+use Rattle.questions.specs.declared.kind.Kind.the-variants as kind
 use Rattle.questions.specs.declared.word.Octets.{Octets}
 use Rattle.questions.specs.declared.word.Octets.the-variants as octets
 use Rattle.questions.specs.declared.ask.ReadAsked.{ReadAsked}
@@ -33,7 +40,7 @@ use Rattle.questions.specs.declared.ask.FindAsked.{FindAsked}
 use Rattle.questions.specs.declared.ask.FindAsked.the-variants as find
 use Rattle.questions.specs.declared.ask.RecordAsked.{RecordAsked}
 use Rattle.questions.specs.declared.ask.RecordAsked.the-variants as record'
-use Rattle.asterix_answers.specs.Text.{asked, badText, readText, writeText, addedText, lent, addText, findText, recordText}
+use Rattle.asterix_answers.specs.Text.{asked, badText, readText, writeText, addedText, lent, addText, findText, recordText, kindText, wordsText, answerText}
 
 -- ---- words that are a question, and words that are none: g is what an answer says that they are
 
@@ -113,3 +120,31 @@ add-is made l r used room s n h e few u =
     ∙ ap addedText (add-same (take room made) (lent room (take used made)) used (frnsOf (s .bits)) (take n l) (t ∙ sym (lent-size room (take used made))) (λ k. lent-is made room used few u (omega arith)))
     ∙ ap (λ (k : ℕ). addedText (addRecord (lent room (take used made)) k (frnsOf (s .bits)) (take n l))) (sym z)
     ∙ asked-is addText (λ x. addIn x made l) h e (take used made, (room, (flags 64 (s .bits), take n l))) refl
+
+-- ---- a line
+
+kind-none : (k : Kind) → badText ≡ kindText k []
+unfolding kindText octetsAsked readAsked writeAsked addAsked findAsked recordAsked twoOf threeOf fourOf _>>=_
+kind-none kind.Block = refl
+kind-none kind.Recording = refl
+kind-none kind.Read = refl
+kind-none kind.Write = refl
+kind-none kind.Add = refl
+kind-none kind.Find = refl
+kind-none kind.Record = refl
+kind-none kind.Unknown = refl
+
+pub line-long : (s : List ℕ) → 65_535 < length s → codes "too long" ≡ answerText s
+unfolding answerText
+line-long s h = rw (lt-ltb _ _ h)
+
+module _ (s : List ℕ) (h : length s ≤ 65_535) (e : ℕ) (f : e ≡ wordEnd 32 s) where
+  pub line-one : e ≡ length s → badText ≡ answerText s
+  unfolding answerText wordsText
+  line-one k = rw (le-ltb _ _ h, first-is 32 s e f, none-later 32 s e f k) (kind-none (kindOf (take e s)))
+
+  pub line-more : (e ≡ length s → ⊥) → (k : Kind) → k ≡ kindOf (take (e - 0) (drop 0 s)) → kindText k (words 32 (take (length s - (e + 1)) (drop (e + 1) s))) ≡ answerText s
+  unfolding answerText wordsText
+  line-more n k q =
+      rw (le-ltb _ _ h, first-is 32 s e f, some-later 32 s e f n)
+      (ap (λ (x : Kind). kindText x (words 32 (take (length s - (e + 1)) (drop (e + 1) s)))) (q ∙ ap kindOf (front s e)))

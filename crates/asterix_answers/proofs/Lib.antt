@@ -2,4 +2,5 @@
 pub mod FieldLaws
 pub mod TextLaws
 pub mod AskLaws
+pub mod BlockLaws
 pub mod ListLaws

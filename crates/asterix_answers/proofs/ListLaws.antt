@@ -1,26 +1,32 @@
--- What holds of a record's items as the code lists them: an item as text; the loop over the FRNs of a set. Assumes nothing.
+-- What holds of a block's records as the code lists them.
+--
+-- In order: an item as text; the loop over the FRNs of a set; a record; the loop over records. Assumes nothing.
 use Prim.Native.Nat.{ℕ, _+_, _-_, _<_, _≤_}
 use mathlib.Core.Path.{_≡_, refl, sym, ap, _∙_, subst}
 use mathlib.Core.Bool.{Bool, true, false}
+use mathlib.Core.Option.{some}
 use mathlib.Core.List.{List, [], _∷_, _++_, append-nil}
 use native.Mathlib.Omega.{arith}
 use lib.IntN.{ℤ}
 use lib.ListN.{length, take, drop, getD, length-drop, drop-of-length-le}
-use Rattle.rules.specs.Answer.{ok, refused}
-use Rattle.rules.specs.Record.{Category}
+use Rattle.rules.specs.Answer.{ok, refused, octetsOf}
+use Rattle.rules.specs.Record.{Category, Record, items, readRecord, writeRecord}
+use Rattle.rules.specs.Block.{categoryOf, readAll, readUpTo}
 use Rattle.rules.specs.Presence.{flags, placeAt}
 use Rattle.rules.specs.Entry.{categories, profileAt, readOne}
-use Rattle.rules.proofs.AnswerLaws.{Octets}
+use Rattle.rules.proofs.AnswerLaws.{Octets, ok-inj}
 use Rattle.rules.proofs.PresenceLaws.{flags-length}
 use Rattle.items.specs.Answers.{referenceIn, checkAt}
-use Rattle.records.specs.Sets.{setAt}
+use Rattle.records.specs.Sets.{categoryAt, setAt}
+use Rattle.blocks.specs.Read.{Records}
 use Rattle.blocks.proofs.LoopLaws.{octets-drop}
-use Rattle.blocks.proofs.RecordLaws.{Accepted}
+use Rattle.blocks.proofs.RecordLaws.{Accepted, Refusal, records-turn, seek-stop}
 use Rattle.lines.specs.Page.{codes, Page, page, puts}
 use Rattle.lines.proofs.ListLaws.{drop-next}
 use Rattle.lines.proofs.PageLaws.{puts-append}
-use Rattle.asterix_answers.specs.Text.{numberText, fieldsText}
-use Rattle.asterix_answers.specs.Walk.{itemFrom, itemsFrom, recordFrom}
+use Rattle.asterix_answers.specs.Text.{numberText, fieldsText, itemsText, recordsText}
+use Rattle.asterix_answers.specs.Walk.{itemFrom, itemsFrom, recordFrom, recordsFrom}
+use Rattle.asterix_answers.proofs.BlockLaws.{record-text}
 
 -- ---- an item as text
 
@@ -95,20 +101,68 @@ module _ (i cat start end : ℕ) (bs : List ℕ) where
   unfolding recordFrom
   set-ok bits used e r = rw (e, r)
 
--- what holds at each turn of the loop over records: what is left, where it starts, and how long the lent buffers are
-pub record Walking (l₀ rest : List ℕ) (at : ℕ) (l : List ℕ) (vs : List ℤ) : Type 0 where
+-- ---- the loop over records: those that are left, put on the page so far, give the page meant
+
+pub record Walking (c : Category) (l₀ : List ℕ) (q : Page ℕ) (rest : List ℕ) (at : ℕ) (l : List ℕ) (n : ℕ) (vs : List ℤ) : Type 0 where
   pub room : at + length rest < 65_536
   pub octets : Octets rest
   pub size : length l ≡ length l₀
-  pub values : length vs ≡ 8_192
+  pub lent : length vs ≡ 8_192
+  pub records : Records c rest
+  pub same : puts (recordsText c at (records .values)) (page l n) ≡ q
 
-pub walking-again : (l₀ bs rest : List ℕ) (k e : ℕ) (l l₁ : List ℕ) (vs vs₁ : List ℤ) {c : Category} → Walking l₀ bs k l vs → Accepted c k bs e → rest ≡ drop (e - k) bs
-    → length l₁ ≡ length l → length vs₁ ≡ 8_192 → Walking l₀ rest e l₁ vs₁
-walking-again l₀ bs rest k e l l₁ vs vs₁ s a d z v =
-    let n : length rest ≡ length bs - (e - k) = ap length d ∙ length-drop (e - k) bs in
-    record {
-      room = omega (arith, s .room, a .low, a .high);
-      octets = subst Octets (sym d) (octets-drop (e - k) bs (s .octets));
-      size = z ∙ s .size;
-      values = v;
-    }
+pub records-from : (c : Category) (k : ℕ) (bs : List ℕ) (r : Records c bs) → recordsText c k (r .values) ≡ recordsFrom c k bs
+unfolding recordsFrom
+records-from c k bs r = rw (r .reads)
+
+pub walking-first : (c : Category) (l₀ part : List ℕ) (from n : ℕ) (vs : List ℤ) → from + length part < 65_536 → Octets part → length vs ≡ 8_192 → Records c part
+    → Walking c l₀ (puts (recordsFrom c from part) (page l₀ n)) part from l₀ n vs
+walking-first c l₀ part from n vs h o v r = record {
+  room = h;
+  octets = o;
+  size = refl;
+  lent = v;
+  records = r;
+  same = ap (λ (t : List ℕ). puts t (page l₀ n)) (records-from c from part r);
+}
+
+-- a record, and those after it
+records-more : (c : Category) (k e : ℕ) (r : Record) (rs : List Record) → k + length (octetsOf (writeRecord c r)) ≡ e
+    → (codes " |" ++ (numberText k ++ (numberText e ++ itemsText (items c r)))) ++ recordsText c e rs ≡ recordsText c k (r ∷ rs)
+unfolding recordsText
+records-more c k e r rs h = rw h
+
+none-left : (c : Category) (bs : List ℕ) (r : Records c bs) → length bs ≤ 0 → r .values ≡ []
+unfolding readAll readUpTo
+none-left c [] r h = sym (ok-inj (r .reads))
+none-left c (b ∷ bs) r h = absurd (omega arith)
+
+module _ (i cat : ℕ) (named : categoryOf cat categories ≡ some (categoryAt i)) (l₀ : List ℕ) (q : Page ℕ) (bs : List ℕ) (k : ℕ) (l : List ℕ) (n : ℕ) (vs : List ℤ)
+    (s : Walking (categoryAt i) l₀ q bs k l n vs) where
+  pub walking-again : (e : ℕ) (rest l₁ : List ℕ) (n₁ : ℕ) (vs₁ : List ℤ) → Accepted (categoryAt i) k bs e → rest ≡ drop (e - k) bs → length l₁ ≡ length l → length vs₁ ≡ 8_192
+      → page l₁ n₁ ≡ puts (recordFrom i cat k e bs) (page l n) → Walking (categoryAt i) l₀ q rest e l₁ n₁ vs₁
+  walking-again e rest l₁ n₁ vs₁ a d z v w =
+      let c = categoryAt i in
+      let t = records-turn c k bs e (s .octets) a (s .records) in
+      let m : length rest ≡ length bs - (e - k) = ap length d ∙ length-drop (e - k) bs in
+      let line : List ℕ = recordFrom i cat k e bs in
+      let more : List ℕ = recordsText c e (t .0 .values) in
+      let is : line ++ more ≡ recordsText c k (s .records .values) =
+      ap (λ (x : List ℕ). x ++ more) (record-text cat i named bs (a .value) (drop (e - k) bs) k e (s .octets) (a .reads))
+      ∙ records-more c k e (a .value) (t .0 .values) (a .ends)
+      ∙ ap (recordsText c k) (sym (t .1)) in
+      record {
+        room = omega (arith, s .room, a .low, a .high);
+        octets = subst Octets (sym d) (octets-drop (e - k) bs (s .octets));
+        size = z ∙ s .size;
+        lent = v;
+        records = record { values = t .0 .values; reads = ap (readAll (readRecord c)) d ∙ t .0 .reads };
+        same = ap (puts more) w ∙ sym (puts-append line more (page l n)) ∙ ap (λ (x : List ℕ). puts x (page l n)) is ∙ s .same;
+      }
+
+  pub walking-stop : (m p : ℕ) → 0 < length bs → Refusal (categoryAt i) k bs m p → page l n ≡ q
+  walking-stop m p h r = seek-stop (categoryAt i) k bs m p (s .records) h r
+
+  pub walking-last : length bs ≤ 0 → page l n ≡ q
+  unfolding puts recordsText
+  walking-last h = rw (none-left (categoryAt i) bs (s .records) h) at (s .same)

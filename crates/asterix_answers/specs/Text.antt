@@ -1,11 +1,11 @@
 -- The text that answers a question (tests/vectors/README.md), by what the question asks and what the rules answer. Assumes nothing.
 --
--- In order: parts of answers; each kind of question but `block`; a block.
+-- In order: parts of answers; each kind of question but `block`; a block; a line.
 use Prim.Native.Nat.{ℕ, suc, _+_, _-_}
 use mathlib.Core.Bool.{Bool, cond}
 use mathlib.Core.Option.{Option, none, some}
 use mathlib.Core.List.{List, [], _∷_, _++_}
-use lib.Dec.{eqb}
+use lib.Dec.{eqb, ltb}
 use lib.IntN.{ℤ}
 use lib.ListN.{length, take, drop, replicate}
 use Rattle.rules.specs.Answer.{Answer, ok, refused, octetsOf}
@@ -17,7 +17,11 @@ use Rattle.io.specs.Digits.{digits}
 use Rattle.lines.specs.Page.{codes}
 use Rattle.lines.specs.Number.{decimalText}
 use Rattle.lines.specs.Octet.{octetsText}
-use Rattle.lines.specs.Word.{listText}
+use Rattle.lines.specs.Word.{listText, words}
+use Rattle.questions.specs.Kind.{kindOf}
+use Rattle.questions.specs.Ask.{octetsAsked, readAsked, writeAsked, addAsked, findAsked, recordAsked}
+use Rattle.questions.specs.declared.kind.Kind.{Kind}
+use Rattle.questions.specs.declared.kind.Kind.the-variants as kind
 
 -- ---- parts of answers
 
@@ -112,3 +116,24 @@ openedText o = decimalText (length (o .records)) ++ recordsText (o .category) 3 
 
 unfoldable pub blockText : List ℕ → List ℕ
 blockText bs = answered openedText (openBlock bs)
+
+-- ---- a line
+
+-- by the kind of question, and the words after the first
+unfoldable pub kindText : Kind → List (List ℕ) → List ℕ
+kindText kind.Block ws = asked blockText (octetsAsked ws)
+kindText kind.Recording ws = asked recordingText (octetsAsked ws)
+kindText kind.Read ws = asked readText (readAsked ws)
+kindText kind.Write ws = asked writeText (writeAsked 8_192 ws)
+kindText kind.Add ws = asked addText (addAsked ws)
+kindText kind.Find ws = asked findText (findAsked ws)
+kindText kind.Record ws = asked recordText (recordAsked ws)
+kindText kind.Unknown ws = badText
+
+unfoldable pub wordsText : List (List ℕ) → List ℕ
+wordsText [] = badText
+wordsText (w ∷ ws) = kindText (kindOf w) ws
+
+-- WHAT A LINE IS ANSWERED
+unfoldable pub answerText : List ℕ → List ℕ
+answerText line = cond (ltb 65_535 (length line)) (codes "too long") (wordsText (words 32 line))

@@ -7,11 +7,13 @@ use lib.IntN.{ℤ}
 use lib.ListN.{take, drop}
 use Rattle.rules.specs.Answer.{Answer, ok, refused}
 use Rattle.rules.specs.Presence.{flags, placeAt}
+use Rattle.rules.specs.Record.{Category, readRecord}
+use Rattle.rules.specs.Block.{readAll}
 use Rattle.rules.specs.Entry.{categories, profileAt, readOne}
 use Rattle.items.specs.Answers.{referenceIn, checkAt}
 use Rattle.records.specs.Sets.{setAt}
 use Rattle.lines.specs.Page.{codes}
-use Rattle.asterix_answers.specs.Text.{numberText, fieldsText}
+use Rattle.asterix_answers.specs.Text.{numberText, fieldsText, recordsText}
 
 -- REF=fields of an item that is all of the octets, nothing where it is refused
 abbrev pub itemBy : ℕ → Answer (List ℤ) → List ℕ
@@ -37,3 +39,7 @@ itemsFrom i cat (true ∷ ts) f bs =
 unfoldable pub recordFrom : ℕ → ℕ → ℕ → ℕ → List ℕ → List ℕ
 recordFrom i cat start end bs =
     codes " |" ++ (numberText start ++ (numberText end ++ given (setAt i bs) λ x. itemsFrom i cat (drop 1 (flags 64 (x .0))) 1 (drop (x .1) bs)))
+
+-- the records that fill octets, which start at a place of their block
+unfoldable pub recordsFrom : Category → ℕ → List ℕ → List ℕ
+recordsFrom c k bs = given (readAll (readRecord c) bs) (recordsText c k)

@@ -9,10 +9,16 @@ use records::RecordChecked;
 use records::SetRead;
 ghost use mathlib.Core.Path.{_≡_};
 ghost use Prim.Native.Nat.{_+_, _<_};
+ghost use mathlib.Core.Option.{some};
 ghost use lib.ListN.{length, drop};
 ghost use Rattle.rules.specs.Presence.{flags};
+ghost use Rattle.rules.specs.Block.{categoryOf};
+ghost use Rattle.rules.specs.Entry.{categories};
+ghost use Rattle.records.specs.Sets.{categoryAt};
+ghost use Rattle.blocks.specs.Read.{Records};
 ghost use Rattle.lines.specs.Page.{page, puts};
-ghost use Rattle.asterix_answers.specs.Walk.{itemFrom, itemsFrom, recordFrom};
+ghost use Rattle.asterix_answers.specs.Text.{blockText};
+ghost use Rattle.asterix_answers.specs.Walk.{itemFrom, itemsFrom, recordFrom, recordsFrom};
 
 // REF=fields, of an item that is all of the octets lent.
 fn put_item(
@@ -111,6 +117,9 @@ fn put_records(
 ) -> usize
     requires { ⌜ from + length (now part) < 65_536 ⌝ }
     requires { ⌜ length (now values) ≡ 8_192 ⌝ }
+    requires { ⌜ Records (categoryAt profile) (now part) ⌝ }
+    requires { ⌜ categoryOf cat categories ≡ some (categoryAt profile) ⌝ }
+    ensures is { λ r. ⌜ page (now (out .exit)) r ≡ puts (recordsFrom (categoryAt profile) from (now (part .entry))) (page (now (out .entry)) at) ⌝ }
     ensures size { λ _. ⌜ length (now (values .exit)) ≡ 8_192 ⌝ }
 {
     let mut rest = part;
@@ -134,15 +143,13 @@ fn put_records(
 pub fn put_block(block: &[u8], values: &mut [i64; 8192], out: &mut [u8], at: usize) -> usize
     requires { ⌜ length (now block) < 65_536 ⌝ }
     requires { ⌜ length (now values) ≡ 8_192 ⌝ }
+    ensures is { λ r. ⌜ page (now (out .exit)) r ≡ puts (blockText (now (block .entry))) (page (now (out .entry)) at) ⌝ }
     ensures size { λ _. ⌜ length (now (values .exit)) ≡ 8_192 ⌝ }
 {
     match blocks::check_block(block) {
         BlockChecked::Accepted { records } => {
             let p = lines::put_text(out, at, b"ok ");
             let q = lines::put_decimal(out, p, records as u64);
-            if block.len() < 3 {
-                return q;
-            }
             put_records(
                 block[0],
                 items::profile_of(block[0]),

@@ -20,7 +20,7 @@ ghost use lib.ListN.{length};
 ghost use Rattle.lines.specs.Page.{page, puts};
 ghost use Rattle.lines.specs.Word.{words};
 ghost use Rattle.questions.specs.Ask.{octetsAsked, readAsked, writeAsked, addAsked, findAsked, recordAsked};
-ghost use Rattle.asterix_answers.specs.Text.{asked, recordingText, readText, writeText, addText, findText, recordText};
+ghost use Rattle.asterix_answers.specs.Text.{asked, recordingText, readText, writeText, addText, findText, recordText, blockText, kindText, answerText};
 
 fn answer_block(
     text: &[u8],
@@ -32,6 +32,7 @@ fn answer_block(
     requires { ⌜ length (now text) / 2 ≤ length (now octets) ⌝ }
     requires { ⌜ length (now octets) ≤ 65_535 ⌝ }
     requires { ⌜ length (now values) ≡ 8_192 ⌝ }
+    ensures is { λ r. ⌜ page (now (out .exit)) r ≡ puts (asked blockText (octetsAsked (words 32 (now (text .entry))))) (page (now (out .entry)) at) ⌝ }
     ensures size { λ _. ⌜ length (now (values .exit)) ≡ 8_192 ⌝ }
 {
     let Octets::Count(n) = questions::ask_octets(text, octets) else {
@@ -156,6 +157,7 @@ fn answer_kind(
     requires { ⌜ length (now octets) ≡ 65_535 ⌝ }
     requires { ⌜ length (now made) ≡ 65_536 ⌝ }
     requires { ⌜ length (now values) ≡ 8_192 ⌝ }
+    ensures is { λ r. ⌜ page (now (out .exit)) r ≡ puts (kindText kind (words 32 (now (text .entry)))) (page (now (out .entry)) at) ⌝ }
     ensures size { λ _. ⌜ length (now (values .exit)) ≡ 8_192 ⌝ }
 {
     match kind {
@@ -181,6 +183,7 @@ pub fn answer_line(
     requires { ⌜ length (now octets) ≡ 65_535 ⌝ }
     requires { ⌜ length (now made) ≡ 65_536 ⌝ }
     requires { ⌜ length (now values) ≡ 8_192 ⌝ }
+    ensures is { λ r. ⌜ page (now (out .exit)) r ≡ puts (answerText (now (line .entry))) (page (now (out .entry)) at) ⌝ }
     ensures size { λ _. ⌜ length (now (values .exit)) ≡ 8_192 ⌝ }
 {
     if LONGEST < line.len() {

@@ -1,8 +1,11 @@
--- `line::answer_block` is safe: what the words ask is within the buffer. Assumes nothing.
+-- `line::answer_block` meets its contract: what the words ask is answered. Assumes nothing.
+use mathlib.Core.Path.{refl}
 use native.Mathlib.Omega.{arith}
 use lib.ListN.{length}
-use Rattle.questions.specs.Word.{OctetsWithin}
-use Rattle.asterix_answers.proofs.AskLaws.{within-is, few-first}
+use Rattle.lines.proofs.PageLaws.{instead}
+use Rattle.asterix_answers.specs.Text.{blockText}
+use Rattle.questions.specs.Word.{octetsIn, OctetsWithin}
+use Rattle.asterix_answers.proofs.AskLaws.{asked-not, within-is, few-first, octets-is}
 use borrow.Author.Needs.{needs}
 use Rattle.asterix_answers.proofs.line.answer_block.Statement.{statement}
 use Rattle.asterix_answers.proofs.line.answer_block.Tie as tie
@@ -26,7 +29,7 @@ same-length-2 : tie.Need-same-length-2
 same-length-2 c = search needs
 
 returns : tie.Need-returns
-returns c = search needs
+returns c = (instead _ (c .before .before .put-bad .ensures) (asked-not blockText (λ x. octetsIn x (c .before .before .before .before .before .before .before .before .ask-octets .last .1 .0)) (c .before .before .before .before .before .before .before .before .ask-octets .ensures .0) (c .before .before .before .before .enum-told .given .1) refl), c .before .before .before .before .before .before .before .before .before .before .before .before .before .pre .1 .1)
 
 sub-put-block : tie.Need-sub-put-block
 sub-put-block c = search needs
@@ -47,7 +50,7 @@ same-length-4 : tie.Need-same-length-4
 same-length-4 c = search needs
 
 returns-2 : tie.Need-returns-2
-returns-2 c = search needs
+returns-2 c = (instead _ (c .before .before .put-block .ensures .0) (octets-is (c .before .before .before .before .before .before .before .before .before .before .before .before .ask-octets .last .1 .0) blockText _ _ (c .before .before .before .before .before .before .before .before .before .before .before .before .ask-octets .ensures .0) (c .before .before .before .before .before .before .before .before .n .given .1)), c .before .before .put-block .ensures .1)
 
 pub answer-block-spec : {M : Type 1} → statement M
 answer-block-spec =
