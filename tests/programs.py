@@ -1,0 +1,201 @@
+"""The programs from outside, for tests/programs.sh: python3 tests/programs.py (--all or an empty word) WORD.., the words that start a program.
+
+In order: starting a program; recordings; lines; memory.
+"""
+
+import os
+import pathlib
+import random
+import subprocess
+import sys
+import threading
+import time
+
+root = pathlib.Path(__file__).resolve().parent.parent
+sys.path.insert(0, str(root / "docs" / "make"))
+
+import reading
+
+everything, start = sys.argv[1] == "--all", sys.argv[2:]
+sample = (root / "samples" / "messages.rec").read_bytes()
+failures = []
+
+# What a program may hold at most, by the system's count of its largest resident size.
+MEMORY = 16 * 1024
+
+# The longest line that is a question.
+LONGEST = 65535
+
+# ---- starting a program
+
+
+def command(program):
+    return start + [str(root / "target" / "bin" / program)]
+
+
+def run(program, given):
+    done = subprocess.run(command(program), input=given, stdout=subprocess.PIPE, stderr=subprocess.PIPE)
+    return done.stdout, done.stderr, done.returncode
+
+
+def same(what, found, expected):
+    if found != expected:
+        failures.append(what)
+        if len(failures) <= 10:
+            print(f"DIFFERENT: {what}: {found[:200]!r}, expected {expected[:200]!r}")
+
+
+def fed(program, pieces):
+    """What a program writes to standard output, its status, and its largest resident size in KiB once it has read all pieces."""
+    child = subprocess.Popen(command(program), stdin=subprocess.PIPE, stdout=subprocess.PIPE)
+    found = []
+    reader = threading.Thread(target=lambda: found.append(child.stdout.read()))
+    reader.start()
+    for piece in pieces:
+        child.stdin.write(piece)
+    child.stdin.flush()
+    status = pathlib.Path(f"/proc/{child.pid}/status").read_text()
+    peak = next(int(line.split()[1]) for line in status.split("\n") if line.startswith("VmHWM"))
+    child.stdin.close()
+    reader.join()
+    return found[0], child.wait(), peak
+
+
+# ---- recordings: asterix_check says what asterix_answers says
+
+
+def checked(line):
+    """The line of asterix_check for an answer of asterix_answers."""
+    words = line.split(" ")
+    return f"accepted {words[1]} blocks {words[2]} records" if words[0] == "ok" else line
+
+
+def compare(what, recordings):
+    began = time.monotonic()
+    questions = "".join(f"recording {r.hex() or '-'}\n" for r in recordings).encode()
+    answers, said, status = run("asterix_answers", questions)
+    lines = answers.decode().split("\n")
+    same(f"{what}: answers", (len(lines), said, status), (len(recordings) + 1, b"", 0))
+    accepted = 0
+    for recording, line in zip(recordings, lines):
+        expected = checked(line)
+        accepted += expected.startswith("accepted")
+        same(f"{what}: {recording.hex()}", run("asterix_check", recording), (expected.encode() + b"\n", b"", 0))
+    print(f"{what}: {len(recordings)} recordings, {accepted} accepted ({time.monotonic() - began:.1f} s)")
+
+
+def whole_blocks(most):
+    """The blocks of the sample that fit so many octets."""
+    end = 0
+    while end + int.from_bytes(sample[end + 1 : end + 3], "big") <= most:
+        end += int.from_bytes(sample[end + 1 : end + 3], "big")
+    return sample[:end]
+
+
+def random_recording(chance):
+    """Octets, of which the first are often a head that says their number."""
+    count = chance.choice([0, 1, 2, 3, 4, 5, 8, 16, 40, 100, 300, 1000, 5000, 30000])
+    octets = bytearray(chance.randbytes(chance.randint(count // 2, count)))
+    if len(octets) >= 3 and chance.random() < 0.7:
+        octets[0] = chance.choice([17, 18])
+        octets[1:3] = len(octets).to_bytes(2, "big")
+    return bytes(octets)
+
+
+def changed(octets):
+    for at in range(len(octets)):
+        for bit in range(8):
+            yield octets[:at] + bytes([octets[at] ^ 1 << bit]) + octets[at + 1 :]
+
+
+chance = random.Random(20260101)
+long = sample * 3
+compare("random", [random_recording(chance) for _ in range(1000)])
+compare("cut", [long[:n] for n in range(2001)])
+compare("one bit changed", list(changed(whole_blocks(500))))
+
+# ---- lines of odd forms
+
+
+def ask(what, given, expected):
+    same(what, run("asterix_answers", given), (expected, b"", 0))
+
+
+for what, given, expected in [
+    ("empty input", b"", b""),
+    ("one line feed", b"\n", b"bad line\n"),
+    ("no line feed at the end", b"recording -", b"ok 0 0\n"),
+    ("a line feed at the end", b"recording -\n", b"ok 0 0\n"),
+    ("empty lines", b"\n\nrecording -\n\n", b"bad line\nbad line\nok 0 0\nbad line\n"),
+    ("NUL", b"\0", b"bad line\n"),
+    ("NUL in a word", b"recording\0-\nrecording -\0\nrecording -\n", b"bad line\nbad line\nok 0 0\n"),
+    ("NUL alone, many", b"\0" * 70000, b"too long\n"),
+    ("carriage return", b"recording -\r\nrecording -\n", b"bad line\nok 0 0\n"),
+    ("every octet", bytes(range(256)), b"bad line\nbad line\n"),
+    ("the longest line", b"x" * LONGEST + b"\nrecording -\n", b"bad line\nok 0 0\n"),
+    ("one more", b"x" * (LONGEST + 1) + b"\nrecording -\n", b"too long\nok 0 0\n"),
+    ("the longest line at the end", b"x" * LONGEST, b"bad line\n"),
+    ("one more at the end", b"x" * (LONGEST + 1), b"too long\n"),
+    ("far too long, then more", (b"x" * 10**7 + b"\n") * 3 + b"recording -", b"too long\n" * 3 + b"ok 0 0\n"),
+]:
+    ask(what, given, expected)
+for length in [*range(65500, 65570), *range(131040, 131110), 196607, 196608, 196609]:
+    ask(f"a line of {length}", b"x" * length + b"\nrecording -\n", (b"bad line\n" if length <= LONGEST else b"too long\n") + b"ok 0 0\n")
+
+# A read that fails: nothing is asked, and standard error says so.
+for program in ["asterix_check", "asterix_answers"]:
+    folder = os.open("/", os.O_RDONLY)
+    done = subprocess.run(command(program), stdin=folder, stdout=subprocess.PIPE, stderr=subprocess.PIPE)
+    os.close(folder)
+    same(f"{program}: a read that fails", (done.stdout, done.stderr), (b"", f"{program}: standard input cannot be read\n".encode()))
+
+# The same questions in pieces of odd sizes: lines end anywhere in what a read brings.
+questions = (root / "tests" / "vectors" / "edges-questions.txt").read_bytes()
+answers = (root / "tests" / "vectors" / "edges-answers.txt").read_bytes()
+for size in [1009, 4096, 65537]:
+    found, status, peak = fed("asterix_answers", (questions[k : k + size] for k in range(0, len(questions), size)))
+    same(f"pieces of {size}", (found, status), (answers, 0))
+
+# Blocks as large as a line holds, of each block of the sample's records in turn: no answer is cut.
+longest = 0
+at = 0
+while at < len(sample):
+    size = int.from_bytes(sample[at + 1 : at + 3], "big")
+    records = sample[at + 3 : at + size]
+    many = records * ((32764 - 3) // len(records))
+    line = "block " + (sample[at : at + 1] + (3 + len(many)).to_bytes(2, "big") + many).hex().upper()
+    expected = reading.answer(line)
+    longest = max(longest, len(expected))
+    ask(f"a large block of {records.hex()}", line.encode(), expected.encode() + b"\n")
+    at += size
+print(f"lines: odd forms, pieces, and blocks of up to 32,764 octets; the longest answer has {longest} characters")
+
+# ---- memory
+
+
+def repeated(octets, times):
+    chunk = octets * 1000
+    for _ in range(times // 1000):
+        yield chunk
+    yield octets * (times % 1000)
+
+
+def large(what, program, pieces, expected):
+    began = time.monotonic()
+    found, status, peak = fed(program, pieces)
+    same(what, (found, status), (expected, 0))
+    if peak >= MEMORY:
+        failures.append(f"{what}: {peak} KiB")
+    print(f"{what}: {found.decode().strip()}, {peak} KiB, {time.monotonic() - began:.1f} s")
+
+
+large("a line of 100 MB", "asterix_answers", repeated(b"x" * 1000, 100_000), b"too long\n")
+for size in [10**7] + [10**9] * everything:
+    times = -(-size // len(sample))
+    expected = f"accepted {37 * times} blocks {70 * times} records\n".encode()
+    large(f"a recording of {times * len(sample)} octets", "asterix_check", repeated(sample, times), expected)
+
+if failures:
+    print(f"{len(failures)} differ")
+    sys.exit(1)
+print("all agree")
