@@ -2,7 +2,7 @@
 --
 -- In order: items as text, some after others; an item read alone, by its reference; the items of a record; a record; a block. Assumes nothing.
 use Prim.Native.Nat.{ℕ, zero, suc, _+_, _-_, _<_, _≤_}
-use mathlib.Core.Path.{_≡_, refl, sym, ap, ap₂, _∙_, subst}
+use mathlib.Core.Path.{_≡_, refl, sym, ap, _∙_, subst}
 use mathlib.Core.Bool.{Bool, true, false}
 use mathlib.Core.Option.{Option, none, some}
 use mathlib.Core.List.{List, [], _∷_, _++_, map, append-assoc, append-nil}
@@ -11,18 +11,17 @@ use native.Mathlib.Omega.{arith}
 use native.Mathlib.Nat.{add-zero}
 use native.Mathlib.Numerals.{add-one}
 use lib.Dec.{eqb}
-use lib.IntN.{ℤ}
 use lib.ListN.{length, take, drop, getD, replicate, length-append, length-drop}
 use lib.Seq.{take-at, drop-at, drop-drop, getD-drop}
-use Rattle.rules.specs.Answer.{Answer, ok, refused, _>>=_, expect_or_, later, need_or_then_, if_then_else_, octetsOf}
+use Rattle.rules.specs.Answer.{Answer, ok, refused, _>>=_, need_or_then_, if_then_else_}
 use Rattle.rules.specs.Layout.{Layout, Values, concat, readFields}
-use Rattle.rules.specs.Presence.{flags, placeAt, readPresence, readRow, readRows, readPlaces}
-use Rattle.rules.specs.Record.{Place, Category, Record, places, named, items, readPlace, writePlace, readRecord, writeRecord, judge}
+use Rattle.rules.specs.Presence.{flags, placeAt, readRow, readRows, readPlaces}
+use Rattle.rules.specs.Record.{Place, Category, Record, places, named, items, readPlace, writePlace, readRecord}
 use Rattle.rules.specs.Block.{Block, Head, categoryOf, readAll, readBlock, writeBlock}
 use Rattle.rules.specs.Category017.{category017}
 use Rattle.rules.specs.Category018.{category018}
 use Rattle.rules.specs.Entry.{categories, profileAt, layoutAs, layoutOf, readOne, Opened, openBlock, checkBlock}
-use Rattle.rules.proofs.AnswerLaws.{Octets, Split, after, ok-inj, refused-ok, some-inj, none-some, bind-elim, bind-in, later-inv, later-in, expect-in, expect-elim, need-elim, if-inv, if-true, if-false}
+use Rattle.rules.proofs.AnswerLaws.{Octets, Split, after, ok-inj, refused-ok, some-inj, none-some, bind-elim, bind-in, later-inv, later-in, expect-in, expect-elim, need-elim, if-inv}
 use Rattle.rules.proofs.BlockLaws.{single-forth}
 use Rattle.rules.proofs.RecordLaws.{place-laws, judge-same}
 use Rattle.items.specs.Answers.{referenceIn, checkAt, sizeOf, profileIn}

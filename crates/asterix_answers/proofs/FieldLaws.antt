@@ -6,18 +6,17 @@ use mathlib.Core.Path.{_≡_, refl, sym, ap, _∙_, subst}
 use mathlib.Core.Logic.{⊎-elim}
 use mathlib.Core.Option.{Option, none, some}
 use mathlib.Core.List.{List}
-use native.Mathlib.Omega.{arith}
 use lib.Dec.{leb, lit<}
 use lib.IntN.{ℤ}
 use lib.ListN.{length, drop}
-use Rattle.rules.specs.Answer.{ok, _>>=_, expect_or_, later, need_or_then_}
+use Rattle.rules.specs.Answer.{ok, expect_or_}
 use Rattle.rules.specs.Layout.{concat}
 use Rattle.rules.specs.Presence.{placeAt}
 use Rattle.rules.specs.Entry.{categories, profileAt, layoutOf, readOne}
 use Rattle.rules.proofs.AnswerLaws.{Octets, ok-inj, bind-elim, need-elim, later-inv}
 use Rattle.items.specs.declared.tables.PlaceRow.{PlaceRow}
 use Rattle.items.specs.Tables.{layoutIs, layoutAt, placeIs, placeRowAt, nowhere}
-use Rattle.items.specs.Read.{shapeOf, wholeOf, headOf, stepOf, partValues, partsLegal}
+use Rattle.items.specs.Read.{shapeOf, wholeOf, headOf, stepOf, partsLegal}
 use Rattle.items.specs.Answers.{frnAs, profileIn}
 use Rattle.items.proofs.OneLaws.{onlyItem, layout-found, layout-missed, one-is}
 use Rattle.items.proofs.ReadLaws.{fitting, le-or-lt}

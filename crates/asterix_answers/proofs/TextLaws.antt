@@ -2,22 +2,21 @@
 --
 -- In order: places of items; what a lent buffer holds; recordings; items read and written; records added and found. Assumes nothing.
 use Prim.Native.Nat.{ℕ, _+_, _-_, _<_, _≤_}
-use mathlib.Core.Path.{_≡_, refl, sym, ap, _∙_, subst}
-use mathlib.Core.Bool.{cond}
-use mathlib.Core.List.{List, [], _∷_, _++_, map}
+use mathlib.Core.Path.{_≡_, refl, sym, ap, _∙_}
+use mathlib.Core.List.{List, [], _++_, map}
 use native.Mathlib.Omega.{arith}
 use borrow.Author.Tests.{eq-eqb, ne-eqb}
 use lib.Dec.{leb, leb→le}
 use lib.IntN.{ℤ}
 use lib.ListN.{length, take, drop, getD, replicate, drop-of-length-le}
 use lib.Seq.{take-at, length-take-le}
-use Rattle.rules.specs.Answer.{Answer, ok, refused, _>>=_, need_or_then_}
+use Rattle.rules.specs.Answer.{Answer, ok, refused, _>>=_}
 use Rattle.rules.specs.Record.{Category}
 use Rattle.rules.specs.Entry.{over, leaves, Added, added, refusedOld, refusedNew, leavesAdded, inNew, inOld, oldBlock, newRecord, joinRecord, Laid, RecordMap, mapOf, startOf, laidItems, numbered, openBlock, checkRecording, readOne, writeOne, findItem, findRecord, addRecord}
 use Rattle.rules.proofs.AnswerLaws.{Octets, ok-inj, refused-ok, bind-elim, need-elim}
 use Rattle.rules.proofs.EntryLaws.{over-is}
 use Rattle.items.specs.Answers.{countOf}
-use Rattle.items.proofs.WriteTrip.{Wrote, read-write}
+use Rattle.items.proofs.WriteTrip.{read-write}
 use Rattle.records.specs.Answers.{mapIn}
 use Rattle.records.proofs.FlagLaws.{length-over}
 use Rattle.blocks.specs.declared.add.RecordAdded.the-variants as recordAdded

@@ -1,7 +1,7 @@
 -- The text that answers a question (tests/vectors/README.md), by what the question asks and what the rules answer. Assumes nothing.
 --
 -- In order: parts of answers; each kind of question but `block`; a block; a line.
-use Prim.Native.Nat.{ℕ, suc, _+_, _-_}
+use Prim.Native.Nat.{ℕ, _+_, _-_}
 use mathlib.Core.Bool.{Bool, cond}
 use mathlib.Core.Option.{Option, none, some}
 use mathlib.Core.List.{List, [], _∷_, _++_}

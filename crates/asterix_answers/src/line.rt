@@ -17,6 +17,7 @@ use questions::WriteAsked;
 ghost use mathlib.Core.Path.{_≡_};
 ghost use Prim.Native.Nat.{_/_, _≤_};
 ghost use lib.ListN.{length};
+ghost use mathlib.Core.List.{[], _∷_, _++_};
 ghost use Rattle.lines.specs.Page.{page, puts};
 ghost use Rattle.lines.specs.Word.{words};
 ghost use Rattle.questions.specs.Ask.{octetsAsked, readAsked, writeAsked, addAsked, findAsked, recordAsked};
@@ -172,7 +173,7 @@ fn answer_kind(
     }
 }
 
-pub fn answer_line(
+fn answer_text(
     line: &[u8],
     octets: &mut [u8],
     made: &mut [u8],
@@ -202,4 +203,23 @@ pub fn answer_line(
         out,
         at,
     )
+}
+
+// With the line feed after it.
+pub fn answer_line(
+    line: &[u8],
+    octets: &mut [u8],
+    made: &mut [u8],
+    values: &mut [i64; 8192],
+    out: &mut [u8],
+    at: usize,
+) -> usize
+    requires { ⌜ length (now octets) ≡ 65_535 ⌝ }
+    requires { ⌜ length (now made) ≡ 65_536 ⌝ }
+    requires { ⌜ length (now values) ≡ 8_192 ⌝ }
+    ensures is { λ r. ⌜ page (now (out .exit)) r ≡ puts (answerText (now (line .entry)) ++ (10 ∷ [])) (page (now (out .entry)) at) ⌝ }
+    ensures size { λ _. ⌜ length (now (values .exit)) ≡ 8_192 ⌝ }
+{
+    let p = answer_text(line, octets, made, values, out, at);
+    lines::put(out, p, b'\n')
 }

@@ -37,7 +37,7 @@ fn turn_page(page: &[u8], at: usize) -> usize {
     write_out(page, at)
 }
 
-// A line's answer, with the line feed after it; none where it has been answered.
+// A line's answer; none where it has been answered.
 fn answer_once(
     answered: bool,
     line: &[u8],
@@ -56,8 +56,7 @@ fn answer_once(
         return at;
     }
     let p = answer_line(line, octets, made, values, out, at);
-    let q = lines::put(out, p, b'\n');
-    turn_page(out, q)
+    turn_page(out, p)
 }
 
 fn main() {

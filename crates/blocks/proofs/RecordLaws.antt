@@ -140,7 +140,7 @@ pub record Counting (c : Category) (part : List ℕ) (from : ℕ) (rest : List �
 -- ---- the record with a number, in octets that are records
 
 -- after the first record there are records again
-records-turn : (c : Category) (k : ℕ) (bs : List ℕ) (e : ℕ) → Octets bs → (a : Accepted c k bs e) (r : Records c bs)
+pub records-turn : (c : Category) (k : ℕ) (bs : List ℕ) (e : ℕ) → Octets bs → (a : Accepted c k bs e) (r : Records c bs)
     → (s : Records c (drop (e - k) bs)) × (r .values ≡ a .value ∷ s .values)
 records-turn c k bs e o a r =
     let z : (later 0 (readAll (readRecord c) bs) >>= ok) ≡ ok (r .values) = bind-in ok (later-in 0 (r .reads)) refl in

@@ -1,5 +1,5 @@
 -- `asterix_answers::main` is safe and ends: lines and what came lie in the buffer, and the lent buffers keep their lengths. Assumes nothing beyond the calls of C.
-use Prim.Native.Nat.{ℕ, _≤_, _-_}
+use Prim.Native.Nat.{ℕ, _≤_}
 use mathlib.Core.Path.{_≡_, _∙_}
 use native.Mathlib.Omega.{arith}
 use borrow.Author.Needs.{needs}

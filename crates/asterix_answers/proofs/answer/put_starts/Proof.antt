@@ -1,6 +1,5 @@
 -- `answer::put_starts` meets its contract: the places that are left, put on the page so far, give what all give. Assumes nothing.
 use Prim.Native.Nat.{_-_}
-use native.Mathlib.Omega.{arith}
 use lib.ListN.{length}
 use borrow.Author.Needs.{needs}
 use Rattle.lines.specs.Page.{page, puts}
