@@ -14,7 +14,7 @@ use lib.ListN.{length, take, drop, replicate, length-replicate, length-append, l
 use lib.Seq.{length-take-le, take-at, take-take}
 use Rattle.rules.specs.Presence.{flags}
 use Rattle.rules.specs.Entry.{addRecord, oldBlock}
-use Rattle.items.proofs.ReadLaws.{le-or-lt}
+use Rattle.layouts.proofs.ReadLaws.{le-or-lt}
 use Rattle.records.specs.Sets.{frnsOf}
 use Rattle.records.specs.declared.ItemSet.{ItemSet}
 use Rattle.blocks.proofs.AddLaws.{add-none}

@@ -25,7 +25,7 @@ use Rattle.rules.proofs.AnswerLaws.{Octets, Split, after, ok-inj, refused-ok, s
 use Rattle.rules.proofs.BlockLaws.{single-forth}
 use Rattle.rules.proofs.RecordLaws.{place-laws, judge-same}
 use Rattle.items.specs.Answers.{referenceIn, checkAt, sizeOf, profileIn}
-use Rattle.items.proofs.TableLaws.{in-row}
+use Rattle.layouts.proofs.TableLaws.{in-row}
 use Rattle.records.specs.Sets.{categoryIn, categoryAt, bitsOf, setAt}
 use Rattle.records.proofs.FlagLaws.{bits-flags, over-pad}
 use Rattle.records.proofs.PlaceLaws.{some-within}

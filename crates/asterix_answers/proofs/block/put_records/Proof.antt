@@ -5,7 +5,7 @@ use borrow.Author.Needs.{needs}
 use lib.ListN.{length}
 use Rattle.records.specs.Sets.{categoryAt}
 use Rattle.blocks.proofs.LoopLaws.{octets-each, to-end}
-use Rattle.blocks.proofs.RecordLaws.{walked-accepted, walked-refused}
+use Rattle.blocks.proofs.RecordLaws.{ended-accepted, ended-refused}
 use Rattle.lines.specs.Page.{page, puts}
 use Rattle.asterix_answers.specs.Walk.{recordsFrom}
 use Rattle.asterix_answers.proofs.ListLaws.{Walking, walking-first, walking-again, walking-stop, walking-last}
@@ -34,28 +34,28 @@ same-length : tie.Need-same-length Inv-loop μ-loop
 same-length c = c .before .before .before .before .loop .inv .size
 
 returns : tie.Need-returns Inv-loop μ-loop
-returns c = (walking-stop _ _ (c .before .before .before .before .before .before .before .pre .1 .1 .1) _ _ (c .before .before .before .before .loop .rest .now) _ _ _ _ (c .before .before .before .before .loop .inv) _ _ (c .before .before .before .loop-test .taken) (walked-refused _ _ _ (c .before .before .check-record .result) (c .before .before .check-record .ensures) _ _ (c .enum-told .given .1)), c .before .before .before .before .loop .inv .lent)
+returns c = (walking-stop _ _ (c .before .before .before .before .before .before .before .pre .1 .1 .1) _ _ (c .before .before .before .before .loop .rest .now) _ _ _ _ (c .before .before .before .before .loop .inv) _ _ (c .before .before .before .loop-test .taken) (ended-refused _ _ _ (c .before .before .check-record .result .checked) (c .before .before .check-record .ensures .answer) _ _ (c .enum-told .given .1)), c .before .before .before .before .loop .inv .lent)
 
 put-record-requires : tie.Need-put-record-requires Inv-loop μ-loop
 put-record-requires c κs = c .before .before .before .before .before .before .before .loop .inv .lent
 
 sub-used : tie.Need-sub-used Inv-loop μ-loop
-sub-used c = omega (arith, walked-accepted _ _ (c .before .before .before .before .before .before .before .before .before .before .loop .rest .now) (c .before .before .before .before .before .before .before .before .check-record .result) (c .before .before .before .before .before .before .before .before .check-record .ensures) _ (c .before .before .before .before .before .before .before .before .before .before .loop .inv .octets) (c .before .before .before .before .before .before .checked .given .1) .low, walked-accepted _ _ (c .before .before .before .before .before .before .before .before .before .before .loop .rest .now) (c .before .before .before .before .before .before .before .before .check-record .result) (c .before .before .before .before .before .before .before .before .check-record .ensures) _ (c .before .before .before .before .before .before .before .before .before .before .loop .inv .octets) (c .before .before .before .before .before .before .checked .given .1) .high)
+sub-used c = omega (arith, ended-accepted _ _ (c .before .before .before .before .before .before .before .before .before .before .loop .rest .now) (c .before .before .before .before .before .before .before .before .check-record .result .checked) (c .before .before .before .before .before .before .before .before .check-record .ensures .answer) _ (c .before .before .before .before .before .before .before .before .before .before .loop .inv .octets) (c .before .before .before .before .before .before .checked .given .1) .low, ended-accepted _ _ (c .before .before .before .before .before .before .before .before .before .before .loop .rest .now) (c .before .before .before .before .before .before .before .before .check-record .result .checked) (c .before .before .before .before .before .before .before .before .check-record .ensures .answer) _ (c .before .before .before .before .before .before .before .before .before .before .loop .inv .octets) (c .before .before .before .before .before .before .checked .given .1) .high)
 
 sub-rest : tie.Need-sub-rest Inv-loop μ-loop
-sub-rest c = omega (arith, walked-accepted _ _ (c .before .before .before .before .before .before .before .before .before .before .loop .rest .now) (c .before .before .before .before .before .before .before .before .check-record .result) (c .before .before .before .before .before .before .before .before .check-record .ensures) _ (c .before .before .before .before .before .before .before .before .before .before .loop .inv .octets) (c .before .before .before .before .before .before .checked .given .1) .low, walked-accepted _ _ (c .before .before .before .before .before .before .before .before .before .before .loop .rest .now) (c .before .before .before .before .before .before .before .before .check-record .result) (c .before .before .before .before .before .before .before .before .check-record .ensures) _ (c .before .before .before .before .before .before .before .before .before .before .loop .inv .octets) (c .before .before .before .before .before .before .checked .given .1) .high)
+sub-rest c = omega (arith, ended-accepted _ _ (c .before .before .before .before .before .before .before .before .before .before .loop .rest .now) (c .before .before .before .before .before .before .before .before .check-record .result .checked) (c .before .before .before .before .before .before .before .before .check-record .ensures .answer) _ (c .before .before .before .before .before .before .before .before .before .before .loop .inv .octets) (c .before .before .before .before .before .before .checked .given .1) .low, ended-accepted _ _ (c .before .before .before .before .before .before .before .before .before .before .loop .rest .now) (c .before .before .before .before .before .before .before .before .check-record .result .checked) (c .before .before .before .before .before .before .before .before .check-record .ensures .answer) _ (c .before .before .before .before .before .before .before .before .before .before .loop .inv .octets) (c .before .before .before .before .before .before .checked .given .1) .high)
 
 part-rest-start : tie.Need-part-rest-start Inv-loop μ-loop
-part-rest-start c = omega (arith, walked-accepted _ _ (c .before .before .before .before .before .before .before .before .before .before .loop .rest .now) (c .before .before .before .before .before .before .before .before .check-record .result) (c .before .before .before .before .before .before .before .before .check-record .ensures) _ (c .before .before .before .before .before .before .before .before .before .before .loop .inv .octets) (c .before .before .before .before .before .before .checked .given .1) .low, walked-accepted _ _ (c .before .before .before .before .before .before .before .before .before .before .loop .rest .now) (c .before .before .before .before .before .before .before .before .check-record .result) (c .before .before .before .before .before .before .before .before .check-record .ensures) _ (c .before .before .before .before .before .before .before .before .before .before .loop .inv .octets) (c .before .before .before .before .before .before .checked .given .1) .high)
+part-rest-start c = omega (arith, ended-accepted _ _ (c .before .before .before .before .before .before .before .before .before .before .loop .rest .now) (c .before .before .before .before .before .before .before .before .check-record .result .checked) (c .before .before .before .before .before .before .before .before .check-record .ensures .answer) _ (c .before .before .before .before .before .before .before .before .before .before .loop .inv .octets) (c .before .before .before .before .before .before .checked .given .1) .low, ended-accepted _ _ (c .before .before .before .before .before .before .before .before .before .before .loop .rest .now) (c .before .before .before .before .before .before .before .before .check-record .result .checked) (c .before .before .before .before .before .before .before .before .check-record .ensures .answer) _ (c .before .before .before .before .before .before .before .before .before .before .loop .inv .octets) (c .before .before .before .before .before .before .checked .given .1) .high)
 
 part-rest-end : tie.Need-part-rest-end Inv-loop μ-loop
-part-rest-end c = omega (arith, walked-accepted _ _ (c .before .before .before .before .before .before .before .before .before .before .loop .rest .now) (c .before .before .before .before .before .before .before .before .check-record .result) (c .before .before .before .before .before .before .before .before .check-record .ensures) _ (c .before .before .before .before .before .before .before .before .before .before .loop .inv .octets) (c .before .before .before .before .before .before .checked .given .1) .low, walked-accepted _ _ (c .before .before .before .before .before .before .before .before .before .before .loop .rest .now) (c .before .before .before .before .before .before .before .before .check-record .result) (c .before .before .before .before .before .before .before .before .check-record .ensures) _ (c .before .before .before .before .before .before .before .before .before .before .loop .inv .octets) (c .before .before .before .before .before .before .checked .given .1) .high)
+part-rest-end c = omega (arith, ended-accepted _ _ (c .before .before .before .before .before .before .before .before .before .before .loop .rest .now) (c .before .before .before .before .before .before .before .before .check-record .result .checked) (c .before .before .before .before .before .before .before .before .check-record .ensures .answer) _ (c .before .before .before .before .before .before .before .before .before .before .loop .inv .octets) (c .before .before .before .before .before .before .checked .given .1) .low, ended-accepted _ _ (c .before .before .before .before .before .before .before .before .before .before .loop .rest .now) (c .before .before .before .before .before .before .before .before .check-record .result .checked) (c .before .before .before .before .before .before .before .before .check-record .ensures .answer) _ (c .before .before .before .before .before .before .before .before .before .before .loop .inv .octets) (c .before .before .before .before .before .before .checked .given .1) .high)
 
 loop-less : tie.Need-loop-less Inv-loop μ-loop
-loop-less c = omega (arith, walked-accepted _ _ (c .before .before .before .before .before .before .before .before .before .before .before .loop .rest .now) (c .before .before .before .before .before .before .before .before .before .check-record .result) (c .before .before .before .before .before .before .before .before .before .check-record .ensures) _ (c .before .before .before .before .before .before .before .before .before .before .before .loop .inv .octets) (c .before .before .before .before .before .before .before .checked .given .1) .low, walked-accepted _ _ (c .before .before .before .before .before .before .before .before .before .before .before .loop .rest .now) (c .before .before .before .before .before .before .before .before .before .check-record .result) (c .before .before .before .before .before .before .before .before .before .check-record .ensures) _ (c .before .before .before .before .before .before .before .before .before .before .before .loop .inv .octets) (c .before .before .before .before .before .before .before .checked .given .1) .high, c .rest .given .2)
+loop-less c = omega (arith, ended-accepted _ _ (c .before .before .before .before .before .before .before .before .before .before .before .loop .rest .now) (c .before .before .before .before .before .before .before .before .before .check-record .result .checked) (c .before .before .before .before .before .before .before .before .before .check-record .ensures .answer) _ (c .before .before .before .before .before .before .before .before .before .before .before .loop .inv .octets) (c .before .before .before .before .before .before .before .checked .given .1) .low, ended-accepted _ _ (c .before .before .before .before .before .before .before .before .before .before .before .loop .rest .now) (c .before .before .before .before .before .before .before .before .before .check-record .result .checked) (c .before .before .before .before .before .before .before .before .before .check-record .ensures .answer) _ (c .before .before .before .before .before .before .before .before .before .before .before .loop .inv .octets) (c .before .before .before .before .before .before .before .checked .given .1) .high, c .rest .given .2)
 
 loop-again : tie.Need-loop-again Inv-loop μ-loop
-loop-again c = walking-again _ _ (c .before .before .before .before .before .before .before .before .before .before .before .before .before .before .pre .1 .1 .1) _ _ (c .before .before .before .before .before .before .before .before .before .before .before .loop .rest .now) _ _ _ _ (c .before .before .before .before .before .before .before .before .before .before .before .loop .inv) _ _ _ _ _ (walked-accepted _ _ (c .before .before .before .before .before .before .before .before .before .before .before .loop .rest .now) (c .before .before .before .before .before .before .before .before .before .check-record .result) (c .before .before .before .before .before .before .before .before .before .check-record .ensures) _ (c .before .before .before .before .before .before .before .before .before .before .before .loop .inv .octets) (c .before .before .before .before .before .before .before .checked .given .1)) (to-end (c .before .before .before .before .before .before .before .before .before .before .before .loop .rest .now) (c .before .before .before .before .before .before .before .checked .given .0 .0 - c .before .before .before .before .before .before .before .before .before .before .before .loop .start)) (c .before .before .before .put-record .kept .1 .1 .1 .1 .1 .1 .0) (c .before .before .before .put-record .ensures .1) (c .before .before .before .put-record .ensures .0)
+loop-again c = walking-again _ _ (c .before .before .before .before .before .before .before .before .before .before .before .before .before .before .pre .1 .1 .1) _ _ (c .before .before .before .before .before .before .before .before .before .before .before .loop .rest .now) _ _ _ _ (c .before .before .before .before .before .before .before .before .before .before .before .loop .inv) _ _ _ _ _ (ended-accepted _ _ (c .before .before .before .before .before .before .before .before .before .before .before .loop .rest .now) (c .before .before .before .before .before .before .before .before .before .check-record .result .checked) (c .before .before .before .before .before .before .before .before .before .check-record .ensures .answer) _ (c .before .before .before .before .before .before .before .before .before .before .before .loop .inv .octets) (c .before .before .before .before .before .before .before .checked .given .1)) (to-end (c .before .before .before .before .before .before .before .before .before .before .before .loop .rest .now) (c .before .before .before .before .before .before .before .checked .given .0 .0 - c .before .before .before .before .before .before .before .before .before .before .before .loop .start)) (c .before .before .before .put-record .kept .1 .1 .1 .1 .1 .1 .0) (c .before .before .before .put-record .ensures .1) (c .before .before .before .put-record .ensures .0)
 
 same-length-2 : tie.Need-same-length-2 Inv-loop μ-loop
 same-length-2 c = c .before .loop .inv .size
