@@ -1,4 +1,4 @@
-// One item of categories 017 and 018: its layout by table.
+// One item of categories 017 and 018, over its layout: where a profile has it, its check, and its fields read and written.
 mod write;
 
 use layouts::FRNS;

@@ -1,5 +1,5 @@
 // How the items of categories 017 and 018 lie in octets: their tables, the fields that have a rule, the parts of an item and their fields. What a
-// function asks of its arguments, a row or a place of the tables, the crate above has from these tables.
+// function requires of a place, a row or the octets at hand, `items` meets: it takes places and rows from these tables.
 mod field_rules;
 mod fields;
 mod parts;
