@@ -24,7 +24,7 @@ use Rattle.layouts.specs.declared.tables.LayoutRow.{LayoutRow}
 use Rattle.layouts.specs.declared.tables.PlaceRow.{PlaceRow}
 use Rattle.items.specs.Answers.{checkAt}
 use Rattle.layouts.specs.FieldRules.{Rule, obeys, allObeyed, rules, firstRule, singleOf, singles}
-use Rattle.plain.specs.Item.{Plainly, firstThree, downAt, addedAt, upAt, limitAt, asked, sameRule, sameRules, soundRow, soundFree, soundRuled, soundCounted, soundExtended, samePair, soundTwice, soundBy, soundWord, soundWords, soundSteps}
+use Rattle.plain.specs.Item.{Plainly, firstThree, downOf, addedOf, upOf, limitOf, asks, sameRule, sameRules, soundRule, lowAt, highAt, asked, soundRow, soundFree, soundSingle, soundRuled, soundCounted, soundExtended, samePair, soundTwice, soundBy, soundWord, soundWords, soundSteps}
 use Rattle.layouts.specs.Read.{rowsAt, partAt, legal, partSound, partsLegal, chain, listShape, shapeOf, wholeSize, rowSound}
 use Rattle.layouts.specs.Tables.{groupAt, layoutAt, nowhere, profileRows, placeRowAt}
 use Rattle.items.proofs.CheckLaws.{Single, single-is, single-size, single-sound, single-legal, free-of, free-there, check-whole, check-place}
@@ -156,37 +156,37 @@ cut c u h =
     let e : 64 - u + u ≡ 64 = omega arith in
     ap (λ x. c * 2 ^ u % 2 ^ x / 2 ^ u) (sym e) ∙ field (c * 2 ^ u) (64 - u) u ∙ ap (λ x. x % 2 ^ (64 - u)) (shl-shr c u)
 
--- a row, read from its two words
-pub row-asked : (t : List ℕ) (i n : ℕ) {a b : ℕ} → a ≡ getD t (72 + i) 0 → b ≡ getD t (88 + i) 0
-    → leb ((n / 2 ^ (a / 16_777_216 % 64) + a % 16_777_216) * 2 ^ (b / 16_777_216 % 64) % 2 ^ 64 / 2 ^ (b / 16_777_216 % 64)) (b % 16_777_216) ≡ asked t i n
-unfolding asked downAt addedAt upAt limitAt
-row-asked t i n {a} {b} ea eb = rw (cut (n / 2 ^ (a / 16_777_216 % 64) + a % 16_777_216) (b / 16_777_216 % 64) (omega arith), ea, eb)
+-- a rule, by its two words
+pub rule-asks : (low high n : ℕ)
+    → leb ((n / 2 ^ (low / 16_777_216 % 64) + low % 16_777_216) * 2 ^ (high / 16_777_216 % 64) % 2 ^ 64 / 2 ^ (high / 16_777_216 % 64)) (high % 16_777_216) ≡ asks low high n
+unfolding asks downOf addedOf upOf limitOf
+rule-asks low high n = rw (cut (n / 2 ^ (low / 16_777_216 % 64) + low % 16_777_216) (high / 16_777_216 % 64) (omega arith))
 
 -- what was asked of the number of the first three octets
-pub asked-first : (t : List ℕ) (i : ℕ) (bs : List ℕ) {n : ℕ} {b : Bool} → n ≡ firstThree bs → b ≡ asked t i n → b ≡ true → asked t i (firstThree bs) ≡ true
-asked-first t i bs en eb h = ap (asked t i) (sym en) ∙ sym eb ∙ h
+pub asked-first : (low high : ℕ) (bs : List ℕ) {n : ℕ} {b : Bool} → n ≡ firstThree bs → b ≡ asks low high n → b ≡ true → asks low high (firstThree bs) ≡ true
+asked-first low high bs en eb h = ap (asks low high) (sym en) ∙ sym eb ∙ h
 
-module _ (t : List ℕ) (i step size : ℕ) (bs : List ℕ) (o : Octets bs) (l : size ≤ length bs) where
+module _ (low high step size : ℕ) (bs : List ℕ) (o : Octets bs) (l : size ≤ length bs) where
   -- it asks of the first three octets what the rule asks of the part
-  asked-rule : (r : Rule) → sameRule t i step size r ≡ true → asked t i (firstThree bs) ≡ obeys r (joined (take size bs) / 2 ^ step)
-  unfolding asked obeys
+  asked-rule : (r : Rule) → sameRule low high step size r ≡ true → asks low high (firstThree bs) ≡ obeys r (joined (take size bs) / 2 ^ step)
+  unfolding asks obeys
   asked-rule r s =
-      let a = eqb (downAt t i + 8 * size) (r .shift + step + 24) in
-      let b = eqb (addedAt t i) (r .added) in
-      let c = eqb (upAt t i + r .width) 64 in
-      let d = eqb (limitAt t i) (r .limit) in
+      let a = eqb (downOf low + 8 * size) (r .shift + step + 24) in
+      let b = eqb (addedOf low) (r .added) in
+      let c = eqb (upOf high + r .width) 64 in
+      let d = eqb (limitOf high) (r .limit) in
       let u : a && b && c ≡ true = both-left (a && b && c) d s in
       let v : a && b ≡ true = both-left (a && b) c u in
-      let ea : downAt t i + 8 * size ≡ step + r .shift + 24 = omega (arith, eqb-true (downAt t i + 8 * size) (r .shift + step + 24) (both-left a b v)) in
-      let eb : addedAt t i ≡ r .added = eqb-true _ _ (both-right a b v) in
-      let ec : 64 - upAt t i ≡ r .width = omega (arith, eqb-true (upAt t i + r .width) 64 (both-right (a && b) c u)) in
-      let ed : limitAt t i ≡ r .limit = eqb-true _ _ (both-right (a && b && c) d s) in
-      let ee : firstThree bs / 2 ^ downAt t i ≡ joined (take size bs) / 2 ^ step / 2 ^ r .shift =
-      ap (λ x. x / 2 ^ downAt t i) (three bs) ∙ sym (highest bs o size (step + r .shift) (downAt t i) ea) ∙ ap (λ x. x / 2 ^ (step + r .shift)) (upTo-joined bs size l)
+      let ea : downOf low + 8 * size ≡ step + r .shift + 24 = omega (arith, eqb-true (downOf low + 8 * size) (r .shift + step + 24) (both-left a b v)) in
+      let eb : addedOf low ≡ r .added = eqb-true _ _ (both-right a b v) in
+      let ec : 64 - upOf high ≡ r .width = omega (arith, eqb-true (upOf high + r .width) 64 (both-right (a && b) c u)) in
+      let ed : limitOf high ≡ r .limit = eqb-true _ _ (both-right (a && b && c) d s) in
+      let ee : firstThree bs / 2 ^ downOf low ≡ joined (take size bs) / 2 ^ step / 2 ^ r .shift =
+      ap (λ x. x / 2 ^ downOf low) (three bs) ∙ sym (highest bs o size (step + r .shift) (downOf low) ea) ∙ ap (λ x. x / 2 ^ (step + r .shift)) (upTo-joined bs size l)
       ∙ sym (shr-shr (joined (take size bs)) step (r .shift)) in
       rw (ee, eb, ec, ed)
 
-  asked-rules : (rs : List Rule) → sameRules t i step size rs ≡ true → asked t i (firstThree bs) ≡ true → allObeyed rs (joined (take size bs) / 2 ^ step) ≡ true
+  asked-rules : (rs : List Rule) → sameRules low high step size rs ≡ true → asks low high (firstThree bs) ≡ true → allObeyed rs (joined (take size bs) / 2 ^ step) ≡ true
   asked-rules [] s h = refl
   asked-rules (r ∷ []) s h = rw (sym (asked-rule r s) ∙ h)
   asked-rules (r ∷ (q ∷ rs)) s h = absurd (false≢true s)
@@ -196,7 +196,9 @@ asked-pair : (t : List ℕ) (i j size : ℕ) (bs : List ℕ) → Octets bs → s
 asked-pair t i j size bs o l [] s h k = absurd (false≢true s)
 asked-pair t i j size bs o l (r ∷ []) s h k = absurd (false≢true s)
 asked-pair t i j size bs o l (r ∷ (q ∷ [])) s h k =
-    rw (sym (asked-rule t i 0 size bs o l r (both-left (sameRule t i 0 size r) (sameRule t j 0 size q) s)) ∙ h, sym (asked-rule t j 0 size bs o l q (both-right (sameRule t i 0 size r) (sameRule t j 0 size q) s)) ∙ k)
+    let a = sameRule (lowAt t i) (highAt t i) 0 size r in
+    let b = sameRule (lowAt t j) (highAt t j) 0 size q in
+    rw (sym (asked-rule (lowAt t i) (highAt t i) 0 size bs o l r (both-left a b s)) ∙ h, sym (asked-rule (lowAt t j) (highAt t j) 0 size bs o l q (both-right a b s)) ∙ k)
 asked-pair t i j size bs o l (r ∷ (q ∷ (p ∷ rs))) s h k = absurd (false≢true s)
 
 -- a part by its group, whose rules it obeys
@@ -204,10 +206,10 @@ obeyed-legal : (step g : ℕ) (bs : List ℕ) → Octets bs → g < 52 → partS
     → allObeyed (slice (firstRule g) (firstRule (g + 1)) rules) (joined (take (groupAt g .0) bs) / 2 ^ step) ≡ true → legal (rowsAt g) (partAt step g bs) ≡ true
 obeyed-legal step g bs o h p l e = sym (part-ruled step g 0 bs o h p (omega arith) refl refl refl refl (sym e))
 
-asked-legal : (t : List ℕ) (i step g : ℕ) (bs : List ℕ) → Octets bs → g < 52 → partSound step (groupAt g) ≡ true → groupAt g .0 ≤ length bs
-    → soundRow t i step g ≡ true → asked t i (firstThree bs) ≡ true → legal (rowsAt g) (partAt step g bs) ≡ true
-unfolding soundRow
-asked-legal t i step g bs o h p l s e = obeyed-legal step g bs o h p l (asked-rules t i step (groupAt g .0) bs o l (slice (firstRule g) (firstRule (g + 1)) rules) s e)
+asked-legal : (low high step g : ℕ) (bs : List ℕ) → Octets bs → g < 52 → partSound step (groupAt g) ≡ true → groupAt g .0 ≤ length bs
+    → soundRule low high step g ≡ true → asks low high (firstThree bs) ≡ true → legal (rowsAt g) (partAt step g bs) ≡ true
+unfolding soundRule
+asked-legal low high step g bs o h p l s e = obeyed-legal step g bs o h p l (asked-rules low high step (groupAt g .0) bs o l (slice (firstRule g) (firstRule (g + 1)) rules) s e)
 
 -- ---- one part with a rule, or two
 
@@ -224,9 +226,9 @@ module _ (l : LayoutRow) (w : ℕ) (bs : List ℕ) (r : rowSound l ≡ true) (o 
       let p = single-sound l (l .3) r g in
       plainly (w % 16) (single-legal (l .3) bs m h (sym (f (p .0) (p .1) (omega arith) (both-right (a && b) c s))) refl ∙ single-size l (l .3) bs g)
 
-  pub ruled-told : (t : List ℕ) → soundRuled t w l ≡ true → asked t (w / 4_096 % 16) (firstThree bs) ≡ true → Plainly (w % 16) (wholeSize l bs)
-  unfolding soundRuled
-  ruled-told t s e = single-told (soundRow t (w / 4_096 % 16) 0 (l .3)) s (λ p q k d. asked-legal t (w / 4_096 % 16) 0 (l .3) bs o p q k d e)
+  pub ruled-told : (low high : ℕ) → soundSingle low high w l ≡ true → asks low high (firstThree bs) ≡ true → Plainly (w % 16) (wholeSize l bs)
+  unfolding soundSingle
+  ruled-told low high s e = single-told (soundRule low high 0 (l .3)) s (λ p q k d. asked-legal low high 0 (l .3) bs o p q k d e)
 
   pub twice-told : (t : List ℕ) → soundTwice t w l ≡ true → asked t (w / 4_096 % 16) (firstThree bs) ≡ true → asked t ((w / 4_096 + 1) % 16) (firstThree bs) ≡ true
       → Plainly (w % 16) (wholeSize l bs)
@@ -338,7 +340,7 @@ module _ (t : List ℕ) (l : LayoutRow) (w : ℕ) (bs : List ℕ) (r : rowSound 
   first-legal : legal (rowsAt (l .3)) (partAt 1 (l .3) bs) ≡ true
   first-legal =
       let g = chain-group (l .3) (l .4) bs (l .3) 0 0 begun more (x .one) in
-      asked-legal t (w / 4_096 % 16) 1 (l .3) bs o (g .inside) (g .sound) (omega (arith, x .one)) (x .first) e
+      asked-legal (lowAt t (w / 4_096 % 16)) (highAt t (w / 4_096 % 16)) 1 (l .3) bs o (g .inside) (g .sound) (omega (arith, x .one)) (x .first) e
 
   extended-whole : (c long : ℕ) → ok (c, long) ≡ chain (l .3) (l .4 - l .3) bs → partsLegal 1 (l .3) c bs ≡ true → wholeSize l bs ≡ ok long
   extended-whole c long q p = sym (check-whole l bs c long (chain-legal l bs c long (sym (q ∙ chain-shape l bs (x .kind))) r o (x .kind) refl p))
@@ -357,7 +359,7 @@ module _ (t : List ℕ) (l : LayoutRow) (w : ℕ) (bs : List ℕ) (r : rowSound 
     second-legal : legal (rowsAt (l .3 + 1)) (partAt 1 (l .3 + 1) (drop 1 bs)) ≡ true
     second-legal =
         let g = chain-group (l .3) (l .4) bs (l .3 + 1) 1 1 next last (x .two) in
-        asked-legal t ((w / 4_096 + 1) % 16) 1 (l .3 + 1) (drop 1 bs) (octets-drop 1 bs o) (g .inside) (g .sound) (omega (arith, x .two, length-drop 1 bs)) (x .second) q
+        asked-legal (lowAt t ((w / 4_096 + 1) % 16)) (highAt t ((w / 4_096 + 1) % 16)) 1 (l .3 + 1) (drop 1 bs) (octets-drop 1 bs o) (g .inside) (g .sound) (omega (arith, x .two, length-drop 1 bs)) (x .second) q
 
     pub extended-two : getD bs 1 0 % 2 ≡ 0 → wholeSize l bs ≡ ok 2
     unfolding partsLegal

@@ -24,35 +24,48 @@ Plainly (suc n) a = a ≡ ok (suc n)
 unfoldable pub firstThree : List ℕ → ℕ
 firstThree bs = getD bs 0 0 * 65_536 + getD bs 1 0 * 256 + getD bs 2 0
 
--- a row has two words: how many bits stand below the field, and what is added to its code; how many bits of 64 it has not, and the limit
-unfoldable pub downAt : List ℕ → ℕ → ℕ
-downAt t i = getD t (72 + i) 0 / 16_777_216 % 64
+-- a rule has two words: how many bits stand below the field, and what is added to its code; how many bits of 64 it has not, and the limit
+unfoldable pub downOf : ℕ → ℕ
+downOf low = low / 16_777_216 % 64
 
-unfoldable pub addedAt : List ℕ → ℕ → ℕ
-addedAt t i = getD t (72 + i) 0 % 16_777_216
+unfoldable pub addedOf : ℕ → ℕ
+addedOf low = low % 16_777_216
 
-unfoldable pub upAt : List ℕ → ℕ → ℕ
-upAt t i = getD t (88 + i) 0 / 16_777_216 % 64
+unfoldable pub upOf : ℕ → ℕ
+upOf high = high / 16_777_216 % 64
 
-unfoldable pub limitAt : List ℕ → ℕ → ℕ
-limitAt t i = getD t (88 + i) 0 % 16_777_216
+unfoldable pub limitOf : ℕ → ℕ
+limitOf high = high % 16_777_216
 
-unfoldable pub asked : List ℕ → ℕ → ℕ → Bool
-asked t i n = leb ((n / 2 ^ downAt t i + addedAt t i) % 2 ^ (64 - upAt t i)) (limitAt t i)
+unfoldable pub asks : ℕ → ℕ → ℕ → Bool
+asks low high n = leb ((n / 2 ^ downOf low + addedOf low) % 2 ^ (64 - upOf high)) (limitOf high)
 
--- a row asks what a rule does of a part of so many octets, of which `step` bits are no field's
-abbrev pub sameRule : List ℕ → ℕ → ℕ → ℕ → Rule → Bool
-sameRule t i step size r =
-    eqb (downAt t i + 8 * size) (r .shift + step + 24) && eqb (addedAt t i) (r .added) && eqb (upAt t i + r .width) 64 && eqb (limitAt t i) (r .limit)
+-- it asks what a rule does of a part of so many octets, of which `step` bits are no field's
+abbrev pub sameRule : ℕ → ℕ → ℕ → ℕ → Rule → Bool
+sameRule low high step size r =
+    eqb (downOf low + 8 * size) (r .shift + step + 24) && eqb (addedOf low) (r .added) && eqb (upOf high + r .width) 64 && eqb (limitOf high) (r .limit)
 
--- a row asks all that a group does, which has one rule or none
-abbrev pub sameRules : List ℕ → ℕ → ℕ → ℕ → List Rule → Bool
-sameRules t i step size [] = true
-sameRules t i step size (r ∷ []) = sameRule t i step size r
-sameRules t i step size (r ∷ (q ∷ rs)) = false
+-- it asks all that a group does, which has one rule or none
+abbrev pub sameRules : ℕ → ℕ → ℕ → ℕ → List Rule → Bool
+sameRules low high step size [] = true
+sameRules low high step size (r ∷ []) = sameRule low high step size r
+sameRules low high step size (r ∷ (q ∷ rs)) = false
 
-unfoldable pub soundRow : List ℕ → ℕ → ℕ → ℕ → Bool
-soundRow t i step g = sameRules t i step (groupAt g .0) (slice (firstRule g) (firstRule (g + 1)) rules)
+unfoldable pub soundRule : ℕ → ℕ → ℕ → ℕ → Bool
+soundRule low high step g = sameRules low high step (groupAt g .0) (slice (firstRule g) (firstRule (g + 1)) rules)
+
+-- the rules of the table, 16 of them
+abbrev pub lowAt : List ℕ → ℕ → ℕ
+lowAt t i = getD t (72 + i) 0
+
+abbrev pub highAt : List ℕ → ℕ → ℕ
+highAt t i = getD t (88 + i) 0
+
+abbrev pub asked : List ℕ → ℕ → ℕ → Bool
+asked t i n = asks (lowAt t i) (highAt t i) n
+
+abbrev pub soundRow : List ℕ → ℕ → ℕ → ℕ → Bool
+soundRow t i step g = soundRule (lowAt t i) (highAt t i) step g
 
 -- ---- words: four digits, of 16 each
 
@@ -61,8 +74,11 @@ abbrev pub soundFree : ℕ → LayoutRow → Bool
 soundFree w l = cond (eqb w 0) true (eqb w (singleOf l))
 
 -- one part with a rule: the rule's row, 1, 0, its octets
-unfoldable pub soundRuled : List ℕ → ℕ → LayoutRow → Bool
-soundRuled t w l = eqb (l .0) 1 && eqb (groupAt (l .3) .0) (w % 16) && soundRow t (w / 4_096 % 16) 0 (l .3)
+unfoldable pub soundSingle : ℕ → ℕ → ℕ → LayoutRow → Bool
+soundSingle low high w l = eqb (l .0) 1 && eqb (groupAt (l .3) .0) (w % 16) && soundRule low high 0 (l .3)
+
+abbrev pub soundRuled : List ℕ → ℕ → LayoutRow → Bool
+soundRuled t w l = soundSingle (lowAt t (w / 4_096 % 16)) (highAt t (w / 4_096 % 16)) w l
 
 -- a list of free parts: its least count, 2, the octets of a part, 1; a led item: its least length, 2, 1, 0
 unfoldable pub soundCounted : ℕ → LayoutRow → Bool
@@ -82,7 +98,7 @@ soundExtended t w l =
 abbrev pub samePair : List ℕ → ℕ → ℕ → ℕ → List Rule → Bool
 samePair t i j size [] = false
 samePair t i j size (r ∷ []) = false
-samePair t i j size (r ∷ (q ∷ [])) = sameRule t i 0 size r && sameRule t j 0 size q
+samePair t i j size (r ∷ (q ∷ [])) = sameRule (lowAt t i) (highAt t i) 0 size r && sameRule (lowAt t j) (highAt t j) 0 size q
 samePair t i j size (r ∷ (q ∷ (p ∷ rs))) = false
 
 -- one part with two rules: the row of the first rule, which that of the second follows, 4, 0, its octets

@@ -5,7 +5,7 @@ ghost use mathlib.Core.Bool.{true};
 ghost use Prim.Native.Nat.{_≤_, _<_, _^_};
 ghost use lib.ListN.{length, getD};
 ghost use Rattle.items.specs.Answers.{checkAt};
-ghost use Rattle.plain.specs.Item.{Plainly, firstThree, asked, soundFree, soundRuled, soundCounted, soundExtended, soundTwice, soundSteps};
+ghost use Rattle.plain.specs.Item.{Plainly, firstThree, asks, asked, soundFree, soundRuled, soundCounted, soundExtended, soundTwice, soundSteps};
 ghost use Rattle.layouts.specs.Read.{wholeSize};
 ghost use Rattle.layouts.specs.Tables.{layoutAt, placeRowAt};
 
@@ -180,16 +180,22 @@ fn first_three(part: &[u8]) -> usize
     two + octet(part[2])
 }
 
-// Whether a number of three octets obeys the rule at a row.
+// Whether a number of three octets obeys a rule, given by its two words.
+pub fn is_kept(low: usize, high: usize, n: usize) -> bool
+    requires { ⌜ n < 2 ^ 24 ⌝ }
+    ensures { λ r. ⌜ r ≡ asks low high n ⌝ }
+{
+    let up = high / 0x100_0000 % 64;
+    let code = (n >> (low / 0x100_0000 % 64)) + low % 0x100_0000;
+    code << up >> up <= high % 0x100_0000
+}
+
+// The same, of the rule at a row.
 fn is_asked(t: &Steps, rule: usize, n: usize) -> bool
     requires { ⌜ (rule < 16) × (n < 2 ^ 24) ⌝ }
     ensures { λ r. ⌜ r ≡ asked (now (t .entry)) rule n ⌝ }
 {
-    let low = word_at(t, 72 + rule);
-    let high = word_at(t, 88 + rule);
-    let up = high / 0x100_0000 % 64;
-    let code = (n >> (low / 0x100_0000 % 64)) + low % 0x100_0000;
-    code << up >> up <= high % 0x100_0000
+    is_kept(word_at(t, 72 + rule), word_at(t, 88 + rule), n)
 }
 
 // ---- an item by the word of its place

@@ -22,7 +22,7 @@ is-asked-requires c κs = search needs
 returns-2 : tie.Need-returns-2
 returns-2 c =
     ruled-told _ _ _ (layout-sound _ (place-row _)) (octets-known (c .before .before .before .before .before .before .args .part .now) (λ i. omega (arith, c .before .before .before .before .before .shared-slice-known .given i))) (c .before .before .before .if1 .left)
-    (c .before .before .before .before .before .before .args .t .now) (rw (c .before .before .before .before .word-at .ensures) (c .before .before .before .before .before .before .pre .2)) (asked-first _ _ _ (c .before .before .first-three .ensures .0) (c .before .is-asked .ensures) (c .if2 .taken))
+    _ _ (rw (c .before .before .before .before .word-at .ensures) (c .before .before .before .before .before .before .pre .2)) (asked-first _ _ _ (c .before .before .first-three .ensures .0) (c .before .is-asked .ensures) (c .if2 .taken))
 
 returns-3 : tie.Need-returns-3
 returns-3 c = search needs

@@ -4,13 +4,13 @@ use Rattle.rules.specs.Entry.{categories}
 use Rattle.rules.specs.Category017.{category017}
 use Rattle.rules.specs.Category018.{category018}
 use Rattle.layouts.specs.FieldRules.{rules, firstRule}
-use Rattle.plain.specs.Item.{downAt, addedAt, upAt, limitAt, soundRow, soundRuled, soundCounted, soundExtended, soundTwice, soundWord, soundWords, soundSteps}
+use Rattle.plain.specs.Item.{downOf, addedOf, upOf, limitOf, soundRule, soundSingle, soundCounted, soundExtended, soundTwice, soundWord, soundWords, soundSteps}
 use Rattle.layouts.specs.Tables.{groups, layouts, groupAt, layoutAt}
 use Rattle.plain.proofs.item.steps.Statement.{statement}
 use Rattle.plain.proofs.item.steps.Tie as tie
 
 returns : tie.Need-returns
-unfolding downAt addedAt upAt limitAt soundRow soundRuled soundCounted soundExtended soundTwice soundWord soundWords soundSteps firstRule rules groupAt layoutAt groups layouts categories category017 category018
+unfolding downOf addedOf upOf limitOf soundRule soundSingle soundCounted soundExtended soundTwice soundWord soundWords soundSteps firstRule rules groupAt layoutAt groups layouts categories category017 category018
 returns c = refl
 
 pub steps-spec : {M : Type 1} → statement M
