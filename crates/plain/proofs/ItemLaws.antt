@@ -114,7 +114,7 @@ all-three bs (ea, ka) (eb, kb) (ec, kc) = (omega arith, omega arith)
 pub three-on : (bs : List ℕ) {n : ℕ} → n ≡ firstThree (take (length bs - 1) (drop 1 bs)) → n ≡ firstThree (drop 1 bs)
 three-on bs e = e ∙ ap firstThree (take-all (length bs - 1) (drop 1 bs) (rw length-drop (omega arith)))
 
-octet-at : (bs : List ℕ) → Octets bs → (i : ℕ) → getD bs i 0 < 256
+pub octet-at : (bs : List ℕ) → Octets bs → (i : ℕ) → getD bs i 0 < 256
 octet-at [] o i = lit< tt
 octet-at (b ∷ bs) o zero = o .0
 octet-at (b ∷ bs) o (suc i) = octet-at bs (o .1) i
@@ -151,7 +151,7 @@ pub sum-small : (n d a : ℕ) → n < 2 ^ 24 → n / 2 ^ d + a % 16_777_216 < 2 
 sum-small n d a h = let s : n / 2 ^ d ≤ n = shr-le n d in omega arith
 
 -- bits are cut off by a move up and down
-cut : (c u : ℕ) → u < 64 → c * 2 ^ u % 2 ^ 64 / 2 ^ u ≡ c % 2 ^ (64 - u)
+pub cut : (c u : ℕ) → u < 64 → c * 2 ^ u % 2 ^ 64 / 2 ^ u ≡ c % 2 ^ (64 - u)
 cut c u h =
     let e : 64 - u + u ≡ 64 = omega arith in
     ap (λ x. c * 2 ^ u % 2 ^ x / 2 ^ u) (sym e) ∙ field (c * 2 ^ u) (64 - u) u ∙ ap (λ x. x % 2 ^ (64 - u)) (shl-shr c u)

@@ -47,7 +47,7 @@ use Rattle.records.proofs.RecordLaws.{record-law, record-read, RecordRead}
 
 -- ---- the tables
 
-all-below : (n : ℕ) (p : ℕ → Bool) (j : ℕ) → allBelow n p ≡ true → j < n → p j ≡ true
+pub all-below : (n : ℕ) (p : ℕ → Bool) (j : ℕ) → allBelow n p ≡ true → j < n → p j ≡ true
 all-below zero p j h l = absurd (omega arith)
 all-below (suc n) p j h l =
     ⊎-elim
@@ -55,7 +55,7 @@ all-below (suc n) p j h l =
     (λ (k : j < n). all-below n p j (both-right (p n) (allBelow n p) h) k)
     (le-or-lt n j)
 
-other : (a b : Bool) → a || b ≡ true → (a ≡ true → ⊥) → b ≡ true
+pub other : (a b : Bool) → a || b ≡ true → (a ≡ true → ⊥) → b ≡ true
 other true b h n = absurd (n refl)
 other false b h n = h
 
@@ -127,7 +127,7 @@ tell (suc n) a h = h
 
 -- ---- flags that are not set
 
-blank : (i j m f left : ℕ) (bs : List ℕ) (w : Came) → left < 2 ^ m → walk i (flags (j + m) left) f bs w ≡ walk i (flags m left) (f + j) bs w
+pub blank : (i j m f left : ℕ) (bs : List ℕ) (w : Came) → left < 2 ^ m → walk i (flags (j + m) left) f bs w ≡ walk i (flags m left) (f + j) bs w
 unfolding walk flags
 blank i zero m f left bs w h = ap₂ (λ x y. walk i (flags x left) y bs w) (zero-add m) (sym (add-zero f))
 blank i (suc j) m f left bs w h =
@@ -140,24 +140,24 @@ blank i (suc j) m f left bs w h =
 
 -- ---- one item, and items that are free
 
-one : (i f n : ℕ) (ts : List Bool) (bs : List ℕ) (w : Came) → checkAt i f bs ≡ ok n → walk i (true ∷ ts) f bs w ≡ walk i ts (f + 1) (drop n bs) (passed i f n (take n bs) w)
+pub one : (i f n : ℕ) (ts : List Bool) (bs : List ℕ) (w : Came) → checkAt i f bs ≡ ok n → walk i (true ∷ ts) f bs w ≡ walk i ts (f + 1) (drop n bs) (passed i f n (take n bs) w)
 unfolding walk
 one i f n ts bs w c = bind-in _ (later-in (w .here) c) refl
 
-none-here : (i f : ℕ) (ts : List Bool) (bs : List ℕ) (w : Came) → walk i (false ∷ ts) f bs w ≡ walk i ts (f + 1) bs w
+pub none-here : (i f : ℕ) (ts : List Bool) (bs : List ℕ) (w : Came) → walk i (false ∷ ts) f bs w ≡ walk i ts (f + 1) bs w
 unfolding walk
 none-here i f ts bs w = refl
 
 -- an item after the message type item leaves the type as it is
-kind-stays : (i f n : ℕ) (item : List ℕ) (w : Came) → i < 2 → 3 < f → passed i f n item w .kind ≡ w .kind
+pub kind-stays : (i f n : ℕ) (item : List ℕ) (w : Came) → i < 2 → 3 < f → passed i f n item w .kind ≡ w .kind
 unfolding if_then_else_
 kind-stays i f n item w h k = rw (← type-three i h, ne-eqb f 3 (λ e. omega arith))
 
-record Skipped (i f t : ℕ) (us : List Bool) (bs : List ℕ) (w : Came) (a : Answer Came) : Type 0 where
-  came : Came
-  walks : a ≡ walk i us f (drop t bs) came
-  here : came .here ≡ w .here + t
-  kind : came .kind ≡ w .kind
+pub record Skipped (i f t : ℕ) (us : List Bool) (bs : List ℕ) (w : Came) (a : Answer Came) : Type 0 where
+  pub came : Came
+  pub walks : a ≡ walk i us f (drop t bs) came
+  pub here : came .here ≡ w .here + t
+  pub kind : came .kind ≡ w .kind
 
 skip-free : (i f : ℕ) (ts us : List Bool) (bs : List ℕ) (w : Came) → i < 2 → 3 < f → f + length ts ≤ 36 → Octets bs → allFree i f ts ≡ true → freeSum i f ts ≤ length bs
     → Skipped i (f + length ts) (freeSum i f ts) us bs w (walk i (ts ++ us) f bs w)
@@ -190,10 +190,10 @@ free-one (suc zero) h = (refl, refl, refl)
 free-one (suc (suc i)) h = absurd (omega arith)
 
 module _ (i : ℕ) (us : List Bool) (bs : List ℕ) (k : ℕ) (h : i < 2) (o : Octets bs) (b : 5 ≤ length bs) where
-  abbrev third : Came
+  abbrev pub third : Came
   third = passed i 3 1 (take 1 (drop 4 bs)) (passed i 2 2 (take 2 (drop 2 bs)) (passed i 1 2 (take 2 bs) (startAt k)))
 
-  first-three : walk i (true ∷ true ∷ true ∷ us) 1 bs (startAt k) ≡ walk i us 4 (drop 5 bs) third
+  pub first-three : walk i (true ∷ true ∷ true ∷ us) 1 bs (startAt k) ≡ walk i us 4 (drop 5 bs) third
   first-three =
       let a : checkAt i 1 bs ≡ ok 2 = free-check i 1 2 bs h (omega arith) o (free-one i h .0) (omega arith) (omega arith) (omega arith) in
       let c : checkAt i 2 (drop 2 bs) ≡ ok 2 = free-check i 2 2 (drop 2 bs) h (omega arith) (octets-drop 2 bs o) (free-one i h .1) (omega arith) (omega arith) (omega (arith, length-drop 2 bs)) in
@@ -204,10 +204,10 @@ module _ (i : ℕ) (us : List Bool) (bs : List ℕ) (k : ℕ) (h : i < 2) (o : O
       ∙ one i 3 1 us (drop 4 bs) (passed i 2 2 (take 2 (drop 2 bs)) (passed i 1 2 (take 2 bs) (startAt k))) d
       ∙ ap (λ l. walk i us 4 l third) (drop-drop 1 4 bs)
 
-  third-here : third .here ≡ k + 5
+  pub third-here : third .here ≡ k + 5
   third-here = omega arith
 
-  third-kind : third .kind ≡ getD bs 4 0
+  pub third-kind : third .kind ≡ getD bs 4 0
   unfolding if_then_else_
   third-kind = rw (← type-three i h) (first (drop 4 bs) ∙ getD-drop 4 bs 0 0)
     where
@@ -324,7 +324,7 @@ module _ (i bits : ℕ) (part : List ℕ) (h : i < 2) (o : Octets part) (b : bit
   bits-below : bits < 2 ^ (3 + 60)
   bits-below = omega arith
 
-  seven : flags 63 bits ≡ true ∷ true ∷ true ∷ flags 60 (bits % 2 ^ 60)
+  pub seven : flags 63 bits ≡ true ∷ true ∷ true ∷ flags 60 (bits % 2 ^ 60)
   unfolding flags
   seven = flags-split 3 60 bits bits-below ∙ ap (λ x. flags 3 x ++ flags 60 (bits % 2 ^ 60)) b
 

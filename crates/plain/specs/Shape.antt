@@ -1,6 +1,7 @@
 -- Shapes: FSPECs that legal records mostly have, with what each says of the octets after it. A row of the table says nothing that the rules do not
 -- have. Assumes nothing.
-use Prim.Native.Nat.{ℕ, zero, suc, _+_, _-_, _*_, _/_, _%_, _^_}
+use Prim.Native.Nat.{ℕ, zero, suc, _+_, _-_, _*_, _/_, _%_, _^_, _≤_, _<_}
+use mathlib.Core.Path.{_≡_}
 use mathlib.Core.Bool.{Bool, true, false, cond, _&&_, _||_}
 use mathlib.Core.List.{List, [], _∷_}
 use lib.Dec.{leb, ltb, eqb}
@@ -10,8 +11,8 @@ use Rattle.rules.specs.Presence.{flags, number}
 use Rattle.layouts.specs.declared.tables.LayoutRow.{LayoutRow}
 use Rattle.layouts.specs.Tables.{layoutAt, placeRowAt}
 use Rattle.records.specs.Sets.{categoryAt, within}
-use Rattle.records.specs.Walk.{setFrom}
-use Rattle.plain.specs.Item.{soundSingle, soundCounted}
+use Rattle.records.specs.Walk.{setFrom, rowAt}
+use Rattle.plain.specs.Item.{firstThree, asks, soundSingle, soundCounted}
 use Rattle.plain.specs.Record.{allBelow, typeSets, free}
 
 -- ---- octets as a number, the first one lowest
@@ -109,3 +110,29 @@ soundShapeAt t k = soundShape (getD t (72 + 4 * k) 0) (getD t (73 + 4 * k) 0) (g
 
 unfoldable pub soundSets : List ℕ → Bool
 soundSets t = allBelow 72 (λ k. eqb (getD t k 0) (getD typeSets k 0)) && allBelow 64 (soundShapeAt t)
+
+-- ---- what the answers tell
+
+-- the octets of a record as far as its shape goes: by the item that is looked into, its word and its rule
+pub record Front (a w rule : ℕ) (bs : List ℕ) (n : ℕ) : Type 0 where
+  pub there : startOf a + 3 ≤ length bs
+  pub size : n ≡ startOf a + w % 16 + getD bs (startOf a) 0 * (w / 16 % 16) + tailOf a
+  pub fits : n ≤ length bs
+  pub least : w / 4_096 % 16 ≤ getD bs (startOf a) 0
+  pub kept : asks rule (rule / 2 ^ 32) (firstThree (drop (startOf a) bs)) ≡ true
+
+-- 0 tells nothing
+abbrev pub Fronts : ℕ → ℕ → ℕ → List ℕ → ℕ → Type 0
+Fronts a w rule bs zero = Unit {0}
+Fronts a w rule bs (suc n) = Front a w rule bs (suc n)
+
+-- the row of a message type is among some, given by bits
+pub record Listed (i types kind : ℕ) : Type 0 where
+  pub row : ℕ
+  pub few : row < 36
+  pub there : types / 2 ^ row % 2 ≡ 1
+  pub is : (row ≡ 0 → ⊥) → rowAt i kind ≡ ok (getD typeSets (2 * row) 0, getD typeSets (2 * row + 1) 0)
+
+abbrev pub OfType : Bool → ℕ → ℕ → ℕ → Type 0
+OfType false i types kind = Unit {0}
+OfType true i types kind = Listed i types kind

@@ -1,0 +1,398 @@
+-- A record of a known shape is legal: its FSPEC, its message type, and its items as far as the shape goes.
+--
+-- In order: octets as a number; the FSPEC; the message type; the item that is looked into; runs of free items; the walk; the record. Assumes nothing.
+use Prim.Native.Nat.{ℕ, zero, suc, _+_, _-_, _*_, _/_, _%_, _^_, _≤_, _<_}
+use mathlib.Core.Path.{_≡_, refl, sym, ap, ap₂, _∙_, subst}
+use mathlib.Core.Bool.{Bool, true, false, cond, _&&_, _||_, false≢true}
+use mathlib.Core.List.{List, [], _∷_, _++_}
+use native.Mathlib.Omega.{arith}
+use native.Mathlib.Nat.{add-zero, add-assoc, mul-zero, mul-le-mul-right}
+use lib.Dec.{leb, ltb, eqb}
+use lib.ListN.{length, take, drop, getD, length-drop, take-append-drop}
+use lib.Seq.{drop-drop, getD-drop}
+use lib.Pow.{field, mod-mod-pow}
+use mir.Syntax.{w8}
+use mir.Val.{Fits}
+use borrow.Author.Tests.{leb-true, ltb-true, eqb-true, eq-eqb}
+use Rattle.rules.specs.Answer.{Answer, ok, refused, if_then_else_}
+use Rattle.rules.specs.Presence.{flags, number}
+use Rattle.rules.proofs.AnswerLaws.{ok-inj, refused-ok, both-left, both-right, Octets}
+use Rattle.rules.proofs.PresenceLaws.{flags-length, flags-number, number-lt}
+use Rattle.layouts.specs.declared.tables.LayoutRow.{LayoutRow}
+use Rattle.layouts.specs.Read.{wholeSize, rowSound}
+use Rattle.layouts.specs.Tables.{layoutAt, placeRowAt}
+use Rattle.layouts.proofs.ReadLaws.{octets-drop}
+use Rattle.layouts.proofs.TableLaws.{layout-sound, place-row}
+use Rattle.items.specs.Answers.{checkAt}
+use Rattle.items.proofs.CheckLaws.{check-place}
+use Rattle.records.specs.Sets.{categoryAt, setAt, within}
+use Rattle.records.specs.Walk.{Came, passed, walk, startAt, rowAt, judgeSet, ended, setFrom}
+use Rattle.records.specs.declared.ItemSet.{ItemSet}
+use Rattle.records.specs.declared.SetRead.the-variants as set
+use Rattle.records.proofs.SetLaws.{set-law, octets-all, to-end}
+use Rattle.records.proofs.WalkLaws.{walk-none}
+use Rattle.plain.specs.Item.{Plainly, firstThree, asks, soundSingle, soundCounted}
+use Rattle.plain.specs.Record.{allBelow, typeSets, free, Content, Goes, Later, Walks, Passed, endAt}
+use Rattle.plain.specs.Shape.{lowNumber, lowOctets, usedOf, startOf, tailOf, profileOf, typesOf, wordOf, soundType, soundMask, isFree, runSum, runLeft, soundSpecial, soundFirst, soundThen, soundItems, shapeBy, soundShape, soundShapeAt, soundSets, Front, Listed}
+use Rattle.plain.proofs.ItemLaws.{octet-at, cut, free-check, ruled-told, counted-told}
+use Rattle.plain.proofs.RecordLaws.{all-below, other, blank, one, none-here, kind-stays, Skipped, third, first-three, third-here, third-kind, seven, content, told, plain-whole}
+
+-- ---- octets as a number, the first one lowest
+
+low-octets : (n m : ℕ) (bs : List ℕ) → Octets bs → n ≤ m → m ≤ length bs → lowOctets n (lowNumber m bs) ≡ take n bs
+low-octets zero m bs o h l = refl
+low-octets (suc n) zero bs o h l = absurd (omega arith)
+low-octets (suc n) (suc m) [] o h l = absurd (omega arith)
+low-octets (suc n) (suc m) (b ∷ bs) o h l =
+    let e : (b + lowNumber m bs * 256) % 256 ≡ b = omega (arith, o .0) in
+    let d : (b + lowNumber m bs * 256) / 256 ≡ lowNumber m bs = omega (arith, o .0) in
+    ap₂ _∷_ e (ap (lowOctets n) d ∙ low-octets n m bs (o .1) (omega arith) (omega arith))
+
+same-octets : (n x y : ℕ) → x % 2 ^ (8 * n) ≡ y % 2 ^ (8 * n) → lowOctets n x ≡ lowOctets n y
+same-octets zero x y h = refl
+same-octets (suc n) x y h =
+    let e : 8 * suc n ≡ 8 * n + 8 = omega arith in
+    let g : x % 2 ^ (8 * n + 8) ≡ y % 2 ^ (8 * n + 8) = subst (λ k. x % 2 ^ k ≡ y % 2 ^ k) e h in
+    ap₂ _∷_ (sym (mod-mod-pow x (8 * n) 8) ∙ ap (λ k. k % 2 ^ 8) g ∙ mod-mod-pow y (8 * n) 8)
+    (same-octets n (x / 256) (y / 256) (sym (field x (8 * n) 8) ∙ ap (λ k. k / 2 ^ 8) g ∙ field y (8 * n) 8))
+
+-- numbers moved up are alike where their low octets are
+pub cut-same : (x y n : ℕ) → 0 < n → n ≤ 5 → x * 2 ^ (64 - 8 * n) % 2 ^ 64 ≡ y * 2 ^ (64 - 8 * n) % 2 ^ 64 → x % 2 ^ (8 * n) ≡ y % 2 ^ (8 * n)
+cut-same x y n h l e =
+    let u : ℕ = 64 - 8 * n in
+    let k : 64 - u ≡ 8 * n = omega arith in
+    subst (λ j. x % 2 ^ j ≡ y % 2 ^ j) k (sym (cut x u (omega arith)) ∙ ap (λ z. z / 2 ^ u) e ∙ cut y u (omega arith))
+
+-- ---- the FSPEC: what follows it changes nothing
+
+either : {A : Type 0} (t : Bool) (a : Answer A) {b c : Answer A} {r : A} → (b ≡ ok r → c ≡ ok r) → (if t then a else b) ≡ ok r → (if t then a else c) ≡ ok r
+unfolding if_then_else_
+either true a f h = h
+either false a f h = f h
+
+set-front : (i l : ℕ) (xs ys : List ℕ) (bits used : ℕ) (r : ℕ × ℕ) → setFrom i l xs bits used ≡ ok r → setFrom i l (xs ++ ys) bits used ≡ ok r
+unfolding setFrom
+set-front i zero xs ys bits used r h = h
+set-front i (suc l) [] ys bits used r h = refused-ok h
+set-front i (suc l) (x ∷ xs) ys bits used r h = either (eqb (x % 2) 0) (ended i x (bits + x / 2 * 2 ^ (56 - 7 * used)) (used + 1)) (set-front i l xs ys (bits + x / 2 * 2 ^ (56 - 7 * used)) (used + 1) r) h
+
+fspec-told : (i n a : ℕ) (bs : List ℕ) (r : ℕ × ℕ) → Octets bs → n ≤ 5 → 5 ≤ length bs → lowNumber 5 bs % 2 ^ (8 * n) ≡ a % 2 ^ (8 * n)
+    → setFrom i (length (categoryAt i .profile)) (lowOctets n a) 0 0 ≡ ok r → setAt i bs ≡ ok r
+fspec-told i n a bs r o l m e h =
+    let same : lowOctets n a ≡ take n bs = same-octets n a (lowNumber 5 bs) (sym e) ∙ low-octets n 5 bs o l m in
+    sym (set-law i bs o)
+    ∙ subst (λ xs. setFrom i (length (categoryAt i .profile)) xs 0 0 ≡ ok r) (ap (λ xs. xs ++ drop n bs) same ∙ take-append-drop n bs)
+    (set-front i (length (categoryAt i .profile)) (lowOctets n a) (drop n bs) 0 0 r h)
+
+-- ---- the message type
+
+type-told : (i bits types kind r : ℕ) → i < 2 → bits / 2 ^ 60 ≡ 7 → soundMask bits types ≡ true → r < 36 → types / 2 ^ r % 2 ≡ 1
+    → ((r ≡ 0 → ⊥) → rowAt i kind ≡ ok (getD typeSets (2 * r) 0, getD typeSets (2 * r + 1) 0)) → Content true (judgeSet i bits kind)
+unfolding soundMask
+type-told i bits types kind r h e s l t is =
+    let none : types % 2 ≡ 0 = eqb-true _ _ (both-left (eqb (types % 2) 0) (allBelow 36 (soundType bits types)) s) in
+    let some : r ≡ 0 → ⊥ = λ z. (let q : types / 2 ^ 0 % 2 ≡ 1 = subst (λ x. types / 2 ^ x % 2 ≡ 1) z t in omega (arith, q, none)) in
+    let a = within (flags 64 (getD typeSets (2 * r) 0)) (flags 64 bits) in
+    let b = within (flags 64 bits) (flags 64 (getD typeSets (2 * r + 1) 0)) in
+    let w : a && b ≡ true =
+    other (eqb (types / 2 ^ r % 2) 0) (a && b) (all-below 36 (soundType bits types) r (both-right (eqb (types % 2) 0) (allBelow 36 (soundType bits types)) s) l)
+    (λ z. omega (arith, t, eqb-true (types / 2 ^ r % 2) 0 z)) in
+    content i bits kind (getD typeSets (2 * r) 0) (getD typeSets (2 * r + 1) 0) {a = true} {b = true} h e (is some) (sym (both-left a b w)) refl (sym (both-right a b w))
+
+-- ---- the item that is looked into
+
+special-told : (i f w rule n : ℕ) (bs : List ℕ) → i < 2 → f < 36 → Octets bs → soundSpecial w rule (layoutAt (placeRowAt (i * 36 + f) .0)) ≡ true → 1 ≤ length bs
+    → getD bs 0 0 < 256 → n ≡ w % 16 + getD bs 0 0 * (w / 16 % 16) → n ≤ length bs → w / 4_096 % 16 ≤ getD bs 0 0 → asks rule (rule / 2 ^ 32) (firstThree bs) ≡ true
+    → checkAt i f bs ≡ ok n
+special-told i f w rule n bs h k o s long b e l least asked =
+    let lay : LayoutRow = layoutAt (placeRowAt (i * 36 + f) .0) in
+    let min : Bool = ltb 0 (w % 16 + w / 4_096 % 16 * (w / 16 % 16)) in
+    let more : w / 4_096 % 16 * (w / 16 % 16) ≤ getD bs 0 0 * (w / 16 % 16) = mul-le-mul-right (w / 16 % 16) least in
+    let first : 0 < w % 16 + w / 4_096 % 16 * (w / 16 % 16) = ltb-true 0 _ (both-left min _ s) in
+    let some : n ≡ 0 → ⊥ = λ z. omega (arith, first, more) in
+    let sound = layout-sound (placeRowAt (i * 36 + f) .0) (place-row (i * 36 + f)) in
+    sym (check-place i f bs h k o) ∙ told n (wholeSize lay bs) (go sound (eqb (w / 256 % 16) 1) (both-right min _ s)) some
+  where
+    go : rowSound (layoutAt (placeRowAt (i * 36 + f) .0)) ≡ true → (t : Bool) → cond t (eqb (w / 16 % 16) 0 && soundSingle rule (rule / 2 ^ 32) w (layoutAt (placeRowAt (i * 36 + f) .0))) (soundCounted w (layoutAt (placeRowAt (i * 36 + f) .0))) ≡ true
+        → Plainly n (wholeSize (layoutAt (placeRowAt (i * 36 + f) .0)) bs)
+    go sound true q =
+        let z : w / 16 % 16 ≡ 0 = eqb-true _ _ (both-left (eqb (w / 16 % 16) 0) _ q) in
+        let y : w % 16 + getD bs 0 0 * 0 ≡ w % 16 = omega arith in
+        let m : n ≡ w % 16 = e ∙ ap (λ x. w % 16 + getD bs 0 0 * x) z ∙ y in
+        subst (λ x. Plainly x (wholeSize (layoutAt (placeRowAt (i * 36 + f) .0)) bs)) (sym m)
+        (ruled-told (layoutAt (placeRowAt (i * 36 + f) .0)) w bs sound o (omega (arith, m)) rule (rule / 2 ^ 32) (both-right (eqb (w / 16 % 16) 0) _ q) asked)
+    go sound false q =
+        subst (λ x. Plainly x (wholeSize (layoutAt (placeRowAt (i * 36 + f) .0)) bs)) (sym e)
+        (counted-told (layoutAt (placeRowAt (i * 36 + f) .0)) w bs sound o long q refl b least (omega (arith, e)))
+
+-- ---- runs of free items
+
+run-fewer : (i f : ℕ) (ts : List Bool) → length (runLeft i f ts) ≤ length ts
+run-fewer i f [] = omega arith
+run-fewer i f (false ∷ ts) = omega (arith, run-fewer i (f + 1) ts)
+run-fewer i f (true ∷ ts) = go (isFree i f) (run-fewer i (f + 1) ts)
+  where
+    go : (b : Bool) → length (runLeft i (f + 1) ts) ≤ length ts → length (cond b (runLeft i (f + 1) ts) (true ∷ ts)) ≤ suc (length ts)
+    go true h = omega (arith, h)
+    go false h = omega arith
+
+abbrev Ran : ℕ → ℕ → List Bool → ℕ → List Bool → List ℕ → Came → Type 0
+Ran i f ts s us bs w = Skipped i (64 - length us) s us bs w (walk i ts f bs w)
+
+run-skip : (i f : ℕ) (ts : List Bool) (bs : List ℕ) (w : Came) → i < 2 → 3 < f → f + length ts ≡ 64 → Octets bs → runSum i f ts ≤ length bs → Ran i f ts (runSum i f ts) (runLeft i f ts) bs w
+run-skip i f [] bs w h k l o b =
+    let e : f ≡ 64 - 0 = omega (arith, l) in
+    record { came = w; walks = ap (λ x. walk i [] x bs w) e; here = sym (add-zero (w .here)); kind = refl }
+run-skip i f (false ∷ ts) bs w h k l o b =
+    let s : Ran i (f + 1) ts (runSum i (f + 1) ts) (runLeft i (f + 1) ts) bs w = run-skip i (f + 1) ts bs w h (omega arith) (omega (arith, l)) o b in
+    record { came = s .came; walks = none-here i f ts bs w ∙ s .walks; here = s .here; kind = s .kind }
+run-skip i f (true ∷ ts) bs w h k l o b = go (isFree i f) refl b (λ v q. run-skip i (f + 1) ts (drop (free i f) bs) v h (omega arith) (omega (arith, l)) (octets-drop (free i f) bs o) q)
+  where
+    go : (t : Bool) → isFree i f ≡ t → cond t (free i f + runSum i (f + 1) ts) 0 ≤ length bs
+        → ((v : Came) → runSum i (f + 1) ts ≤ length (drop (free i f) bs) → Ran i (f + 1) ts (runSum i (f + 1) ts) (runLeft i (f + 1) ts) (drop (free i f) bs) v)
+        → Ran i f (true ∷ ts) (cond t (free i f + runSum i (f + 1) ts) 0) (cond t (runLeft i (f + 1) ts) (true ∷ ts)) bs w
+    go false e q r =
+        let m : f ≡ 64 - suc (length ts) = omega (arith, l) in
+        record { came = w; walks = ap (λ x. walk i (true ∷ ts) x bs w) m; here = sym (add-zero (w .here)); kind = refl }
+    go true e q r =
+        let n : ℕ = free i f in
+        let y : ltb 0 n && ltb n 8 ≡ true = both-right (ltb f 36) _ e in
+        let c : checkAt i f bs ≡ ok n = free-check i f n bs h (ltb-true f 36 (both-left (ltb f 36) _ e)) o refl (ltb-true 0 n (both-left _ _ y)) (ltb-true n 8 (both-right (ltb 0 n) _ y)) (omega (arith, q)) in
+        let v : Came = passed i f n (take n bs) w in
+        let s : Ran i (f + 1) ts (runSum i (f + 1) ts) (runLeft i (f + 1) ts) (drop n bs) v = r v (omega (arith, q, length-drop n bs)) in
+        record {
+          came = s .came;
+          walks = one i f n ts bs w c ∙ s .walks ∙ ap (λ x. walk i (runLeft i (f + 1) ts) (64 - length (runLeft i (f + 1) ts)) x (s .came)) (drop-drop (runSum i (f + 1) ts) n bs);
+          here = s .here ∙ add-assoc (w .here) n (runSum i (f + 1) ts);
+          kind = s .kind ∙ kind-stays i f n (take n bs) w h k;
+        }
+
+-- ---- the walk: how far it has come, the flags that are left
+
+module _ (i bits : ℕ) (items : List ℕ) (h : i < 2) (o : Octets items) where
+  record Reached (us : List Bool) (n k : ℕ) : Type 0 where
+    came : Came
+    few : length us ≤ 60
+    walks : walk i (flags 63 bits) 1 items (startAt k) ≡ walk i us (64 - length us) (drop n items) came
+    here : came .here ≡ k + n
+    kind : came .kind ≡ getD items 4 0
+
+  reach-three : (k : ℕ) → bits / 2 ^ 60 ≡ 7 → 5 ≤ length items → Reached (flags 60 (bits % 2 ^ 60)) 5 k
+  reach-three k e l =
+      let us : List Bool = flags 60 (bits % 2 ^ 60) in
+      let m : length us ≡ 60 = flags-length 60 (bits % 2 ^ 60) in
+      let f : 4 ≡ 64 - length us = omega (arith, m) in
+      let u : Came = third i us items k h o l in
+      record {
+        came = u;
+        few = omega (arith, m);
+        walks = ap (λ ts. walk i ts 1 items (startAt k)) (seven i bits items h o e) ∙ first-three i us items k h o l ∙ ap (λ x. walk i us x (drop 5 items) u) f;
+        here = third-here i us items k h o l;
+        kind = third-kind i us items k h o l;
+      }
+
+  reach-run : (us : List Bool) (n k f : ℕ) → f ≡ 64 - length us → Reached us n k → n + runSum i f us ≤ length items → Reached (runLeft i f us) (n + runSum i f us) k
+  reach-run us n k f e r l =
+      let s : Ran i f us (runSum i f us) (runLeft i f us) (drop n items) (r .came) =
+      run-skip i f us (drop n items) (r .came) h (omega (arith, e, r .few)) (omega (arith, e, r .few)) (octets-drop n items o) (omega (arith, l, length-drop n items)) in
+      record {
+        came = s .came;
+        few = omega (arith, r .few, run-fewer i f us);
+        walks =
+            r .walks ∙ ap (λ x. walk i us x (drop n items) (r .came)) (sym e) ∙ s .walks
+            ∙ ap (λ x. walk i (runLeft i f us) (64 - length (runLeft i f us)) x (s .came)) (drop-drop (runSum i f us) n items);
+        here = s .here ∙ ap (λ x. x + runSum i f us) (r .here) ∙ add-assoc k n (runSum i f us);
+        kind = s .kind ∙ r .kind;
+      }
+
+  reach-one : (vs : List Bool) (n m k : ℕ) → Reached (true ∷ vs) n k → checkAt i (63 - length vs) (drop n items) ≡ ok m → Reached vs (n + m) k
+  reach-one vs n m k r c =
+      let f : ℕ = 63 - length vs in
+      let e : 64 - suc (length vs) ≡ f = omega arith in
+      let g : f + 1 ≡ 64 - length vs = omega (arith, r .few) in
+      let v : Came = passed i f m (take m (drop n items)) (r .came) in
+      record {
+        came = v;
+        few = omega (arith, r .few);
+        walks =
+            r .walks ∙ ap (λ x. walk i (true ∷ vs) x (drop n items) (r .came)) e ∙ one i f m vs (drop n items) (r .came) c
+            ∙ ap₂ (λ x y. walk i vs x y v) g (drop-drop m n items);
+        here = ap (λ x. x + m) (r .here) ∙ add-assoc k n m;
+        kind = kind-stays i f m (take m (drop n items)) (r .came) h (omega (arith, r .few)) ∙ r .kind;
+      }
+
+  -- the items that are left are walked from FRN 4 on
+  reach-end : (us : List Bool) (n k left m : ℕ) → Reached us n k → left ≡ number us → Later i left (drop n items) (suc m) → Walks i bits items (n + m) k
+  reach-end us n k left m r e g =
+      let q : Goes i left (drop n items) m (r .came) = g .1 (r .came) in
+      let j : ℕ = 60 - length us in
+      let a : j + length us ≡ 60 = omega (arith, r .few) in
+      let b : 64 - length us ≡ 4 + j = omega (arith, r .few) in
+      let c : walk i (flags 60 left) 4 (drop n items) (r .came) ≡ walk i us (64 - length us) (drop n items) (r .came) =
+      ap₂ (λ x y. walk i (flags x y) 4 (drop n items) (r .came)) (sym a) e
+      ∙ blank i j (length us) 4 (number us) (drop n items) (r .came) (number-lt us)
+      ∙ ap₂ (λ x y. walk i x y (drop n items) (r .came)) (flags-number us) (sym b) in
+      record {
+        came = q .came;
+        walks = r .walks ∙ sym c ∙ q .walks;
+        here = q .here ∙ ap (λ x. x + m) (r .here) ∙ add-assoc k n m;
+        kind = q .kind ∙ r .kind;
+      }
+
+-- no item is left
+pub later-none : (i : ℕ) (bs : List ℕ) → Later i 0 bs 1
+later-none i bs = (omega arith, λ w. record { came = w; walks = walk-none i 60 4 bs w; here = sym (add-zero (w .here)); kind = refl })
+
+-- ---- the items, by a row of the table
+
+module _ (i a b rule left n m bits : ℕ) (bs : List ℕ) (h : i < 2) (o : Octets bs) (top : bits / 2 ^ 60 ≡ 7) (front : Front a (wordOf b) rule bs n) (rest : Later i left (drop n bs) (suc m)) where
+  abbrev items : List ℕ
+  items = drop (usedOf a) bs
+
+  abbrev Ends : Type 0
+  Ends = (usedOf a + 5 ≤ n) × ((k : ℕ) → Walks i bits items (n - usedOf a + m) k)
+
+  long : length items ≡ length bs - usedOf a
+  long = length-drop (usedOf a) bs
+
+  clean : Octets items
+  clean = octets-drop (usedOf a) bs o
+
+  -- free items alone
+  first-ends : (ts : List Bool) → ts ≡ flags 60 (bits % 2 ^ 60) → soundFirst i a b left (runSum i 4 ts) (runLeft i 4 ts) ≡ true → Ends
+  first-ends ts et s =
+      let sum : ℕ = runSum i 4 ts in
+      let us : List Bool = runLeft i 4 ts in
+      let p = eqb (wordOf b) 0 in
+      let q = eqb (startOf a) (usedOf a) in
+      let r = eqb (tailOf a) (5 + sum) in
+      let z = eqb left (number us) in
+      let spq : p && q && r ≡ true = both-left (p && q && r) z s in
+      let sp : p && q ≡ true = both-left (p && q) r spq in
+      let e₁ : wordOf b ≡ 0 = eqb-true _ _ (both-left p q sp) in
+      let e₂ : startOf a ≡ usedOf a = eqb-true _ _ (both-right p q sp) in
+      let e₃ : tailOf a ≡ 5 + sum = eqb-true _ _ (both-right (p && q) r spq) in
+      let e₄ : left ≡ number us = eqb-true _ _ (both-right (p && q && r) z s) in
+      let w₁ : wordOf b % 16 ≡ 0 = ap (λ x. x % 16) e₁ in
+      let w₂ : getD bs (startOf a) 0 * (wordOf b / 16 % 16) ≡ 0 = ap (λ x. getD bs (startOf a) 0 * (x / 16 % 16)) e₁ ∙ mul-zero (getD bs (startOf a) 0) in
+      let size : n ≡ usedOf a + (5 + sum) = omega (arith, front .size, w₁, w₂, e₂, e₃) in
+      let less : n - usedOf a ≡ 5 + sum = omega (arith, size) in
+      let f : 4 ≡ 64 - length ts = omega (arith, ap length et, flags-length 60 (bits % 2 ^ 60)) in (
+        omega (arith, size),
+        λ k.
+          let r₁ : Reached i bits items h clean ts 5 k = subst (λ x. Reached i bits items h clean x 5 k) (sym et) (reach-three i bits items h clean k top (omega (arith, front .fits, size, long))) in
+          let r₂ : Reached i bits items h clean us (5 + sum) k = reach-run i bits items h clean ts 5 k 4 f r₁ (omega (arith, front .fits, size, long)) in
+          let g : Later i left (drop (5 + sum) items) (suc m) = subst (λ x. Later i left x (suc m)) (ap (λ x. drop x bs) size ∙ sym (drop-drop (5 + sum) (usedOf a) bs)) rest in
+          subst (λ x. Walks i bits items (x + m) k) (sym less) (reach-end i bits items h clean us (5 + sum) k left m r₂ e₄ g),
+      )
+
+  -- free items, one that is looked into, free items
+  then-ends : (s : ℕ) (us : List Bool) → ((k : ℕ) → usedOf a + (5 + s) ≤ length bs → Reached i bits items h clean us (5 + s) k) → soundThen i a b rule left s us ≡ true → Ends
+  then-ends s [] reach t = absurd (false≢true t)
+  then-ends s (false ∷ vs) reach t = absurd (false≢true t)
+  then-ends s (true ∷ vs) reach t =
+      let f : ℕ = 63 - length vs in
+      let g : ℕ = 64 - length vs in
+      let w : ℕ = wordOf b in
+      let head : ℕ = getD bs (startOf a) 0 in
+      let x : ℕ = w % 16 + head * (w / 16 % 16) in
+      let p = ltb f 36 in
+      let q = eqb (startOf a) (usedOf a + 5 + s) in
+      let r = soundSpecial w rule (layoutAt (placeRowAt (i * 36 + f) .0)) in
+      let u = eqb (tailOf a) (runSum i g vs) in
+      let v = eqb left (number (runLeft i g vs)) in
+      let t₁ : p && q && r && u ≡ true = both-left (p && q && r && u) v t in
+      let t₂ : p && q && r ≡ true = both-left (p && q && r) u t₁ in
+      let t₃ : p && q ≡ true = both-left (p && q) r t₂ in
+      let few : f < 36 = ltb-true f 36 (both-left p q t₃) in
+      let e₁ : startOf a ≡ usedOf a + 5 + s = eqb-true _ _ (both-right p q t₃) in
+      let e₂ : tailOf a ≡ runSum i g vs = eqb-true _ _ (both-right (p && q && r) u t₁) in
+      let e₃ : left ≡ number (runLeft i g vs) = eqb-true _ _ (both-right (p && q && r && u) v t) in
+      let e₄ : startOf a ≡ usedOf a + (5 + s) = omega (arith, e₁) in
+      let size : n ≡ usedOf a + (5 + s + x + runSum i g vs) = omega (arith, front .size, e₂, e₄) in
+      let less : n - usedOf a ≡ 5 + s + x + runSum i g vs = omega (arith, size) in
+      let here : drop (5 + s) items ≡ drop (startOf a) bs = drop-drop (5 + s) (usedOf a) bs ∙ ap (λ y. drop y bs) (sym e₄) in
+      let at : getD (drop (5 + s) items) 0 0 ≡ head = ap (λ l. getD l 0 0) here ∙ getD-drop (startOf a) bs 0 0 ∙ ap (λ y. getD bs y 0) (add-zero (startOf a)) in
+      let rests : length (drop (5 + s) items) ≡ length bs - startOf a = ap length here ∙ length-drop (startOf a) bs in
+      let c : checkAt i f (drop (5 + s) items) ≡ ok x =
+      special-told i f w rule x (drop (5 + s) items) h few (octets-drop (5 + s) items clean) (both-right (p && q) r t₂) (omega (arith, rests, front .there)) (octet-at (drop (5 + s) items) (octets-drop (5 + s) items clean) 0)
+      (ap (λ y. w % 16 + y * (w / 16 % 16)) (sym at)) (omega (arith, rests, front .fits, size, e₄)) (omega (arith, front .least, at)) (ap (λ l. asks rule (rule / 2 ^ 32) (firstThree l)) here ∙ front .kept) in (
+        omega (arith, size),
+        λ k.
+          let r₁ : Reached i bits items h clean vs (5 + s + x) k = reach-one i bits items h clean vs (5 + s) x k (reach k (omega (arith, e₄, front .there))) c in
+          let r₂ : Reached i bits items h clean (runLeft i g vs) (5 + s + x + runSum i g vs) k = reach-run i bits items h clean vs (5 + s + x) k g refl r₁ (omega (arith, front .fits, size, long)) in
+          let z : Later i left (drop (5 + s + x + runSum i g vs) items) (suc m) = subst (λ y. Later i left y (suc m)) (ap (λ y. drop y bs) size ∙ sym (drop-drop (5 + s + x + runSum i g vs) (usedOf a) bs)) rest in
+          subst (λ y. Walks i bits items (y + m) k) (sym less) (reach-end i bits items h clean (runLeft i g vs) (5 + s + x + runSum i g vs) k left m r₂ e₃ z),
+      )
+
+  items-end : soundItems i a b rule left (flags 60 (bits % 2 ^ 60)) ≡ true → Ends
+  items-end s =
+      let ts : List Bool = flags 60 (bits % 2 ^ 60) in
+      let sum : ℕ = runSum i 4 ts in
+      let us : List Bool = runLeft i 4 ts in
+      let f : 4 ≡ 64 - length ts = omega (arith, flags-length 60 (bits % 2 ^ 60)) in
+      either-way (soundFirst i a b left sum us) (soundThen i a b rule left sum us) s (first-ends ts refl)
+      (then-ends sum us (λ k l. reach-run i bits items h clean ts 5 k 4 f (reach-three i bits items h clean k top (omega (arith, l, long))) (omega (arith, l, long))))
+    where
+      either-way : {A : Type 0} (x y : Bool) → x || y ≡ true → (x ≡ true → A) → (y ≡ true → A) → A
+      either-way true y e g k = g refl
+      either-way false y e g k = k e
+
+-- ---- the record
+
+passed-of : (i bits : ℕ) (bs : List ℕ) (n : ℕ) → ((k : ℕ) → Walks i bits bs n k) → Passed i bits bs n
+passed-of i bits bs zero w = tt
+passed-of i bits bs (suc n) w = w
+
+module _ (a b rule left : ℕ) (bs : List ℕ) (known : (j : ℕ) → Fits w8 (getD bs j 0)) (fits : length bs < 65_536) (s : soundShape a b rule left ≡ true) where
+  octets : Octets bs
+  octets = octets-all bs known
+
+  abbrev bounds : Bool
+  bounds = ltb (profileOf a) 2 && ltb 0 (usedOf a) && leb (usedOf a) 5
+
+  abbrev read : Answer (ℕ × ℕ)
+  read = setFrom (profileOf a) (length (categoryAt (profileOf a) .profile)) (lowOctets (usedOf a) a) 0 0
+
+  in-bounds : bounds ≡ true
+  unfolding soundShape
+  in-bounds = both-left bounds (shapeBy (profileOf a) a b rule left read) s
+
+  by-set : shapeBy (profileOf a) a b rule left read ≡ true
+  unfolding soundShape
+  by-set = both-right bounds (shapeBy (profileOf a) a b rule left read) s
+
+  pub shape-some : 0 < usedOf a
+  shape-some = ltb-true 0 (usedOf a) (both-right (ltb (profileOf a) 2) _ (both-left (ltb (profileOf a) 2 && ltb 0 (usedOf a)) _ in-bounds))
+
+  pub shape-few : usedOf a ≤ 5
+  shape-few = leb-true (usedOf a) 5 (both-right (ltb (profileOf a) 2 && ltb 0 (usedOf a)) _ in-bounds)
+
+  pub shape-known : profileOf a < 2
+  shape-known = ltb-true (profileOf a) 2 (both-left (ltb (profileOf a) 2) _ (both-left (ltb (profileOf a) 2 && ltb 0 (usedOf a)) _ in-bounds))
+
+  pub shape-end : (word n m c : ℕ) → 5 ≤ length bs → word ≡ lowNumber 5 bs → word * 2 ^ (64 - 8 * usedOf a) % 2 ^ 64 ≡ a * 2 ^ (64 - 8 * usedOf a) % 2 ^ 64
+      → Front a (wordOf b) rule bs n → c ≡ getD bs (usedOf a + 4) 0 → Listed (profileOf a) (typesOf b) c → Later (profileOf a) left (drop n bs) (suc m) → endAt (profileOf a) 0 bs ≡ ok (n + m)
+  shape-end word n m c long ew ec front eq listed rest = go read refl by-set
+    where
+      go : (x : Answer (ℕ × ℕ)) → read ≡ x → shapeBy (profileOf a) a b rule left x ≡ true → endAt (profileOf a) 0 bs ≡ ok (n + m)
+      go (refused p q) e y = absurd (false≢true y)
+      go (ok (bits, used)) e y =
+          let i : ℕ = profileOf a in
+          let p = eqb used (usedOf a) in
+          let q = eqb (bits / 2 ^ 60) 7 in
+          let r = soundMask bits (typesOf b) in
+          let u = soundItems i a b rule left (flags 60 (bits % 2 ^ 60)) in
+          let y₁ : p && q && r ≡ true = both-left (p && q && r) u y in
+          let y₂ : p && q ≡ true = both-left (p && q) r y₁ in
+          let e₁ : used ≡ usedOf a = eqb-true _ _ (both-left p q y₂) in
+          let top : bits / 2 ^ 60 ≡ 7 = eqb-true _ _ (both-right p q y₂) in
+          let set-is : setAt i bs ≡ ok (bits, used) = fspec-told i (usedOf a) a bs (bits, used) octets shape-few long (ap (λ x. x % 2 ^ (8 * usedOf a)) (sym ew) ∙ cut-same word a (usedOf a) shape-some shape-few ec) e in
+          let ends = items-end i a b rule left n m bits bs shape-known octets top front rest (both-right (p && q && r) u y) in
+          let kind : c ≡ getD (take (length bs - usedOf a) (drop (usedOf a) bs)) 4 0 = eq ∙ sym (ap (λ l. getD l 4 0) (to-end bs (usedOf a)) ∙ getD-drop (usedOf a) bs 4 0) in
+          let n₁ : ℕ = n - usedOf a + m in
+          let same : usedOf a + n₁ ≡ n + m = omega (arith, ends .0) in
+          plain-whole i bs known fits (set.Items (record { bits = bits }) (usedOf a)) (record { bits = bits }) (usedOf a) n₁ (ap (λ x. ok (bits, x)) (sym e₁) ∙ sym set-is) refl c kind
+          (type-told i bits (typesOf b) c (listed .row) shape-known top (both-right (p && q) r y₁) (listed .few) (listed .there) (listed .is))
+          (λ z. omega (arith, z, ends .0)) (subst (λ l. Passed i bits l n₁) (sym (to-end bs (usedOf a))) (passed-of i bits (drop (usedOf a) bs) n₁ (ends .1)))
+          ∙ ap ok same
