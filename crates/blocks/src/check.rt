@@ -15,7 +15,8 @@ ghost use lib.ListN.{length};
 ghost use Rattle.rules.specs.Entry.{checkBlock};
 ghost use Rattle.plain.specs.Item.{soundSteps};
 ghost use Rattle.records.specs.Sets.{categoryAt};
-ghost use Rattle.plain.specs.Record.{soundTypes, typeSets};
+ghost use Rattle.plain.specs.Record.{soundTypes};
+ghost use Rattle.plain.specs.Shape.{soundSets};
 ghost use Rattle.blocks.specs.Read.{countFrom, openFrom, checkFront};
 ghost use Rattle.blocks.specs.Answers.{checkedOf, checkedBy, checkedNumber, checkedPlace, openedOf, frontOf};
 
@@ -66,7 +67,7 @@ fn check_records_by(
     part: &[u8],
     from: usize,
 ) -> BlockChecked
-    requires { ⌜ (soundSteps (now steps) ≡ true) × (soundTypes (now types) ≡ true) × (now sets ≡ typeSets) × (from + length (now part) < 65536) ⌝ }
+    requires { ⌜ (soundSteps (now steps) ≡ true) × (soundTypes (now types) ≡ true) × (soundSets (now sets) ≡ true) × (from + length (now part) < 65536) ⌝ }
     ensures { λ r. ⌜ checkedOf r ≡ countFrom (categoryAt profile) 0 from (now (part .entry)) ⌝ }
 {
     let mut rest = part;
@@ -145,7 +146,7 @@ pub enum FrontChecked {
 
 // The tables are lent, so that a recording's blocks share them.
 pub fn check_front(steps: &Steps, types: &Types, sets: &Sets, part: &[u8]) -> FrontChecked
-    requires { ⌜ (soundSteps (now steps) ≡ true) × (soundTypes (now types) ≡ true) × (now sets ≡ typeSets) ⌝ }
+    requires { ⌜ (soundSteps (now steps) ≡ true) × (soundTypes (now types) ≡ true) × (soundSets (now sets) ≡ true) ⌝ }
     ensures { λ r. ⌜ frontOf r ≡ checkFront (now (part .entry)) ⌝ }
 {
     let head = front_head(part);

@@ -87,6 +87,9 @@ module _ (ts : List ℕ) (i : ℕ) (s : soundTypes ts ≡ true) (h : i < 2) wher
   pub row-few : (t r : ℕ) → t < 112 → getD ts (i * 112 + t) 0 ≡ r → (r ≡ 0 → ⊥) → r < 36
   row-few t r k e n = ltb-true r 36 (both-left (ltb r 36) _ (row-sound t r k e n))
 
+  pub row-under : (t r : ℕ) → t < 112 → getD ts (i * 112 + t) 0 ≡ r → r < 36
+  row-under t r k e = ⊎-elim (λ (z : r ≤ 0). omega arith) (λ (p : 0 < r). row-few t r k e (λ z. omega arith)) (le-or-lt r 0)
+
   -- a row that the table has for a type
   pub row-read : (t r : ℕ) → t < 112 → getD ts (i * 112 + t) 0 ≡ r → (r ≡ 0 → ⊥) → rowAt i t ≡ ok (getD typeSets (2 * r) 0, getD typeSets (2 * r + 1) 0)
   row-read t r k e n =

@@ -3,7 +3,7 @@
 -- In order: octets as a number; the FSPEC; the message type; the item that is looked into; runs of free items; the walk; the record. Assumes nothing.
 use Prim.Native.Nat.{ℕ, zero, suc, _+_, _-_, _*_, _/_, _%_, _^_, _≤_, _<_}
 use mathlib.Core.Path.{_≡_, refl, sym, ap, ap₂, _∙_, subst}
-use mathlib.Core.Bool.{Bool, true, false, cond, _&&_, _||_, false≢true}
+use mathlib.Core.Bool.{Bool, true, false, cond, not, _&&_, _||_, false≢true}
 use mathlib.Core.List.{List, [], _∷_, _++_}
 use native.Mathlib.Omega.{arith}
 use native.Mathlib.Nat.{add-zero, add-assoc, mul-zero, mul-le-mul-right}
@@ -32,10 +32,16 @@ use Rattle.records.specs.declared.SetRead.the-variants as set
 use Rattle.records.proofs.SetLaws.{set-law, octets-all, to-end}
 use Rattle.records.proofs.WalkLaws.{walk-none}
 use Rattle.plain.specs.Item.{Plainly, firstThree, asks, soundSingle, soundCounted}
-use Rattle.plain.specs.Record.{allBelow, typeSets, free, Content, Goes, Later, Walks, Passed, endAt}
-use Rattle.plain.specs.Shape.{lowNumber, lowOctets, usedOf, startOf, tailOf, profileOf, typesOf, wordOf, soundType, soundMask, isFree, runSum, runLeft, soundSpecial, soundFirst, soundThen, soundItems, shapeBy, soundShape, soundShapeAt, soundSets, Front, Listed}
+use Rattle.plain.specs.Record.{allBelow, typeSets, soundTypes, free, Content, Goes, Later, Walks, Passed, endAt}
+use Rattle.plain.specs.Shape.{lowNumber, lowOctets, usedOf, startOf, tailOf, profileOf, typesOf, wordOf, soundType, soundMask, isFree, runSum, runLeft, soundSpecial, soundFirst, soundThen, soundItems, shapeBy, bounded, soundShape, soundShapeAt, soundSets, Front, Fronts, Listed, OfType}
 use Rattle.plain.proofs.ItemLaws.{octet-at, cut, free-check, ruled-told, counted-told}
-use Rattle.plain.proofs.RecordLaws.{all-below, other, blank, one, none-here, kind-stays, Skipped, third, first-three, third-here, third-kind, seven, content, told, plain-whole}
+use Rattle.plain.proofs.RecordLaws.{all-below, other, row-under, row-read, blank, one, none-here, kind-stays, Skipped, third, first-three, third-here, third-kind, seven, content, told, plain-whole}
+
+octet-here : (n : ℕ) (xs bs : List ℕ) → xs ≡ drop n bs → getD xs 0 0 ≡ getD bs n 0
+octet-here n xs bs e = ap (λ l. getD l 0 0) e ∙ getD-drop n bs 0 0 ∙ ap (λ y. getD bs y 0) (add-zero n)
+
+type-here : (n c : ℕ) (bs : List ℕ) → c ≡ getD bs (n + 4) 0 → c ≡ getD (take (length bs - n) (drop n bs)) 4 0
+type-here n c bs e = e ∙ sym (ap (λ l. getD l 4 0) (to-end bs n) ∙ getD-drop n bs 4 0)
 
 -- ---- octets as a number, the first one lowest
 
@@ -62,6 +68,14 @@ cut-same x y n h l e =
     let u : ℕ = 64 - 8 * n in
     let k : 64 - u ≡ 8 * n = omega arith in
     subst (λ j. x % 2 ^ j ≡ y % 2 ^ j) k (sym (cut x u (omega arith)) ∙ ap (λ z. z / 2 ^ u) e ∙ cut y u (omega arith))
+
+pub five-is : (bs : List ℕ) → 5 ≤ length bs → getD bs 0 0 + getD bs 1 0 * 256 + getD bs 2 0 * 65_536 + getD bs 3 0 * 16_777_216 + getD bs 4 0 * 4_294_967_296 ≡ lowNumber 5 bs
+five-is [] l = absurd (omega arith)
+five-is (a ∷ []) l = absurd (omega arith)
+five-is (a ∷ (b ∷ [])) l = absurd (omega arith)
+five-is (a ∷ (b ∷ (c ∷ []))) l = absurd (omega arith)
+five-is (a ∷ (b ∷ (c ∷ (d ∷ [])))) l = absurd (omega arith)
+five-is (a ∷ (b ∷ (c ∷ (d ∷ (e ∷ bs))))) l = omega arith
 
 -- ---- the FSPEC: what follows it changes nothing
 
@@ -99,7 +113,39 @@ type-told i bits types kind r h e s l t is =
     (λ z. omega (arith, t, eqb-true (types / 2 ^ r % 2) 0 z)) in
     content i bits kind (getD typeSets (2 * r) 0) (getD typeSets (2 * r + 1) 0) {a = true} {b = true} h e (is some) (sym (both-left a b w)) refl (sym (both-right a b w))
 
+-- by the bit of its row
+pub listed-told : (ts : List ℕ) (i kind types r : ℕ) (t : Bool) → soundTypes ts ≡ true → i < 2 → kind < 112 → r ≡ getD ts (i * 112 + kind) 0 → t ≡ eqb (types / 2 ^ r % 2) 1 → OfType t i types kind
+listed-told ts i kind types r false s h k e q = tt
+listed-told ts i kind types r true s h k e q = record { row = r; few = row-under ts i s h kind r k (sym e); there = eqb-true _ _ (sym q); is = row-read ts i s h kind r k (sym e) }
+
+pub listed-right : (t : Bool) (i types kind : ℕ) → OfType t i types kind → not t ≡ false → Listed i types kind
+listed-right true i types kind l n = l
+listed-right false i types kind l n = absurd (false≢true (sym n))
+
 -- ---- the item that is looked into
+
+pub fronts-of : (a w rule : ℕ) (bs : List ℕ) (n : ℕ) → Front a w rule bs n → Fronts a w rule bs n
+fronts-of a w rule bs zero f = tt
+fronts-of a w rule bs (suc n) f = f
+
+pub front-of : (a w rule : ℕ) (bs : List ℕ) (n : ℕ) → Fronts a w rule bs n → (n ≡ 0 → ⊥) → Front a w rule bs n
+front-of a w rule bs zero f z = absurd (z refl)
+front-of a w rule bs (suc n) f z = f
+
+three-at : (at : ℕ) (bs : List ℕ) {x y z : ℕ} → x ≡ getD bs at 0 → y ≡ getD bs (at + 1) 0 → z ≡ getD bs (at + 2) 0 → x * 65_536 + y * 256 + z ≡ firstThree (drop at bs)
+unfolding firstThree
+three-at at bs ex ey ez = omega (arith, ex, ey, ez, octet-here at (drop at bs) bs refl, getD-drop at bs 1 0, getD-drop at bs 2 0)
+
+pub front-told : (a w rule : ℕ) (bs : List ℕ) {x y z : ℕ} {t : Bool} → startOf a + 3 ≤ length bs → startOf a + tailOf a + w % 16 + x * (w / 16 % 16) ≤ length bs → w / 4_096 % 16 ≤ x
+    → x ≡ getD bs (startOf a) 0 → y ≡ getD bs (startOf a + 1) 0 → z ≡ getD bs (startOf a + 2) 0 → t ≡ asks rule (rule / 2 ^ 32) (x * 65_536 + y * 256 + z) → t ≡ true
+    → Front a w rule bs (startOf a + tailOf a + w % 16 + x * (w / 16 % 16))
+front-told a w rule bs there fits least ex ey ez et k = record {
+  there = there;
+  size = ap (λ u. startOf a + tailOf a + w % 16 + u * (w / 16 % 16)) ex;
+  fits = fits;
+  least = omega (arith, least, ex);
+  kept = ap (asks rule (rule / 2 ^ 32)) (sym (three-at (startOf a) bs ex ey ez)) ∙ sym et ∙ k;
+}
 
 special-told : (i f w rule n : ℕ) (bs : List ℕ) → i < 2 → f < 36 → Octets bs → soundSpecial w rule (layoutAt (placeRowAt (i * 36 + f) .0)) ≡ true → 1 ≤ length bs
     → getD bs 0 0 < 256 → n ≡ w % 16 + getD bs 0 0 * (w / 16 % 16) → n ≤ length bs → w / 4_096 % 16 ≤ getD bs 0 0 → asks rule (rule / 2 ^ 32) (firstThree bs) ≡ true
@@ -280,10 +326,10 @@ module _ (i a b rule left n m bits : ℕ) (bs : List ℕ) (h : i < 2) (o : Octet
       let f : 4 ≡ 64 - length ts = omega (arith, ap length et, flags-length 60 (bits % 2 ^ 60)) in (
         omega (arith, size),
         λ k.
-          let r₁ : Reached i bits items h clean ts 5 k = subst (λ x. Reached i bits items h clean x 5 k) (sym et) (reach-three i bits items h clean k top (omega (arith, front .fits, size, long))) in
-          let r₂ : Reached i bits items h clean us (5 + sum) k = reach-run i bits items h clean ts 5 k 4 f r₁ (omega (arith, front .fits, size, long)) in
-          let g : Later i left (drop (5 + sum) items) (suc m) = subst (λ x. Later i left x (suc m)) (ap (λ x. drop x bs) size ∙ sym (drop-drop (5 + sum) (usedOf a) bs)) rest in
-          subst (λ x. Walks i bits items (x + m) k) (sym less) (reach-end i bits items h clean us (5 + sum) k left m r₂ e₄ g),
+            let r₁ : Reached i bits items h clean ts 5 k = subst (λ x. Reached i bits items h clean x 5 k) (sym et) (reach-three i bits items h clean k top (omega (arith, front .fits, size, long))) in
+            let r₂ : Reached i bits items h clean us (5 + sum) k = reach-run i bits items h clean ts 5 k 4 f r₁ (omega (arith, front .fits, size, long)) in
+            let g : Later i left (drop (5 + sum) items) (suc m) = subst (λ x. Later i left x (suc m)) (ap (λ x. drop x bs) size ∙ sym (drop-drop (5 + sum) (usedOf a) bs)) rest in
+            subst (λ x. Walks i bits items (x + m) k) (sym less) (reach-end i bits items h clean us (5 + sum) k left m r₂ e₄ g),
       )
 
   -- free items, one that is looked into, free items
@@ -312,17 +358,17 @@ module _ (i a b rule left n m bits : ℕ) (bs : List ℕ) (h : i < 2) (o : Octet
       let size : n ≡ usedOf a + (5 + s + x + runSum i g vs) = omega (arith, front .size, e₂, e₄) in
       let less : n - usedOf a ≡ 5 + s + x + runSum i g vs = omega (arith, size) in
       let here : drop (5 + s) items ≡ drop (startOf a) bs = drop-drop (5 + s) (usedOf a) bs ∙ ap (λ y. drop y bs) (sym e₄) in
-      let at : getD (drop (5 + s) items) 0 0 ≡ head = ap (λ l. getD l 0 0) here ∙ getD-drop (startOf a) bs 0 0 ∙ ap (λ y. getD bs y 0) (add-zero (startOf a)) in
+      let at : getD (drop (5 + s) items) 0 0 ≡ head = octet-here (startOf a) (drop (5 + s) items) bs here in
       let rests : length (drop (5 + s) items) ≡ length bs - startOf a = ap length here ∙ length-drop (startOf a) bs in
       let c : checkAt i f (drop (5 + s) items) ≡ ok x =
       special-told i f w rule x (drop (5 + s) items) h few (octets-drop (5 + s) items clean) (both-right (p && q) r t₂) (omega (arith, rests, front .there)) (octet-at (drop (5 + s) items) (octets-drop (5 + s) items clean) 0)
       (ap (λ y. w % 16 + y * (w / 16 % 16)) (sym at)) (omega (arith, rests, front .fits, size, e₄)) (omega (arith, front .least, at)) (ap (λ l. asks rule (rule / 2 ^ 32) (firstThree l)) here ∙ front .kept) in (
         omega (arith, size),
         λ k.
-          let r₁ : Reached i bits items h clean vs (5 + s + x) k = reach-one i bits items h clean vs (5 + s) x k (reach k (omega (arith, e₄, front .there))) c in
-          let r₂ : Reached i bits items h clean (runLeft i g vs) (5 + s + x + runSum i g vs) k = reach-run i bits items h clean vs (5 + s + x) k g refl r₁ (omega (arith, front .fits, size, long)) in
-          let z : Later i left (drop (5 + s + x + runSum i g vs) items) (suc m) = subst (λ y. Later i left y (suc m)) (ap (λ y. drop y bs) size ∙ sym (drop-drop (5 + s + x + runSum i g vs) (usedOf a) bs)) rest in
-          subst (λ y. Walks i bits items (y + m) k) (sym less) (reach-end i bits items h clean (runLeft i g vs) (5 + s + x + runSum i g vs) k left m r₂ e₃ z),
+            let r₁ : Reached i bits items h clean vs (5 + s + x) k = reach-one i bits items h clean vs (5 + s) x k (reach k (omega (arith, e₄, front .there))) c in
+            let r₂ : Reached i bits items h clean (runLeft i g vs) (5 + s + x + runSum i g vs) k = reach-run i bits items h clean vs (5 + s + x) k g refl r₁ (omega (arith, front .fits, size, long)) in
+            let z : Later i left (drop (5 + s + x + runSum i g vs) items) (suc m) = subst (λ y. Later i left y (suc m)) (ap (λ y. drop y bs) size ∙ sym (drop-drop (5 + s + x + runSum i g vs) (usedOf a) bs)) rest in
+            subst (λ y. Walks i bits items (y + m) k) (sym less) (reach-end i bits items h clean (runLeft i g vs) (5 + s + x + runSum i g vs) k left m r₂ e₃ z),
       )
 
   items-end : soundItems i a b rule left (flags 60 (bits % 2 ^ 60)) ≡ true → Ends
@@ -344,55 +390,101 @@ passed-of : (i bits : ℕ) (bs : List ℕ) (n : ℕ) → ((k : ℕ) → Walks i 
 passed-of i bits bs zero w = tt
 passed-of i bits bs (suc n) w = w
 
-module _ (a b rule left : ℕ) (bs : List ℕ) (known : (j : ℕ) → Fits w8 (getD bs j 0)) (fits : length bs < 65_536) (s : soundShape a b rule left ≡ true) where
-  octets : Octets bs
-  octets = octets-all bs known
-
-  abbrev bounds : Bool
-  bounds = ltb (profileOf a) 2 && ltb 0 (usedOf a) && leb (usedOf a) 5
-
+module _ (a b rule left : ℕ) (s : soundShape a b rule left ≡ true) where
   abbrev read : Answer (ℕ × ℕ)
   read = setFrom (profileOf a) (length (categoryAt (profileOf a) .profile)) (lowOctets (usedOf a) a) 0 0
 
-  in-bounds : bounds ≡ true
+  in-bounds : bounded a left ≡ true
   unfolding soundShape
-  in-bounds = both-left bounds (shapeBy (profileOf a) a b rule left read) s
+  in-bounds = both-left (bounded a left) (shapeBy (profileOf a) a b rule left read) s
 
   by-set : shapeBy (profileOf a) a b rule left read ≡ true
   unfolding soundShape
-  by-set = both-right bounds (shapeBy (profileOf a) a b rule left read) s
-
-  pub shape-some : 0 < usedOf a
-  shape-some = ltb-true 0 (usedOf a) (both-right (ltb (profileOf a) 2) _ (both-left (ltb (profileOf a) 2 && ltb 0 (usedOf a)) _ in-bounds))
-
-  pub shape-few : usedOf a ≤ 5
-  shape-few = leb-true (usedOf a) 5 (both-right (ltb (profileOf a) 2 && ltb 0 (usedOf a)) _ in-bounds)
+  by-set = both-right (bounded a left) (shapeBy (profileOf a) a b rule left read) s
 
   pub shape-known : profileOf a < 2
-  shape-known = ltb-true (profileOf a) 2 (both-left (ltb (profileOf a) 2) _ (both-left (ltb (profileOf a) 2 && ltb 0 (usedOf a)) _ in-bounds))
+  shape-known = ltb-true (profileOf a) 2 (both-left (ltb (profileOf a) 2) _ in-bounds)
 
-  pub shape-end : (word n m c : ℕ) → 5 ≤ length bs → word ≡ lowNumber 5 bs → word * 2 ^ (64 - 8 * usedOf a) % 2 ^ 64 ≡ a * 2 ^ (64 - 8 * usedOf a) % 2 ^ 64
-      → Front a (wordOf b) rule bs n → c ≡ getD bs (usedOf a + 4) 0 → Listed (profileOf a) (typesOf b) c → Later (profileOf a) left (drop n bs) (suc m) → endAt (profileOf a) 0 bs ≡ ok (n + m)
-  shape-end word n m c long ew ec front eq listed rest = go read refl by-set
-    where
-      go : (x : Answer (ℕ × ℕ)) → read ≡ x → shapeBy (profileOf a) a b rule left x ≡ true → endAt (profileOf a) 0 bs ≡ ok (n + m)
-      go (refused p q) e y = absurd (false≢true y)
-      go (ok (bits, used)) e y =
-          let i : ℕ = profileOf a in
-          let p = eqb used (usedOf a) in
-          let q = eqb (bits / 2 ^ 60) 7 in
-          let r = soundMask bits (typesOf b) in
-          let u = soundItems i a b rule left (flags 60 (bits % 2 ^ 60)) in
-          let y₁ : p && q && r ≡ true = both-left (p && q && r) u y in
-          let y₂ : p && q ≡ true = both-left (p && q) r y₁ in
-          let e₁ : used ≡ usedOf a = eqb-true _ _ (both-left p q y₂) in
-          let top : bits / 2 ^ 60 ≡ 7 = eqb-true _ _ (both-right p q y₂) in
-          let set-is : setAt i bs ≡ ok (bits, used) = fspec-told i (usedOf a) a bs (bits, used) octets shape-few long (ap (λ x. x % 2 ^ (8 * usedOf a)) (sym ew) ∙ cut-same word a (usedOf a) shape-some shape-few ec) e in
-          let ends = items-end i a b rule left n m bits bs shape-known octets top front rest (both-right (p && q && r) u y) in
-          let kind : c ≡ getD (take (length bs - usedOf a) (drop (usedOf a) bs)) 4 0 = eq ∙ sym (ap (λ l. getD l 4 0) (to-end bs (usedOf a)) ∙ getD-drop (usedOf a) bs 4 0) in
-          let n₁ : ℕ = n - usedOf a + m in
-          let same : usedOf a + n₁ ≡ n + m = omega (arith, ends .0) in
-          plain-whole i bs known fits (set.Items (record { bits = bits }) (usedOf a)) (record { bits = bits }) (usedOf a) n₁ (ap (λ x. ok (bits, x)) (sym e₁) ∙ sym set-is) refl c kind
-          (type-told i bits (typesOf b) c (listed .row) shape-known top (both-right (p && q) r y₁) (listed .few) (listed .there) (listed .is))
-          (λ z. omega (arith, z, ends .0)) (subst (λ l. Passed i bits l n₁) (sym (to-end bs (usedOf a))) (passed-of i bits (drop (usedOf a) bs) n₁ (ends .1)))
-          ∙ ap ok same
+  in-octets : ltb 0 (usedOf a) && (leb (usedOf a) 5 && (ltb left (2 ^ 60) && leb (usedOf a + 5) (startOf a + tailOf a))) ≡ true
+  in-octets = both-right (ltb (profileOf a) 2) _ in-bounds
+
+  pub shape-some : 0 < usedOf a
+  shape-some = ltb-true 0 (usedOf a) (both-left (ltb 0 (usedOf a)) _ in-octets)
+
+  in-five : leb (usedOf a) 5 && (ltb left (2 ^ 60) && leb (usedOf a + 5) (startOf a + tailOf a)) ≡ true
+  in-five = both-right (ltb 0 (usedOf a)) _ in-octets
+
+  pub shape-few : usedOf a ≤ 5
+  shape-few = leb-true (usedOf a) 5 (both-left (leb (usedOf a) 5) _ in-five)
+
+  pub shape-left : left < 2 ^ 60
+  shape-left = ltb-true left (2 ^ 60) (both-left (ltb left (2 ^ 60)) _ (both-right (leb (usedOf a) 5) _ in-five))
+
+  -- the message type is before the end of what the shape says
+  pub shape-long : (bs : List ℕ) (n : ℕ) → Front a (wordOf b) rule bs n → usedOf a + 5 ≤ n
+  shape-long bs n front =
+      let l : usedOf a + 5 ≤ startOf a + tailOf a = leb-true _ _ (both-right (ltb left (2 ^ 60)) _ (both-right (leb (usedOf a) 5) _ in-five)) in
+      omega (arith, l, front .size)
+
+  module _ (bs : List ℕ) (known : (j : ℕ) → Fits w8 (getD bs j 0)) (fits : length bs < 65_536) where
+    octets : Octets bs
+    octets = octets-all bs known
+
+    shape-end : (word n m c : ℕ) → 5 ≤ length bs → word ≡ lowNumber 5 bs → word * 2 ^ (64 - 8 * usedOf a) % 2 ^ 64 ≡ a * 2 ^ (64 - 8 * usedOf a) % 2 ^ 64
+        → Front a (wordOf b) rule bs n → c ≡ getD bs (usedOf a + 4) 0 → Listed (profileOf a) (typesOf b) c → Later (profileOf a) left (drop n bs) (suc m) → endAt (profileOf a) 0 bs ≡ ok (n + m)
+    shape-end word n m c long ew ec front eq listed rest = go read refl by-set
+      where
+        go : (x : Answer (ℕ × ℕ)) → read ≡ x → shapeBy (profileOf a) a b rule left x ≡ true → endAt (profileOf a) 0 bs ≡ ok (n + m)
+        go (refused p q) e y = absurd (false≢true y)
+        go (ok (bits, used)) e y =
+            let i : ℕ = profileOf a in
+            let p = eqb used (usedOf a) in
+            let q = eqb (bits / 2 ^ 60) 7 in
+            let r = soundMask bits (typesOf b) in
+            let u = soundItems i a b rule left (flags 60 (bits % 2 ^ 60)) in
+            let y₁ : p && q && r ≡ true = both-left (p && q && r) u y in
+            let y₂ : p && q ≡ true = both-left (p && q) r y₁ in
+            let e₁ : used ≡ usedOf a = eqb-true _ _ (both-left p q y₂) in
+            let top : bits / 2 ^ 60 ≡ 7 = eqb-true _ _ (both-right p q y₂) in
+            let set-is : setAt i bs ≡ ok (bits, used) = fspec-told i (usedOf a) a bs (bits, used) octets shape-few long (ap (λ x. x % 2 ^ (8 * usedOf a)) (sym ew) ∙ cut-same word a (usedOf a) shape-some shape-few ec) e in
+            let ends = items-end i a b rule left n m bits bs shape-known octets top front rest (both-right (p && q && r) u y) in
+            let kind : c ≡ getD (take (length bs - usedOf a) (drop (usedOf a) bs)) 4 0 = type-here (usedOf a) c bs eq in
+            let n₁ : ℕ = n - usedOf a + m in
+            let same : usedOf a + n₁ ≡ n + m = omega (arith, ends .0) in
+            plain-whole i bs known fits (set.Items (record { bits = bits }) (usedOf a)) (record { bits = bits }) (usedOf a) n₁ (ap (λ x. ok (bits, x)) (sym e₁) ∙ sym set-is) refl c kind
+            (type-told i bits (typesOf b) c (listed .row) shape-known top (both-right (p && q) r y₁) (listed .few) (listed .there) (listed .is))
+            (λ z. omega (arith, z, ends .0)) (subst (λ l. Passed i bits l n₁) (sym (to-end bs (usedOf a))) (passed-of i bits (drop (usedOf a) bs) n₁ (ends .1)))
+            ∙ ap ok same
+
+    -- the record of a profile, with the items that are left
+    module _ (i word n c : ℕ) (ep : profileOf a ≡ i) (long : 5 ≤ length bs) (ew : word ≡ lowNumber 5 bs) (ec : word * 2 ^ (64 - 8 * usedOf a) % 2 ^ 64 ≡ a * 2 ^ (64 - 8 * usedOf a) % 2 ^ 64) (front : Front a (wordOf b) rule bs n) (eq : c ≡ getD bs (usedOf a + 4) 0) (listed : Listed i (typesOf b) c) where
+      pub shape-whole : (m : ℕ) → Later i left (take (length bs - n) (drop n bs)) m → (m ≡ 0 → ⊥) → endAt i 0 bs ≡ ok (n + m - 1)
+      shape-whole zero rest z = absurd (z refl)
+      shape-whole (suc m) rest z =
+          let e : n + m ≡ n + suc m - 1 = omega arith in
+          subst (λ j. Listed j (typesOf b) c → Later j left (drop n bs) (suc m) → endAt j 0 bs ≡ ok (n + suc m - 1)) ep (λ l r. shape-end word n m c long ew ec front eq l r ∙ ap ok e)
+          listed (subst (λ x. Later i left x (suc m)) (to-end bs n) rest)
+
+      pub shape-only : left ≡ 0 → endAt i 0 bs ≡ ok n
+      shape-only z =
+          let e : n + 1 - 1 ≡ n = omega arith in
+          shape-whole 1 (subst (λ x. Later i x (take (length bs - n) (drop n bs)) 1) (sym z) (later-none i (take (length bs - n) (drop n bs)))) (λ y. omega (arith, y)) ∙ ap ok e
+
+-- ---- the table
+
+module _ (t : List ℕ) (s : soundSets t ≡ true) where
+  abbrev sameSet : ℕ → Bool
+  sameSet k = eqb (getD t k 0) (getD typeSets k 0)
+
+  abbrev shapeIn : ℕ → Bool
+  shapeIn k = soundShapeAt t (72 + 4 * k)
+
+  -- what message types must and may have
+  pub sets-read : (k : ℕ) → k < 72 → getD t k 0 ≡ getD typeSets k 0
+  unfolding soundSets
+  sets-read k l = eqb-true _ _ (all-below 72 sameSet k (both-left (allBelow 72 sameSet) (allBelow 64 shapeIn) s) l)
+
+  pub shape-read : (k : ℕ) {a b rule left : ℕ} → k < 64 → a ≡ getD t (72 + 4 * k) 0 → b ≡ getD t (72 + 4 * k + 1) 0 → rule ≡ getD t (72 + 4 * k + 2) 0 → left ≡ getD t (72 + 4 * k + 3) 0
+      → soundShape a b rule left ≡ true
+  unfolding soundSets
+  shape-read k l ea eb er el = rw (ea, eb, er, el) (all-below 64 shapeIn k (both-right (allBelow 72 sameSet) (allBelow 64 shapeIn) s) l)

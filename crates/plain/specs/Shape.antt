@@ -98,25 +98,28 @@ shapeBy i a b rule left (ok (bits, used)) =
     eqb used (usedOf a) && eqb (bits / 2 ^ 60) 7 && soundMask bits (typesOf b) && soundItems i a b rule left (flags 60 (bits % 2 ^ 60))
 shapeBy i a b rule left (refused n p) = false
 
+abbrev pub bounded : ℕ → ℕ → Bool
+bounded a left = ltb (profileOf a) 2 && (ltb 0 (usedOf a) && (leb (usedOf a) 5 && (ltb left (2 ^ 60) && leb (usedOf a + 5) (startOf a + tailOf a))))
+
 unfoldable pub soundShape : ℕ → ℕ → ℕ → ℕ → Bool
 soundShape a b rule left =
-    (ltb (profileOf a) 2 && ltb 0 (usedOf a) && leb (usedOf a) 5)
+    bounded a left
     && shapeBy (profileOf a) a b rule left (setFrom (profileOf a) (length (categoryAt (profileOf a) .profile)) (lowOctets (usedOf a) a) 0 0)
 
 -- ---- the table: what message types must and may have, then 64 shapes
 
 abbrev pub soundShapeAt : List ℕ → ℕ → Bool
-soundShapeAt t k = soundShape (getD t (72 + 4 * k) 0) (getD t (73 + 4 * k) 0) (getD t (74 + 4 * k) 0) (getD t (75 + 4 * k) 0)
+soundShapeAt t at = soundShape (getD t at 0) (getD t (at + 1) 0) (getD t (at + 2) 0) (getD t (at + 3) 0)
 
 unfoldable pub soundSets : List ℕ → Bool
-soundSets t = allBelow 72 (λ k. eqb (getD t k 0) (getD typeSets k 0)) && allBelow 64 (soundShapeAt t)
+soundSets t = allBelow 72 (λ k. eqb (getD t k 0) (getD typeSets k 0)) && allBelow 64 (λ k. soundShapeAt t (72 + 4 * k))
 
 -- ---- what the answers tell
 
 -- the octets of a record as far as its shape goes: by the item that is looked into, its word and its rule
 pub record Front (a w rule : ℕ) (bs : List ℕ) (n : ℕ) : Type 0 where
   pub there : startOf a + 3 ≤ length bs
-  pub size : n ≡ startOf a + w % 16 + getD bs (startOf a) 0 * (w / 16 % 16) + tailOf a
+  pub size : n ≡ startOf a + tailOf a + w % 16 + getD bs (startOf a) 0 * (w / 16 % 16)
   pub fits : n ≤ length bs
   pub least : w / 4_096 % 16 ≤ getD bs (startOf a) 0
   pub kept : asks rule (rule / 2 ^ 32) (firstThree (drop (startOf a) bs)) ≡ true

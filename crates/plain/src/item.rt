@@ -158,7 +158,7 @@ fn word_at(t: &Steps, at: usize) -> usize
 
 // ---- rules
 
-fn octet(x: u8) -> usize
+pub fn octet(x: u8) -> usize
     ensures { λ r. ⌜ (r ≡ x) × (r < 256) ⌝ }
 {
     x as usize

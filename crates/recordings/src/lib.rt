@@ -8,7 +8,8 @@ ghost use mathlib.Core.Bool.{true};
 ghost use Prim.Native.Nat.{_+_, _<_};
 ghost use Rattle.rules.specs.Entry.{checkRecording};
 ghost use Rattle.plain.specs.Item.{soundSteps};
-ghost use Rattle.plain.specs.Record.{soundTypes, typeSets};
+ghost use Rattle.plain.specs.Record.{soundTypes};
+ghost use Rattle.plain.specs.Shape.{soundSets};
 ghost use Rattle.recordings.specs.Feed.{capped, fed, finished, blockLength};
 ghost use Rattle.recordings.specs.Answers.{countsOf, frontNumber, frontPlace, stateOf};
 
@@ -38,7 +39,7 @@ fn front_place(front: FrontChecked) -> usize
 
 // All of a recording, which may be empty. The tables are lent, so that its blocks share them.
 fn check_blocks(steps: &Steps, types: &Types, sets: &Sets, recording: &[u8]) -> RecordingChecked
-    requires { ⌜ (soundSteps (now steps) ≡ true) × (soundTypes (now types) ≡ true) × (now sets ≡ typeSets) ⌝ }
+    requires { ⌜ (soundSteps (now steps) ≡ true) × (soundTypes (now types) ≡ true) × (soundSets (now sets) ≡ true) ⌝ }
     ensures { λ r. ⌜ countsOf r ≡ checkRecording (now (recording .entry)) ⌝ }
 {
     let mut rest = recording;

@@ -1,12 +1,13 @@
 -- `plain::record::is_content` meets its contract: the table's row is the rules' row. Assumes nothing.
 use Prim.Native.Nat.{_+_, _*_, _<_}
-use mathlib.Core.Path.{_≡_, sym, ap, _∙_}
+use mathlib.Core.Path.{_≡_, sym, ap, ap₂, _∙_}
 use native.Mathlib.Omega.{arith}
-use lib.ListN.{length, getD}
+use lib.ListN.{getD}
 use borrow.Author.Needs.{needs}
 use Rattle.rules.specs.Answer.{ok}
 use Rattle.records.specs.Walk.{rowAt}
-use Rattle.plain.proofs.RecordLaws.{sets-long, row-few, row-read, content}
+use Rattle.plain.proofs.RecordLaws.{row-few, row-read, content}
+use Rattle.plain.proofs.ShapeLaws.{sets-read}
 use Rattle.plain.proofs.record.is_content.Statement.{statement}
 use Rattle.plain.proofs.record.is_content.Tie as tie
 
@@ -44,7 +45,7 @@ few c =
     (ap (λ x. getD (c .before .before .before .before .before .args .types .now) (c .before .before .before .before .before .args .profile * 112 + x) 0) (sym (c .before .before .before .octet .ensures .0)) ∙ sym (c .before .octet2 .ensures .0)) (c .if2 .left)
 
 element-copy-out-t17 : tie.Need-element-copy-out-t17
-element-copy-out-t17 c = omega (arith, few c, sets-long, ap length (c .before .before .before .before .before .pre .1))
+element-copy-out-t17 c = omega (arith, few c)
 
 is-within-requires : tie.Need-is-within-requires
 is-within-requires c κs = search needs
@@ -62,7 +63,7 @@ mul-t10-2 : tie.Need-mul-t10-2
 mul-t10-2 c = search needs
 
 element-copy-out-t17-2 : tie.Need-element-copy-out-t17-2
-element-copy-out-t17-2 c = omega (arith, few (c .before .before .before), sets-long, ap length (c .before .before .before .before .before .before .before .before .pre .1))
+element-copy-out-t17-2 c = omega (arith, few (c .before .before .before))
 
 is-within-requires-2 : tie.Need-is-within-requires-2
 is-within-requires-2 c κs = search needs
@@ -73,7 +74,7 @@ row : (c : tie.After-is-within2)
 row c =
     row-read (c .before .before .before .before .before .before .before .before .before .before .args .types .now) _ (c .before .before .before .before .before .before .before .before .before .before .pre .0) (c .before .before .before .before .before .before .before .before .before .before .pre .2) _ _ (omega (arith, c .before .before .before .before .before .before .before .before .before .if1 .left))
     (ap (λ x. getD (c .before .before .before .before .before .before .before .before .before .before .args .types .now) (c .before .before .before .before .before .before .before .before .before .before .args .profile * 112 + x) 0) (sym (c .before .before .before .before .before .before .before .before .octet .ensures .0)) ∙ sym (c .before .before .before .before .before .before .octet2 .ensures .0)) (c .before .before .before .before .before .if2 .left)
-    ∙ ap (λ l. ok (getD l (2 * c .before .before .before .before .before .before .octet2 .result) 0, getD l (2 * c .before .before .before .before .before .before .octet2 .result + 1) 0)) (sym (c .before .before .before .before .before .before .before .before .before .before .pre .1))
+    ∙ ap₂ (λ x y. ok (x, y)) (sym (sets-read _ (c .before .before .before .before .before .before .before .before .before .before .pre .1) _ (omega (arith, few (c .before .before .before .before .before))))) (sym (sets-read _ (c .before .before .before .before .before .before .before .before .before .before .pre .1) _ (omega (arith, few (c .before .before .before .before .before)))))
 
 returns-4 : tie.Need-returns-4
 returns-4 c = content _ _ _ _ _ (c .before .before .before .before .before .before .before .before .before .before .pre .2) (c .before .before .before .before .before .before .before .before .before .before .pre .3) (row c) (c .before .before .before .is-within .ensures) (c .before .before .if3 .left) (c .is-within2 .ensures)

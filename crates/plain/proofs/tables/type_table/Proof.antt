@@ -1,4 +1,4 @@
--- `plain::record::type_table` meets its contract: no entry says what the rules do not have. Assumes nothing.
+-- `plain::tables::type_table` meets its contract: no entry says what the rules do not have. Assumes nothing.
 use mathlib.Core.Path.{refl}
 use Rattle.rules.specs.Answer.{_>>=_, if_then_else_}
 use Rattle.rules.specs.Presence.{number, flags}
@@ -11,8 +11,8 @@ use Rattle.layouts.specs.Tables.{layoutAt, layouts, groupAt, groups}
 use Rattle.records.specs.Sets.{categoryAt, bitsOf}
 use Rattle.records.specs.Walk.{rowAt}
 use Rattle.plain.specs.Record.{typeSets, soundTypes}
-use Rattle.plain.proofs.record.type_table.Statement.{statement}
-use Rattle.plain.proofs.record.type_table.Tie as tie
+use Rattle.plain.proofs.tables.type_table.Statement.{statement}
+use Rattle.plain.proofs.tables.type_table.Tie as tie
 
 returns : tie.Need-returns
 unfolding soundTypes typeSets rowAt messageOf if_then_else_ _>>=_ flags singles layoutAt layouts groupAt groups categoryAt categories category017 category018 bitsOf number

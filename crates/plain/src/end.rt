@@ -1,0 +1,40 @@
+// Where a record ends: by its shape, by its items one after the other, or by the exact check.
+use super::item::Steps;
+use super::record::plain_record;
+use super::shape::shaped_record;
+use super::tables::Sets;
+use super::tables::Types;
+use records::RecordChecked;
+use records::check_record;
+ghost use mathlib.Core.Path.{_≡_};
+ghost use mathlib.Core.Bool.{true};
+ghost use Prim.Native.Nat.{_<_, _+_};
+ghost use lib.ListN.{length};
+ghost use Rattle.plain.specs.Item.{soundSteps};
+ghost use Rattle.records.specs.Answers.{endOf};
+ghost use Rattle.plain.specs.Record.{soundTypes, endAt};
+ghost use Rattle.plain.specs.Shape.{soundSets};
+
+// Where the record ends that starts a part, which stands at a place, or its refusal.
+pub fn record_end(
+    steps: &Steps,
+    types: &Types,
+    sets: &Sets,
+    profile: usize,
+    part: &[u8],
+    at: usize,
+) -> RecordChecked
+    requires { ⌜ (soundSteps (now steps) ≡ true) × (soundTypes (now types) ≡ true) × (soundSets (now sets) ≡ true) × (at + length (now part) < 65536) ⌝ }
+    ensures { λ r. ⌜ endOf r ≡ endAt profile at (now (part .entry)) ⌝ }
+{
+    let m = shaped_record(steps, types, sets, profile, part);
+    if m != 0 {
+        return RecordChecked::Ends { end: at + m };
+    }
+    let n = plain_record(steps, types, sets, profile, part);
+    if n != 0 {
+        return RecordChecked::Ends { end: at + n };
+    }
+    let w = check_record(profile, part, at);
+    w.checked
+}
