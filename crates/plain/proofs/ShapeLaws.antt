@@ -90,10 +90,10 @@ set-front i zero xs ys bits used r h = h
 set-front i (suc l) [] ys bits used r h = refused-ok h
 set-front i (suc l) (x ∷ xs) ys bits used r h = either (eqb (x % 2) 0) (ended i x (bits + x / 2 * 2 ^ (56 - 7 * used)) (used + 1)) (set-front i l xs ys (bits + x / 2 * 2 ^ (56 - 7 * used)) (used + 1) r) h
 
-fspec-told : (i n a : ℕ) (bs : List ℕ) (r : ℕ × ℕ) → Octets bs → n ≤ 5 → 5 ≤ length bs → lowNumber 5 bs % 2 ^ (8 * n) ≡ a % 2 ^ (8 * n)
+fspec-told : (i n a word : ℕ) (bs : List ℕ) (r : ℕ × ℕ) → Octets bs → n ≤ 5 → 5 ≤ length bs → word ≡ lowNumber 5 bs → word % 2 ^ (8 * n) ≡ a % 2 ^ (8 * n)
     → setFrom i (length (categoryAt i .profile)) (lowOctets n a) 0 0 ≡ ok r → setAt i bs ≡ ok r
-fspec-told i n a bs r o l m e h =
-    let same : lowOctets n a ≡ take n bs = same-octets n a (lowNumber 5 bs) (sym e) ∙ low-octets n 5 bs o l m in
+fspec-told i n a word bs r o l m w e h =
+    let same : lowOctets n a ≡ take n bs = same-octets n a word (sym e) ∙ ap (lowOctets n) w ∙ low-octets n 5 bs o l m in
     sym (set-law i bs o)
     ∙ subst (λ xs. setFrom i (length (categoryAt i .profile)) xs 0 0 ≡ ok r) (ap (λ xs. xs ++ drop n bs) same ∙ take-append-drop n bs)
     (set-front i (length (categoryAt i .profile)) (lowOctets n a) (drop n bs) 0 0 r h)
@@ -446,7 +446,7 @@ module _ (a b rule left : ℕ) (s : soundShape a b rule left ≡ true) where
             let y₂ : p && q ≡ true = both-left (p && q) r y₁ in
             let e₁ : used ≡ usedOf a = eqb-true _ _ (both-left p q y₂) in
             let top : bits / 2 ^ 60 ≡ 7 = eqb-true _ _ (both-right p q y₂) in
-            let set-is : setAt i bs ≡ ok (bits, used) = fspec-told i (usedOf a) a bs (bits, used) octets shape-few long (ap (λ x. x % 2 ^ (8 * usedOf a)) (sym ew) ∙ cut-same word a (usedOf a) shape-some shape-few ec) e in
+            let set-is : setAt i bs ≡ ok (bits, used) = fspec-told i (usedOf a) a word bs (bits, used) octets shape-few long ew (cut-same word a (usedOf a) shape-some shape-few ec) e in
             let ends = items-end i a b rule left n m bits bs shape-known octets top front rest (both-right (p && q && r) u y) in
             let kind : c ≡ getD (take (length bs - usedOf a) (drop (usedOf a) bs)) 4 0 = type-here (usedOf a) c bs eq in
             let n₁ : ℕ = n - usedOf a + m in
