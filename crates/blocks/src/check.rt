@@ -5,15 +5,15 @@ use crate::head::LEAST;
 use crate::head::front_head;
 use crate::head::single_head;
 use plain::Sets;
-use plain::Steps;
 use plain::Types;
 use records::RecordChecked;
+use steps::Steps;
 ghost use mathlib.Core.Path.{_≡_};
 ghost use mathlib.Core.Bool.{true};
 ghost use Prim.Native.Nat.{_+_, _<_};
 ghost use lib.ListN.{length};
 ghost use Rattle.rules.specs.Entry.{checkBlock};
-ghost use Rattle.plain.specs.Item.{soundSteps};
+ghost use Rattle.steps.specs.Item.{soundSteps};
 ghost use Rattle.records.specs.Sets.{categoryAt};
 ghost use Rattle.plain.specs.Record.{soundTypes};
 ghost use Rattle.plain.specs.Shape.{soundSets};
@@ -91,7 +91,7 @@ fn check_records(profile: usize, part: &[u8], from: usize) -> BlockChecked
     requires { ⌜ from + length (now part) < 65536 ⌝ }
     ensures { λ r. ⌜ checkedOf r ≡ countFrom (categoryAt profile) 0 from (now (part .entry)) ⌝ }
 {
-    let steps = plain::steps();
+    let steps = steps::steps();
     let types = plain::type_table();
     let sets = plain::set_table();
     check_records_by(&steps, &types, &sets, profile, part, from)

@@ -1,3 +1,2 @@
-pub mod ItemLaws
 pub mod RecordLaws
 pub mod ShapeLaws

@@ -27,10 +27,10 @@ use Rattle.rules.proofs.AnswerLaws.{ok-inj, bind-in, bind-elim, later-in, both-
 use Rattle.rules.proofs.PresenceLaws.{flags-length}
 use Rattle.items.specs.Answers.{checkAt, frnAs}
 use Rattle.layouts.specs.FieldRules.{singles}
-use Rattle.plain.specs.Item.{Plainly}
+use Rattle.steps.specs.Item.{Plainly}
 use Rattle.layouts.specs.Tables.{layoutAt, layouts, groupAt, groups}
 use Rattle.layouts.proofs.ReadLaws.{le-or-lt, octets-drop}
-use Rattle.plain.proofs.ItemLaws.{free-check}
+use Rattle.steps.proofs.ItemLaws.{free-check}
 use Rattle.records.specs.Sets.{categoryAt, setAt, within}
 use Rattle.records.specs.Walk.{typeFrn, Came, passed, walk, startAt, rowAt, judgeSet, recordBy}
 use Rattle.records.specs.Answers.{setOf, recordAt}

@@ -31,10 +31,10 @@ use Rattle.records.specs.declared.ItemSet.{ItemSet}
 use Rattle.records.specs.declared.SetRead.the-variants as set
 use Rattle.records.proofs.SetLaws.{set-law, octets-all, to-end}
 use Rattle.records.proofs.WalkLaws.{walk-none}
-use Rattle.plain.specs.Item.{Plainly, firstThree, asks, soundSingle, soundCounted}
+use Rattle.steps.specs.Item.{Plainly, firstThree, asks, soundSingle, soundCounted}
 use Rattle.plain.specs.Record.{allBelow, typeSets, soundTypes, free, Content, Goes, Later, Walks, Passed, endAt}
 use Rattle.plain.specs.Shape.{lowNumber, lowOctets, usedOf, startOf, tailOf, profileOf, typesOf, wordOf, soundType, soundMask, isFree, runSum, runLeft, soundSpecial, soundFirst, soundThen, soundItems, shapeBy, bounded, soundShape, soundShapeAt, soundSets, Front, Fronts, Listed, OfType}
-use Rattle.plain.proofs.ItemLaws.{octet-at, cut, free-check, ruled-told, counted-told}
+use Rattle.steps.proofs.ItemLaws.{octet-at, cut, free-check, ruled-told, counted-told}
 use Rattle.plain.proofs.RecordLaws.{all-below, other, row-under, row-read, blank, one, none-here, kind-stays, Skipped, third, first-three, third-here, third-kind, seven, content, told, plain-whole}
 
 octet-here : (n : ℕ) (xs bs : List ℕ) → xs ≡ drop n bs → getD xs 0 0 ≡ getD bs n 0

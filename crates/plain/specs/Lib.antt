@@ -1,3 +1,2 @@
-pub mod Item
 pub mod Record
 pub mod Shape

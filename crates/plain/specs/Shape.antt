@@ -12,7 +12,7 @@ use Rattle.layouts.specs.declared.tables.LayoutRow.{LayoutRow}
 use Rattle.layouts.specs.Tables.{layoutAt, placeRowAt}
 use Rattle.records.specs.Sets.{categoryAt, within}
 use Rattle.records.specs.Walk.{setFrom, rowAt}
-use Rattle.plain.specs.Item.{firstThree, asks, soundSingle, soundCounted}
+use Rattle.steps.specs.Item.{firstThree, asks, soundSingle, soundCounted}
 use Rattle.plain.specs.Record.{allBelow, typeSets, free}
 
 -- ---- octets as a number, the first one lowest

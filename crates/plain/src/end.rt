@@ -1,16 +1,16 @@
 // Where a record ends: by its shape, by its items one after the other, or by the exact check.
-use super::item::Steps;
 use super::record::plain_record;
 use super::shape::shaped_record;
 use super::tables::Sets;
 use super::tables::Types;
 use records::RecordChecked;
 use records::check_record;
+use steps::Steps;
 ghost use mathlib.Core.Path.{_≡_};
 ghost use mathlib.Core.Bool.{true};
 ghost use Prim.Native.Nat.{_<_, _+_};
 ghost use lib.ListN.{length};
-ghost use Rattle.plain.specs.Item.{soundSteps};
+ghost use Rattle.steps.specs.Item.{soundSteps};
 ghost use Rattle.records.specs.Answers.{endOf};
 ghost use Rattle.plain.specs.Record.{soundTypes, endAt};
 ghost use Rattle.plain.specs.Shape.{soundSets};

@@ -1,16 +1,16 @@
 // The record that is plainly legal: its set, what its message type asks for, its items.
-use super::item::Steps;
-use super::item::octet;
-use super::item::plain_item;
 use super::tables::Sets;
 use super::tables::Types;
 use records::ItemSet;
 use records::SetRead;
+use steps::Steps;
+use steps::octet;
+use steps::plain_item;
 ghost use mathlib.Core.Path.{_≡_};
 ghost use mathlib.Core.Bool.{true};
 ghost use Prim.Native.Nat.{_/_, _≤_, _<_, _+_, _-_, _^_};
 ghost use lib.ListN.{length};
-ghost use Rattle.plain.specs.Item.{Plainly, soundSteps};
+ghost use Rattle.steps.specs.Item.{Plainly, soundSteps};
 ghost use Rattle.records.specs.Walk.{judgeSet};
 ghost use Rattle.plain.specs.Record.{soundTypes, Content, Later, Passed, endAt};
 ghost use Rattle.plain.specs.Shape.{soundSets};

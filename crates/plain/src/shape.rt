@@ -1,15 +1,15 @@
 // A record whose FSPEC is a known shape: its length and all rules of its items but a few are one row of a table. Most records of a recording have one.
-use super::item::Steps;
-use super::item::is_kept;
-use super::item::octet;
 use super::record::later_items;
 use super::tables::Sets;
 use super::tables::Types;
+use steps::Steps;
+use steps::is_kept;
+use steps::octet;
 ghost use mathlib.Core.Path.{_≡_};
 ghost use mathlib.Core.Bool.{true};
 ghost use Prim.Native.Nat.{_<_, _≤_};
 ghost use lib.ListN.{length};
-ghost use Rattle.plain.specs.Item.{Plainly, soundSteps};
+ghost use Rattle.steps.specs.Item.{Plainly, soundSteps};
 ghost use Rattle.plain.specs.Record.{soundTypes, endAt};
 ghost use Rattle.plain.specs.Shape.{lowNumber, soundShape, soundSets, Fronts, OfType};
 

@@ -1,13 +1,13 @@
 // A recording: blocks end to end, checked whole, or block by block as it is read (document 01, "What the reader and writer cover").
 use blocks::FrontChecked;
 use plain::Sets;
-use plain::Steps;
 use plain::Types;
+use steps::Steps;
 ghost use mathlib.Core.Path.{_≡_};
 ghost use mathlib.Core.Bool.{true};
 ghost use Prim.Native.Nat.{_+_, _<_};
 ghost use Rattle.rules.specs.Entry.{checkRecording};
-ghost use Rattle.plain.specs.Item.{soundSteps};
+ghost use Rattle.steps.specs.Item.{soundSteps};
 ghost use Rattle.plain.specs.Record.{soundTypes};
 ghost use Rattle.plain.specs.Shape.{soundSets};
 ghost use Rattle.recordings.specs.Feed.{capped, fed, finished, blockLength};
@@ -68,7 +68,7 @@ fn check_blocks(steps: &Steps, types: &Types, sets: &Sets, recording: &[u8]) -> 
 pub fn check_recording(recording: &[u8]) -> RecordingChecked
     ensures { λ r. ⌜ countsOf r ≡ checkRecording (now (recording .entry)) ⌝ }
 {
-    let steps = plain::steps();
+    let steps = steps::steps();
     let types = plain::type_table();
     let sets = plain::set_table();
     check_blocks(&steps, &types, &sets, recording)

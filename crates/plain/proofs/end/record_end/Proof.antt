@@ -8,7 +8,7 @@ use mir.Syntax.{w8, w64}
 use mir.Val.{Fits}
 use borrow.Author.Needs.{needs}
 use Rattle.rules.specs.Answer.{ok}
-use Rattle.plain.specs.Item.{Plainly}
+use Rattle.steps.specs.Item.{Plainly}
 use Rattle.plain.specs.Record.{endAt}
 use Rattle.plain.proofs.RecordLaws.{told, end-anywhere, end-within}
 use Rattle.plain.proofs.end.record_end.Statement.{statement}

@@ -1,6 +1,6 @@
 -- `plain::shape::front_size` meets its contract. Assumes nothing.
 use native.Mathlib.Omega.{arith}
-use Rattle.plain.proofs.ItemLaws.{product-fits}
+use Rattle.steps.proofs.ItemLaws.{product-fits}
 use Rattle.plain.proofs.ShapeLaws.{fronts-of, front-told}
 use borrow.Author.Needs.{needs}
 use Rattle.plain.proofs.shape.front_size.Statement.{statement}

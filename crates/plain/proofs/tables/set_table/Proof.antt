@@ -9,7 +9,7 @@ use Rattle.layouts.specs.FieldRules.{rules, firstRule, singles}
 use Rattle.layouts.specs.Tables.{layoutAt, layouts, groupAt, groups, placeRowAt}
 use Rattle.records.specs.Sets.{categoryAt, bitsOf}
 use Rattle.records.specs.Walk.{usableBits, ended, setFrom}
-use Rattle.plain.specs.Item.{downOf, addedOf, upOf, limitOf, soundRule, soundSingle, soundCounted}
+use Rattle.steps.specs.Item.{downOf, addedOf, upOf, limitOf, soundRule, soundSingle, soundCounted}
 use Rattle.plain.specs.Record.{typeSets}
 use Rattle.plain.specs.Shape.{soundMask, soundShape, soundSets}
 use Rattle.plain.proofs.tables.set_table.Statement.{statement}
