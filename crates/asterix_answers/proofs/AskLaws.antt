@@ -17,7 +17,7 @@ use Rattle.rules.specs.Entry.{addRecord, oldBlock}
 use Rattle.layouts.proofs.ReadLaws.{le-or-lt}
 use Rattle.records.specs.Sets.{frnsOf}
 use Rattle.records.specs.declared.ItemSet.{ItemSet}
-use Rattle.blocks.proofs.AddLaws.{add-none}
+use Rattle.adding.proofs.AddLaws.{add-none}
 use Rattle.lines.specs.Page.{codes}
 use Rattle.lines.specs.Word.{words, wordEnd}
 use Rattle.lines.proofs.ListLaws.{front}

@@ -34,7 +34,7 @@ use Rattle.records.proofs.RecordLaws.{Fspec, fspec-read}
 use Rattle.records.proofs.RowLaws.{rows-few}
 use Rattle.blocks.specs.Read.{Records, Opening, opening, openFrom, headBy, headAt}
 use Rattle.blocks.proofs.HeadLaws.{opened-is}
-use Rattle.blocks.proofs.FindLaws.{opens}
+use Rattle.blocks.proofs.OpenLaws.{opens}
 use Rattle.lines.specs.Page.{codes}
 use Rattle.lines.specs.Number.{decimalText}
 use Rattle.asterix_answers.specs.Text.{refusedText, numberText, fieldsText, itemsText, openedText, blockText}

@@ -19,15 +19,15 @@ use Rattle.items.specs.Answers.{countOf}
 use Rattle.items.proofs.WriteTrip.{read-write}
 use Rattle.records.specs.Answers.{mapIn}
 use Rattle.records.proofs.FlagLaws.{length-over}
-use Rattle.blocks.specs.declared.add.RecordAdded.the-variants as recordAdded
-use Rattle.blocks.specs.declared.find.RecordPlace.the-variants as recordPlace
-use Rattle.blocks.specs.declared.find.RecordLocated.{RecordLocated}
-use Rattle.blocks.specs.declared.find.ItemLocated.the-variants as itemLocated
-use Rattle.blocks.specs.Added.{addedOf}
-use Rattle.blocks.specs.Found.{recordLocated, locatedOf, itemSpan}
-use Rattle.blocks.proofs.AddLaws.{withRecord, with-length}
-use Rattle.blocks.proofs.AddedLaws.{old-is}
-use Rattle.blocks.proofs.FindLaws.{item-located, lost}
+use Rattle.adding.specs.declared.add.RecordAdded.the-variants as recordAdded
+use Rattle.finding.specs.declared.find.RecordPlace.the-variants as recordPlace
+use Rattle.finding.specs.declared.find.RecordLocated.{RecordLocated}
+use Rattle.finding.specs.declared.find.ItemLocated.the-variants as itemLocated
+use Rattle.adding.specs.Added.{addedOf}
+use Rattle.finding.specs.Found.{recordLocated, locatedOf, itemSpan}
+use Rattle.adding.proofs.AddLaws.{withRecord, with-length}
+use Rattle.adding.proofs.AddedLaws.{old-is}
+use Rattle.finding.proofs.FindLaws.{item-located, lost}
 use Rattle.recordings.specs.declared.RecordingChecked.{RecordingChecked}
 use Rattle.recordings.specs.declared.RecordingChecked.the-variants as recording
 use Rattle.recordings.specs.Answers.{countsOf}

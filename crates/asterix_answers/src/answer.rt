@@ -2,9 +2,9 @@
 use super::text::put_made;
 use super::text::put_number;
 use super::text::put_refused;
-use blocks::ItemLocated;
-use blocks::RecordAdded;
-use blocks::RecordPlace;
+use adding::RecordAdded;
+use finding::ItemLocated;
+use finding::RecordPlace;
 use items::ItemRead;
 use items::ItemWritten;
 use recordings::RecordingChecked;
@@ -83,7 +83,7 @@ pub fn put_added(
 ) -> usize
     ensures { λ r. ⌜ page (now (out .exit)) r ≡ puts (addedText (addRecord (now (made .entry)) used (frnsOf (set .bits)) (now (items .entry)))) (page (now (out .entry)) at) ⌝ }
 {
-    match blocks::add_record(made, used, set, items) {
+    match adding::add_record(made, used, set, items) {
         RecordAdded::Length(len) => {
             let p = lines::put_text(out, at, b"ok ");
             put_made(out, p, &made[0..len])
@@ -103,13 +103,13 @@ pub fn put_added(
 pub fn put_found(block: &[u8], reference: u16, n: usize, out: &mut [u8], at: usize) -> usize
     ensures { λ r. ⌜ page (now (out .exit)) r ≡ puts (findText (now (block .entry), (reference, n))) (page (now (out .entry)) at) ⌝ }
 {
-    match blocks::locate_item(block, reference, n) {
+    match finding::locate_item(block, reference, n) {
         ItemLocated::At { start, length } => {
             let p = lines::put_text(out, at, b"ok ");
             let q = lines::put_decimal(out, p, start as u64);
             let r = put_number(out, q, length as u64);
             let s = lines::put(out, r, b' ');
-            lines::put_octets(out, s, blocks::find_item(block, reference, n))
+            lines::put_octets(out, s, finding::find_item(block, reference, n))
         }
         ItemLocated::Refused { number, place } => put_refused(out, at, number, place as u64),
     }
@@ -144,7 +144,7 @@ fn put_starts(starts: &[u16], out: &mut [u8], at: usize) -> usize
 pub fn put_map(block: &[u8], n: usize, out: &mut [u8], at: usize) -> usize
     ensures { λ r. ⌜ page (now (out .exit)) r ≡ puts (recordText (now (block .entry), n)) (page (now (out .entry)) at) ⌝ }
 {
-    let located = blocks::locate_record(block, n);
+    let located = finding::locate_record(block, n);
     let answer = located.answer;
     match answer {
         RecordPlace::At { start, length } => {
