@@ -40,7 +40,9 @@ use Rattle.questions.specs.declared.ask.FindAsked.{FindAsked}
 use Rattle.questions.specs.declared.ask.FindAsked.the-variants as find
 use Rattle.questions.specs.declared.ask.RecordAsked.{RecordAsked}
 use Rattle.questions.specs.declared.ask.RecordAsked.the-variants as record'
-use Rattle.asterix_answers.specs.Text.{asked, badText, readText, writeText, addedText, lent, addText, findText, recordText, kindText, wordsText, answerText}
+use Rattle.phrases.specs.Text.{badText}
+use Rattle.texts.specs.Text.{readText, writeText, addedText, lent, addText, findText, recordText}
+use Rattle.asterix_answers.specs.Text.{asked, kindText, wordsText, answerText}
 
 -- ---- words that are a question, and words that are none: g is what an answer says that they are
 
