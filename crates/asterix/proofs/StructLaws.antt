@@ -14,16 +14,16 @@ use Rattle.items.specs.declared.write.ItemWritten as items-written
 use Rattle.records.specs.Answers.{mapIn}
 use Rattle.records.specs.declared.RecordMap as records
 use Rattle.blocks.specs.Answers.{checkedOf}
-use Rattle.blocks.specs.Found.{placeOf, recordLocated, locatedOf}
-use Rattle.blocks.specs.Added.{addedOf}
+use Rattle.finding.specs.Found.{placeOf, recordLocated, locatedOf}
+use Rattle.adding.specs.Added.{addedOf}
 use Rattle.blocks.specs.declared.check.BlockChecked as blocks-checked
-use Rattle.blocks.specs.declared.find.RecordPlace.{RecordPlace}
-use Rattle.blocks.specs.declared.find.RecordPlace.the-variants as recordPlace
-use Rattle.blocks.specs.declared.find.RecordLocated.{RecordLocated}
-use Rattle.blocks.specs.declared.find.ItemLocated.{ItemLocated}
-use Rattle.blocks.specs.declared.find.ItemLocated.the-variants as itemLocated
-use Rattle.blocks.specs.declared.add.RecordAdded as blocks-added
-use Rattle.blocks.specs.declared.add.RecordAdded.the-variants as blocksAdded
+use Rattle.finding.specs.declared.find.RecordPlace.{RecordPlace}
+use Rattle.finding.specs.declared.find.RecordPlace.the-variants as recordPlace
+use Rattle.finding.specs.declared.find.RecordLocated.{RecordLocated}
+use Rattle.finding.specs.declared.find.ItemLocated.{ItemLocated}
+use Rattle.finding.specs.declared.find.ItemLocated.the-variants as itemLocated
+use Rattle.adding.specs.declared.add.RecordAdded as adding-added
+use Rattle.adding.specs.declared.add.RecordAdded.the-variants as addingAdded
 use Rattle.recordings.specs.Answers.{countsOf}
 use Rattle.recordings.specs.declared.RecordingChecked as recordings-checked
 use Rattle.asterix.specs.declared.RecordFound.{RecordFound}
@@ -99,10 +99,10 @@ item-written a h e = in-case (λ x. writtenBy (writtenAs x)) (ap writtenBy h ∙
 
 -- ---- adding a record
 
-abbrev pub addedBy : blocks-added.RecordAdded → RecordAdded
-addedBy (blocksAdded.Length n) = record { number = 0; «in_new» = 0; place = 0; length = n }
-addedBy (blocksAdded.RefusedOld n p) = record { number = n; «in_new» = 0; place = p; length = 0 }
-addedBy (blocksAdded.RefusedNew n p) = record { number = n; «in_new» = 1; place = p; length = 0 }
+abbrev pub addedBy : adding-added.RecordAdded → RecordAdded
+addedBy (addingAdded.Length n) = record { number = 0; «in_new» = 0; place = 0; length = n }
+addedBy (addingAdded.RefusedOld n p) = record { number = n; «in_new» = 0; place = p; length = 0 }
+addedBy (addingAdded.RefusedNew n p) = record { number = n; «in_new» = 1; place = p; length = 0 }
 
 added-by : (a : Added) → addedBy (addedOf a) ≡ recordAdded a
 unfolding recordAdded
@@ -110,5 +110,5 @@ added-by (added bs) = refl
 added-by (refusedOld n p) = refl
 added-by (refusedNew n p) = refl
 
-pub record-added : {r y : blocks-added.RecordAdded} (a : Added) → r ≡ addedOf a → r ≡ y → addedBy y ≡ recordAdded a
+pub record-added : {r y : adding-added.RecordAdded} (a : Added) → r ≡ addedOf a → r ≡ y → addedBy y ≡ recordAdded a
 record-added a h e = in-case addedBy (ap addedBy h ∙ added-by a) e

@@ -3,8 +3,8 @@
 // members are 0 on refusal.
 //
 // In order, as in the header: checking; finding; one item; adding a record; lengths.
-use blocks::ItemLocated;
-use blocks::RecordPlace;
+use finding::ItemLocated;
+use finding::RecordPlace;
 use records::ItemSet;
 ghost use mathlib.Core.Path.{_≡_};
 ghost use lib.ListN.{length};
@@ -88,7 +88,7 @@ pub struct RecordFound {
 pub extern "C" fn asterix_find_record(block: &[u8], n: usize) -> RecordFound
     ensures { λ r. ⌜ r ≡ recordFound (findRecord (now (block .entry)) n) ⌝ }
 {
-    let located = blocks::locate_record(block, n);
+    let located = finding::locate_record(block, n);
     let map = located.map;
     let starts = map.starts;
     let answer = located.answer;
@@ -127,7 +127,7 @@ pub struct ItemFound {
 pub extern "C" fn asterix_find_item(block: &[u8], reference: u16, n: usize) -> ItemFound
     ensures { λ r. ⌜ r ≡ itemFound (findItem (now (block .entry)) reference n) ⌝ }
 {
-    match blocks::locate_item(block, reference, n) {
+    match finding::locate_item(block, reference, n) {
         ItemLocated::At { start, length } => ItemFound {
             number: 0,
             place: 0,
@@ -230,20 +230,20 @@ pub extern "C" fn asterix_add_record(
     ensures answer { λ r. ⌜ r ≡ recordAdded (addRecord (now (out .entry)) used (frnsOf frns) (now (items .entry))) ⌝ }
     ensures left { λ _. ⌜ now (out .exit) ≡ leavesAdded (addRecord (now (out .entry)) used (frnsOf frns) (now (items .entry))) (now (out .entry)) ⌝ }
 {
-    match blocks::add_record(out, used, ItemSet { bits: frns }, items) {
-        blocks::RecordAdded::Length(length) => RecordAdded {
+    match adding::add_record(out, used, ItemSet { bits: frns }, items) {
+        adding::RecordAdded::Length(length) => RecordAdded {
             number: 0,
             in_new: 0,
             place: 0,
             length,
         },
-        blocks::RecordAdded::RefusedOld { number, place } => RecordAdded {
+        adding::RecordAdded::RefusedOld { number, place } => RecordAdded {
             number,
             in_new: 0,
             place,
             length: 0,
         },
-        blocks::RecordAdded::RefusedNew { number, place } => RecordAdded {
+        adding::RecordAdded::RefusedNew { number, place } => RecordAdded {
             number,
             in_new: 1,
             place,
@@ -259,5 +259,5 @@ pub extern "C" fn asterix_add_record(
 pub extern "C" fn asterix_least_length(category: u8, place: usize, octet: u8) -> usize
     ensures { λ r. ⌜ r ≡ leastLength (profileIn category categories) place octet ⌝ }
 {
-    blocks::least_length(items::profile_of(category), place, octet)
+    adding::least_length(items::profile_of(category), place, octet)
 }

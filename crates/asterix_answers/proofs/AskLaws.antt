@@ -17,7 +17,7 @@ use Rattle.rules.specs.Entry.{addRecord, oldBlock}
 use Rattle.layouts.proofs.ReadLaws.{le-or-lt}
 use Rattle.records.specs.Sets.{frnsOf}
 use Rattle.records.specs.declared.ItemSet.{ItemSet}
-use Rattle.blocks.proofs.AddLaws.{add-none}
+use Rattle.adding.proofs.AddLaws.{add-none}
 use Rattle.lines.specs.Page.{codes}
 use Rattle.lines.specs.Word.{words, wordEnd}
 use Rattle.lines.proofs.ListLaws.{front}
@@ -40,7 +40,9 @@ use Rattle.questions.specs.declared.ask.FindAsked.{FindAsked}
 use Rattle.questions.specs.declared.ask.FindAsked.the-variants as find
 use Rattle.questions.specs.declared.ask.RecordAsked.{RecordAsked}
 use Rattle.questions.specs.declared.ask.RecordAsked.the-variants as record'
-use Rattle.asterix_answers.specs.Text.{asked, badText, readText, writeText, addedText, lent, addText, findText, recordText, kindText, wordsText, answerText}
+use Rattle.phrases.specs.Text.{badText}
+use Rattle.texts.specs.Text.{readText, writeText, addedText, lent, addText, findText, recordText}
+use Rattle.asterix_answers.specs.Text.{asked, kindText, wordsText, answerText}
 
 -- ---- words that are a question, and words that are none: g is what an answer says that they are
 

@@ -1,3 +1,2 @@
--- What the crate's contracts cite: the text that answers a line, and how the code comes to that of a block. Assumes nothing.
+-- What the crate's contracts cite: the text that answers a line. Assumes nothing.
 pub mod Text
-pub mod Walk

@@ -1,12 +1,6 @@
 // A line answered: its words taken apart, and the answer to what they ask put on a page.
-use super::answer::put_added;
-use super::answer::put_found;
-use super::answer::put_map;
-use super::answer::put_read;
-use super::answer::put_recording;
-use super::answer::put_written;
-use super::block::put_block;
-use super::text::put_bad;
+use listings::put_block;
+use phrases::put_bad;
 use questions::AddAsked;
 use questions::FindAsked;
 use questions::Kind;
@@ -14,6 +8,12 @@ use questions::Octets;
 use questions::ReadAsked;
 use questions::RecordAsked;
 use questions::WriteAsked;
+use texts::put_added;
+use texts::put_found;
+use texts::put_map;
+use texts::put_read;
+use texts::put_recording;
+use texts::put_written;
 ghost use mathlib.Core.Path.{_≡_};
 ghost use Prim.Native.Nat.{_/_, _≤_};
 ghost use lib.ListN.{length};
@@ -21,7 +21,9 @@ ghost use mathlib.Core.List.{[], _∷_, _++_};
 ghost use Rattle.lines.specs.Page.{page, puts};
 ghost use Rattle.lines.specs.Word.{words};
 ghost use Rattle.questions.specs.Ask.{octetsAsked, readAsked, writeAsked, addAsked, findAsked, recordAsked};
-ghost use Rattle.asterix_answers.specs.Text.{asked, recordingText, readText, writeText, addText, findText, recordText, blockText, kindText, answerText};
+ghost use Rattle.texts.specs.Text.{recordingText, readText, writeText, addText, findText, recordText};
+ghost use Rattle.listings.specs.Text.{blockText};
+ghost use Rattle.asterix_answers.specs.Text.{asked, kindText, answerText};
 
 fn answer_block(
     text: &[u8],

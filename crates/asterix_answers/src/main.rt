@@ -5,10 +5,7 @@
 // The longest answer is that of `block`. Its line names 32,764 octets at most, 3 of them the head. The text of a record has no more than 21
 // characters for each of its octets: an octet of an item has 16 at most, since a bit has two (a digit, and a comma or a sign), and each item
 // has 5 more (a space, its reference and `=`); an FSPEC has 14 or fewer (` | 32764 32764`). That is fewer than 700,000 characters in all.
-mod answer;
-mod block;
 mod line;
-mod text;
 
 use input::Filled;
 use libc::STDERR_FILENO;

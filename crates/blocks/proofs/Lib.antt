@@ -1,10 +1,6 @@
 pub mod LoopLaws
 pub mod HeadLaws
 pub mod RecordLaws
-pub mod FindLaws
-pub mod AddLaws
-pub mod SetLaws
-pub mod AddedLaws
-pub mod LeastLaws
+pub mod OpenLaws
 pub mod InsideLaws
 pub mod Unique

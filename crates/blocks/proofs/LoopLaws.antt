@@ -34,6 +34,12 @@ unfolding later _>>=_
 later-made k (ok a) f g = refl
 later-made k (refused n p) f g = refl
 
+-- what is made of a value that is not there
+pub made-refused : {A B : Type 0} (x : Answer A) (f : A → B) (n p : ℕ) → (x >>= λ a. ok (f a)) ≡ refused n p → x ≡ refused n p
+unfolding _>>=_
+made-refused (ok a) f n p h = refused-ok (sym h)
+made-refused (refused m q) f n p h = (cc)
+
 -- two ways on from one answer, where they agree on its value
 pub bind-on : {A B : Type 0} (x : Answer A) (f g : A → Answer B) → ((a : A) → x ≡ ok a → f a ≡ g a) → (x >>= f) ≡ (x >>= g)
 unfolding _>>=_

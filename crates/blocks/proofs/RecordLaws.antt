@@ -1,28 +1,24 @@
 -- The records of a block, as a loop takes them by the answer of each: its map, or a refusal with its place in the block.
 --
--- In order: one record; how many there are; the record with a number. Assumes nothing.
+-- In order: one record; how many there are; octets that are records. Assumes nothing.
 use Prim.Native.Nat.{ℕ, suc, _+_, _-_, _≤_, _<_}
-use mathlib.Core.Path.{_≡_, refl, sym, ap, ap₂, _∙_, subst}
-use mathlib.Core.List.{List, [], _∷_}
+use mathlib.Core.Path.{_≡_, refl, sym, ap, _∙_, subst}
+use mathlib.Core.List.{List, _∷_}
 use native.Mathlib.Omega.{arith}
 use native.Mathlib.Nat.{add-zero}
 use lib.ListN.{length, drop, length-drop}
 use Rattle.rules.specs.Answer.{Answer, ok, refused, _>>=_, later, octetsOf}
 use Rattle.rules.specs.Record.{Category, Record, readRecord, writeRecord}
-use Rattle.rules.specs.Block.{readUpTo, readAll}
-use Rattle.rules.specs.Entry.{RecordMap, mapOf, numbered}
+use Rattle.rules.specs.Block.{readAll}
+use Rattle.rules.specs.Entry.{RecordMap, mapOf}
 use Rattle.rules.proofs.AnswerLaws.{refused-ok, ok-inj, bind-in, bind-elim, bind-cong, later-inv, later-in, octetsOf-ok, Octets, Split}
 use Rattle.rules.proofs.RecordLaws.{record-laws, record-starts}
 use Rattle.records.specs.Sets.{categoryAt}
 use Rattle.records.specs.declared.RecordChecked.the-variants as recordChecked
-use Rattle.records.specs.declared.RecordMap.{RecordMap as RecordMap′}
 use Rattle.records.specs.declared.RecordChecked.{RecordChecked}
-use Rattle.records.specs.declared.RecordWalked.{RecordWalked}
-use Rattle.records.specs.Answers.{endOf, mapIn, Walked, recordAt}
+use Rattle.records.specs.Answers.{endOf, recordAt}
 use Rattle.plain.specs.Record.{endAt}
-use Rattle.blocks.specs.declared.find.RecordPlace.the-variants.{At}
-use Rattle.blocks.specs.Found.{recordLocated}
-use Rattle.blocks.specs.Read.{countFrom, Records, seekAt}
+use Rattle.blocks.specs.Read.{countFrom, Records}
 use Rattle.blocks.proofs.LoopLaws.{Taken, taken-out, all-end, all-stop, all-turn, octets-drop}
 
 -- ---- one record
@@ -100,10 +96,6 @@ module _ (i k : ℕ) (bs : List ℕ) (x : RecordChecked) (ended : endOf x ≡ en
   ended-refused n q h =
       record-refusal (categoryAt i) k bs n q (sym (record-is i k bs) ∙ made-refused (recordAt i k bs) (λ m. m .end) n q (ap endOf (sym h) ∙ ended))
 
-pub walked-map : (i k : ℕ) (bs : List ℕ) (w : RecordWalked) → Walked w (recordAt i k bs) → (e : ℕ) (a : Accepted (categoryAt i) k bs e)
-    → w .map ≡ mapIn (ok (mapOf (categoryAt i) (record { start = k; value = a .value })))
-walked-map i k bs w walked e a = walked .map ∙ ap mapIn (record-is i k bs ∙ a .mapped)
-
 -- ---- how many there are
 
 pub count-end : (c : Category) (n k : ℕ) (bs : List ℕ) → length bs ≡ 0 → countFrom c n k bs ≡ ok n
@@ -137,77 +129,6 @@ pub record Counting (c : Category) (part : List ℕ) (from : ℕ) (rest : List �
   pub octets : Octets rest
   pub same : countFrom c n at rest ≡ countFrom c 0 from part
 
--- ---- the record with a number, in octets that are records
-
--- after the first record there are records again
-pub records-turn : (c : Category) (k : ℕ) (bs : List ℕ) (e : ℕ) → Octets bs → (a : Accepted c k bs e) (r : Records c bs)
-    → (s : Records c (drop (e - k) bs)) × (r .values ≡ a .value ∷ s .values)
-records-turn c k bs e o a r =
-    let z : (later 0 (readAll (readRecord c) bs) >>= ok) ≡ ok (r .values) = bind-in ok (later-in 0 (r .reads)) refl in
-    bind-elim _ _ (sym (all-turn (record-laws c) (record-starts c) 0 bs (drop (e - k) bs) (a .value) ok o (a .reads)) ∙ z) λ rs p q.
-    (record { values = rs; reads = later-inv _ _ p }, sym (ok-inj q))
-
-seek-in : (c : Category) (k : ℕ) (bs : List ℕ) (n : ℕ) (r : Records c bs) → seekAt c k bs n ≡ (numbered c k (r .values) n >>= λ z. ok (mapOf c z))
-unfolding seekAt
-seek-in c k bs n r = bind-in _ (r .reads) refl
-
-pub seek-end : (c : Category) (k : ℕ) (bs : List ℕ) (n : ℕ) → length bs ≡ 0 → seekAt c k bs n ≡ refused 19 0
-unfolding seekAt readAll readUpTo numbered _>>=_
-seek-end c k [] n e = refl
-seek-end c k (b ∷ bs) n e = absurd (omega arith)
-
--- none of them is refused
-pub seek-stop : {C : Type 0} (c : Category) (k : ℕ) (bs : List ℕ) (m q : ℕ) → Records c bs → 0 < length bs → Refusal c k bs m q → C
-seek-stop c k bs m q r l s =
-    let z : (later 0 (readAll (readRecord c) bs) >>= ok) ≡ ok (r .values) = bind-in ok (later-in 0 (r .reads)) refl in
-    refused-ok (sym (all-stop (record-laws c) (record-starts c) 0 bs ok m (s .place) l (s .reads)) ∙ z)
-
-pub seek-here : (c : Category) (k : ℕ) (bs : List ℕ) (n e : ℕ) → Octets bs → Records c bs → (a : Accepted c k bs e) → n ≡ 0
-    → seekAt c k bs n ≡ ok (mapOf c (record { start = k; value = a .value }))
-unfolding numbered _>>=_
-seek-here c k bs n e o r a z =
-    let (s, f) = records-turn c k bs e o a r in
-    seek-in c k bs n r ∙ ap₂ (λ rs i. numbered c k rs i >>= λ y. ok (mapOf c y)) f z
-
-seek-left : (c : Category) (k : ℕ) (bs rest : List ℕ) (e : ℕ) → Octets bs → Records c bs → Accepted c k bs e → rest ≡ drop (e - k) bs → Records c rest
-seek-left c k bs rest e o r a left = subst (Records c) (sym left) (records-turn c k bs e o a r .0)
-
-seek-turn : (c : Category) (k : ℕ) (bs rest : List ℕ) (n e : ℕ) → Octets bs → Records c bs → Accepted c k bs e → rest ≡ drop (e - k) bs → (n ≡ 0 → ⊥)
-    → seekAt c k bs n ≡ seekAt c e rest (n - 1)
-unfolding numbered
-seek-turn c k bs rest n e o r a left z =
-    let (s, f) = records-turn c k bs e o a r in
-    let i : n ≡ suc (n - 1) = omega arith in
-    seek-in c k bs n r
-    ∙ ap₂ (λ rs j. numbered c k rs j >>= λ y. ok (mapOf c y)) f i
-    ∙ ap (λ j. numbered c j (s .values) (n - 1) >>= λ y. ok (mapOf c y)) (a .ends)
-    ∙ sym (seek-in c e (drop (e - k) bs) (n - 1) s)
-    ∙ ap (λ y. seekAt c e y (n - 1)) (sym left)
-
--- what holds at each turn of the loop that seeks a record: what is left, where it starts, and how many are still to be passed
-pub record Seeking (c : Category) (part : List ℕ) (from n : ℕ) (rest : List ℕ) (at left : ℕ) : Type 0 where
-  pub room : at + length rest < 65_536
-  pub octets : Octets rest
-  pub records : Records c rest
-  pub same : seekAt c at rest left ≡ seekAt c from part n
-
-pub seek-again : (c : Category) (part : List ℕ) (from n : ℕ) (bs rest : List ℕ) (k left e : ℕ) → Seeking c part from n bs k left → Accepted c k bs e
-    → rest ≡ drop (e - k) bs → (left ≡ 0 → ⊥) → Seeking c part from n rest e (left - 1)
-seek-again c part from n bs rest k left e s a d z =
-    let l : length rest ≡ length bs - (e - k) = ap length d ∙ length-drop (e - k) bs in
-    record {
-      room = omega (arith, s .room, a .low, a .high);
-      octets = subst Octets (sym d) (octets-drop (e - k) bs (s .octets));
-      records = seek-left c k bs rest e (s .octets) (s .records) a d;
-      same = sym (seek-turn c k bs rest left e (s .octets) (s .records) a d z) ∙ s .same;
-    }
-
--- the record that was sought, with its map
-pub located-at : {c : Category} {k : ℕ} {bs : List ℕ} {e : ℕ} (a : Accepted c k bs e) (m : RecordMap′) → m ≡ mapIn (ok (mapOf c (record { start = k; value = a .value })))
-    → record { answer = At k (e - k); map = m } ≡ recordLocated (ok (mapOf c (record { start = k; value = a .value })))
-unfolding mapOf
-located-at {k = k} a m h = ap₂ (λ x y. record { answer = At k (x - k); map = y }) (sym (a .ends)) h
-
 pub count-again : (c : Category) (part : List ℕ) (from : ℕ) (bs rest : List ℕ) (k n e : ℕ) → Counting c part from bs k n → Accepted c k bs e
     → rest ≡ drop (e - k) bs → Counting c part from rest e (n + 1)
 count-again c part from bs rest k n e s a d =
@@ -218,3 +139,19 @@ count-again c part from bs rest k n e s a d =
       octets = subst Octets (sym d) (octets-drop (e - k) bs (s .octets));
       same = sym (count-turn c n k bs rest e (s .octets) a d) ∙ s .same;
     }
+
+-- ---- octets that are records
+
+-- after the first record there are records again
+pub records-turn : (c : Category) (k : ℕ) (bs : List ℕ) (e : ℕ) → Octets bs → (a : Accepted c k bs e) (r : Records c bs)
+    → (s : Records c (drop (e - k) bs)) × (r .values ≡ a .value ∷ s .values)
+records-turn c k bs e o a r =
+    let z : (later 0 (readAll (readRecord c) bs) >>= ok) ≡ ok (r .values) = bind-in ok (later-in 0 (r .reads)) refl in
+    bind-elim _ _ (sym (all-turn (record-laws c) (record-starts c) 0 bs (drop (e - k) bs) (a .value) ok o (a .reads)) ∙ z) λ rs p q.
+    (record { values = rs; reads = later-inv _ _ p }, sym (ok-inj q))
+
+-- none of them is refused
+pub seek-stop : {C : Type 0} (c : Category) (k : ℕ) (bs : List ℕ) (m q : ℕ) → Records c bs → 0 < length bs → Refusal c k bs m q → C
+seek-stop c k bs m q r l s =
+    let z : (later 0 (readAll (readRecord c) bs) >>= ok) ≡ ok (r .values) = bind-in ok (later-in 0 (r .reads)) refl in
+    refused-ok (sym (all-stop (record-laws c) (record-starts c) 0 bs ok m (s .place) l (s .reads)) ∙ z)

@@ -9,7 +9,7 @@ use lib.ListN.{length, take, drop, getD}
 use Rattle.rules.specs.Answer.{Answer, ok, _>>=_, need_or_then_, expect_or_, later}
 use Rattle.rules.specs.Record.{Category, Record, readRecord}
 use Rattle.rules.specs.Block.{Head, categoryOf, readAll, readBlock}
-use Rattle.rules.specs.Entry.{categories, RecordMap, mapOf, numbered}
+use Rattle.rules.specs.Entry.{categories}
 
 -- LEN: the second and the third octet, the higher first
 abbrev pub lenAt : List ℕ → ℕ
@@ -37,13 +37,6 @@ countFrom c n k bs = do
 pub record Records (c : Category) (bs : List ℕ) : Type 0 where
   pub values : List Record
   pub reads : readAll (readRecord c) bs ≡ ok values
-
--- the map of the record with a number, where the first record starts at a place
-unfoldable pub seekAt : Category → ℕ → List ℕ → ℕ → Answer RecordMap
-seekAt c k bs n = do
-  rs ← readAll (readRecord c) bs
-  r ← numbered c k rs n
-  ok (mapOf c r)
 
 -- a single block: its category, and its count of records
 pub record Opening : Type 0 where

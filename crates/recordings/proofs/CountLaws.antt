@@ -17,9 +17,8 @@ use Rattle.rules.proofs.AnswerLaws.{refused-ok, ok-inj, bind-elim, bind-cong, n
 use Rattle.rules.proofs.RecordLaws.{record-laws, record-starts}
 use Rattle.rules.proofs.BlockLaws.{block-laws, block-starts, HeadCame, head-forth}
 use Rattle.blocks.specs.Read.{Front, checkFront}
-use Rattle.blocks.proofs.FindLaws.{made-refused}
 use Rattle.blocks.proofs.InsideLaws.{Inside, bind-inside, ok-inside, upTo-inside, block-inside}
-use Rattle.blocks.proofs.LoopLaws.{later-zero, later-made, octets-drop, Taken, taken, all-few, all-end, all-stop, all-turn}
+use Rattle.blocks.proofs.LoopLaws.{later-zero, later-made, made-refused, octets-drop, Taken, taken, all-few, all-end, all-stop, all-turn}
 
 -- ---- one block
 

@@ -16,6 +16,7 @@ use lib.ListN.{length, getD, set, replicate, length-append, length-set}
 use lib.Seq.{set-getD}
 use Rattle.rules.specs.Presence.{flags, number}
 use Rattle.rules.specs.Entry.{over}
+use Rattle.rules.proofs.EntryLaws.{length-over}
 use Rattle.rules.proofs.PresenceLaws.{flags-length, number-lt, flags-number, number-flags}
 use Rattle.records.specs.Sets.{bitsOf, within}
 
@@ -49,11 +50,6 @@ flags-split (suc j) k n h =
         go false e = sym (lt-leb (2 ^ j) (n / 2 ^ k) (div-lt-iff-lt-mul (pow-pos k) .1 (subst (λ m. n < m) (pow-add 2 j k) (leb-false _ _ e))))
 
 -- ---- flags over none
-
-pub length-over : {A : Type 0} (xs ys : List A) → length (over xs ys) ≡ length ys
-length-over [] ys = refl
-length-over (x ∷ xs) [] = refl
-length-over (x ∷ xs) (y ∷ ys) = ap suc (length-over xs ys)
 
 pub over-pad : {A : Type 0} (xs : List A) (n : ℕ) (d : A) → length xs ≤ n → over xs (replicate n d) ≡ xs ++ replicate (n - length xs) d
 over-pad [] n d h = ap (λ k. replicate k d) (sym (sub-zero n))

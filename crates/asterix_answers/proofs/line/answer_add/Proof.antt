@@ -4,7 +4,7 @@ use native.Mathlib.Omega.{arith}
 use lib.ListN.{length}
 use Rattle.lines.proofs.PageLaws.{instead}
 use Rattle.questions.specs.Ask.{addIn, AddWithin}
-use Rattle.asterix_answers.specs.Text.{addText}
+use Rattle.texts.specs.Text.{addText}
 use Rattle.asterix_answers.proofs.AskLaws.{asked-not, add-is}
 use borrow.Author.Needs.{needs}
 use Rattle.asterix_answers.proofs.line.answer_add.Statement.{statement}

@@ -3,7 +3,7 @@ use mathlib.Core.Path.{refl}
 use native.Mathlib.Omega.{arith}
 use lib.ListN.{length}
 use Rattle.lines.proofs.PageLaws.{instead}
-use Rattle.asterix_answers.specs.Text.{blockText}
+use Rattle.listings.specs.Text.{blockText}
 use Rattle.questions.specs.Word.{octetsIn, OctetsWithin}
 use Rattle.asterix_answers.proofs.AskLaws.{asked-not, within-is, few-first, octets-is}
 use borrow.Author.Needs.{needs}

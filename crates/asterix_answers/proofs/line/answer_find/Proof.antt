@@ -2,7 +2,7 @@
 use mathlib.Core.Path.{refl}
 use lib.ListN.{length}
 use Rattle.lines.proofs.PageLaws.{instead}
-use Rattle.asterix_answers.specs.Text.{findText}
+use Rattle.texts.specs.Text.{findText}
 use Rattle.questions.specs.Ask.{findIn, FindWithin}
 use Rattle.asterix_answers.proofs.AskLaws.{asked-not, within-is, find-is}
 use borrow.Author.Needs.{needs}

@@ -2,7 +2,7 @@
 use mathlib.Core.Path.{refl}
 use lib.ListN.{length}
 use Rattle.lines.proofs.PageLaws.{instead}
-use Rattle.asterix_answers.specs.Text.{readText}
+use Rattle.texts.specs.Text.{readText}
 use Rattle.questions.specs.Ask.{readIn, ReadWithin}
 use Rattle.asterix_answers.proofs.AskLaws.{asked-not, within-is, read-is}
 use borrow.Author.Needs.{needs}

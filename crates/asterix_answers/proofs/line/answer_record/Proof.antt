@@ -2,7 +2,7 @@
 use mathlib.Core.Path.{refl}
 use lib.ListN.{length}
 use Rattle.lines.proofs.PageLaws.{instead}
-use Rattle.asterix_answers.specs.Text.{recordText}
+use Rattle.texts.specs.Text.{recordText}
 use Rattle.questions.specs.Ask.{recordIn, RecordWithin}
 use Rattle.asterix_answers.proofs.AskLaws.{asked-not, within-is, record-is}
 use borrow.Author.Needs.{needs}

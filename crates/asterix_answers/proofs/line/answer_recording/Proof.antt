@@ -2,7 +2,7 @@
 use mathlib.Core.Path.{refl}
 use lib.ListN.{length}
 use Rattle.lines.proofs.PageLaws.{instead}
-use Rattle.asterix_answers.specs.Text.{recordingText}
+use Rattle.texts.specs.Text.{recordingText}
 use Rattle.questions.specs.Word.{octetsIn, OctetsWithin}
 use Rattle.asterix_answers.proofs.AskLaws.{asked-not, within-is, octets-is}
 use borrow.Author.Needs.{needs}

@@ -1,0 +1,5 @@
+pub mod AddLaws
+pub mod SetLaws
+pub mod AddedLaws
+pub mod LeastLaws
+pub mod Unique

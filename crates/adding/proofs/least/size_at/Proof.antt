@@ -1,0 +1,21 @@
+-- `least::size_at` meets its contract: the table is the list of least sizes, entry by entry. Assumes nothing.
+use borrow.Author.Needs.{needs}
+use Rattle.rules.specs.Category017.{category017}
+use Rattle.rules.specs.Category018.{category018}
+use Rattle.rules.specs.Entry.{categories}
+use Rattle.adding.specs.Least.{leasts}
+use Rattle.adding.proofs.least.size_at.Statement.{statement}
+use Rattle.adding.proofs.least.size_at.Tie as tie
+
+array-read-wide : tie.Need-array-read-wide
+array-read-wide c = search needs
+
+wide-requires : tie.Need-wide-requires
+wide-requires c κs = search needs
+
+returns : tie.Need-returns
+unfolding leasts categories category017 category018
+returns c = (c .wide .ensures .0, c .wide .ensures .1)
+
+pub size-at-spec : {M : Type 1} → statement M
+size-at-spec = tie.close (tie.spec array-read-wide wide-requires returns)

@@ -1,0 +1,130 @@
+// Adding a record (document 01, "Refusal numbers and their order"): all is checked before the first byte is laid.
+use blocks::BlockChecked;
+use blocks::HEAD;
+use blocks::open_block;
+use records::ItemSet;
+use records::NewChecked;
+ghost use mathlib.Core.Path.{_≡_};
+ghost use Prim.Native.Nat.{_+_, _/_, _%_, _≤_, _<_};
+ghost use lib.ListN.{length, set};
+ghost use lib.Seq.{paste};
+ghost use Rattle.rules.specs.Entry.{addRecord, leavesAdded};
+ghost use Rattle.records.specs.Sets.{frnsOf, fspecAt};
+ghost use Rattle.adding.specs.Added.{addedOf, newNumber, newPlace, laid};
+
+// The longest that LEN can say.
+const LONGEST: usize = 65535;
+
+// The block's new length; or a refusal, whose place lies in the old block or in the new items.
+pub enum RecordAdded {
+    Length(usize),
+    RefusedOld { number: u8, place: usize },
+    RefusedNew { number: u8, place: usize },
+}
+
+fn new_number(checked: NewChecked) -> u8
+    ensures { λ r. ⌜ r ≡ newNumber checked ⌝ }
+{
+    match checked {
+        NewChecked::Length(_) => 0,
+        NewChecked::Refused { number, place: _ } => number,
+    }
+}
+
+fn new_place(checked: NewChecked) -> usize
+    ensures { λ r. ⌜ r ≡ newPlace checked ⌝ }
+{
+    match checked {
+        NewChecked::Length(_) => 0,
+        NewChecked::Refused { number: _, place } => place,
+    }
+}
+
+// LEN, the higher octet first.
+fn lay_len(out: &mut [u8], len: usize)
+    requires { ⌜ (3 ≤ length (now out)) × (len < 65536) ⌝ }
+    ensures { λ _. ⌜ now (out .exit) ≡ set (set (now (out .entry)) 1 (len / 256)) 2 (len % 256) ⌝ }
+{
+    out[1] = (len / 256) as u8;
+    out[2] = (len % 256) as u8;
+}
+
+// The FSPEC of a set, from a place on.
+fn lay_fspec(out: &mut [u8], at: usize, profile: usize, set: ItemSet)
+    requires { ⌜ at + length (fspecAt profile (set .bits)) ≤ length (now out) ⌝ }
+    ensures { λ _. ⌜ now (out .exit) ≡ paste (now (out .entry)) at (fspecAt profile (set .bits)) (length (fspecAt profile (set .bits))) ⌝ }
+{
+    let count = records::fspec_octets(profile, set);
+    let mut k: usize = 0;
+    while k < count {
+        out[at + k] = records::fspec_octet(profile, set, k);
+        k += 1;
+    }
+}
+
+// Octets, from a place on.
+fn lay_octets(out: &mut [u8], at: usize, octets: &[u8])
+    requires { ⌜ at + length (now octets) ≤ length (now out) ⌝ }
+    ensures { λ _. ⌜ now (out .exit) ≡ paste (now (out .entry)) at (now (octets .entry)) (length (now (octets .entry))) ⌝ }
+{
+    let mut k: usize = 0;
+    while k < octets.len() {
+        out[at + k] = octets[k];
+        k += 1;
+    }
+}
+
+// LEN renewed, and the record after the old ones.
+fn lay_record(out: &mut [u8], used: usize, len: usize, profile: usize, set: ItemSet, items: &[u8])
+    requires { ⌜ (3 ≤ used) × (len < 65536) × (len ≤ length (now out)) × (len ≡ used + (length (fspecAt profile (set .bits)) + length (now items))) ⌝ }
+    ensures { λ _. ⌜ now (out .exit) ≡ laid (now (out .entry)) used len (fspecAt profile (set .bits)) (now (items .entry)) ⌝ }
+{
+    let count = records::fspec_octets(profile, set);
+    lay_len(&mut *out, len);
+    lay_fspec(&mut *out, used, profile, set);
+    lay_octets(&mut *out, used + count, items);
+}
+
+// Into an output whose first bytes, so many as are used, are a block: the record of a set of FRNs, whose items are lent end to end.
+pub fn add_record(out: &mut [u8], used: usize, set: ItemSet, items: &[u8]) -> RecordAdded
+    ensures { λ r. ⌜ r ≡ addedOf (addRecord (now (out .entry)) used (frnsOf (set .bits)) (now (items .entry))) ⌝ }
+    ensures { λ _. ⌜ now (out .exit) ≡ leavesAdded (addRecord (now (out .entry)) used (frnsOf (set .bits)) (now (items .entry))) (now (out .entry)) ⌝ }
+{
+    if out.len() < used {
+        return RecordAdded::RefusedOld {
+            number: 16,
+            place: 0,
+        };
+    }
+    let old = open_block(&out[0..used], HEAD);
+    let checked = old.checked;
+    let BlockChecked::Accepted { records: _ } = checked else {
+        return RecordAdded::RefusedOld {
+            number: checked.number(),
+            place: checked.place(),
+        };
+    };
+    let profile = old.profile;
+    let new = records::check_new(profile, set, items);
+    let NewChecked::Length(n) = new else {
+        return RecordAdded::RefusedNew {
+            number: new_number(new),
+            place: new_place(new),
+        };
+    };
+    if LONGEST - used < n {
+        return RecordAdded::RefusedNew {
+            number: 17,
+            place: 0,
+        };
+    }
+    let len = used + n;
+    if out.len() < len {
+        return RecordAdded::RefusedNew {
+            number: 16,
+            place: 0,
+        };
+    }
+    lay_record(&mut *out, used, len, profile, set, items);
+    RecordAdded::Length(len)
+}

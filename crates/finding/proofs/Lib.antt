@@ -1,0 +1,3 @@
+pub mod SeekLaws
+pub mod FindLaws
+pub mod Unique
