@@ -18,7 +18,7 @@ use Rattle.rules.proofs.EntryLaws.{over-is}
 use Rattle.items.specs.Answers.{countOf}
 use Rattle.items.proofs.WriteTrip.{read-write}
 use Rattle.records.specs.Answers.{mapIn}
-use Rattle.records.proofs.FlagLaws.{length-over}
+use Rattle.sets.proofs.FlagLaws.{length-over}
 use Rattle.blocks.specs.declared.add.RecordAdded.the-variants as recordAdded
 use Rattle.blocks.specs.declared.find.RecordPlace.the-variants as recordPlace
 use Rattle.blocks.specs.declared.find.RecordLocated.{RecordLocated}

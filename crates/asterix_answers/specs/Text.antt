@@ -12,7 +12,7 @@ use Rattle.rules.specs.Answer.{Answer, ok, refused, octetsOf}
 use Rattle.rules.specs.Layout.{Values, concat}
 use Rattle.rules.specs.Record.{Category, Record, items, writeRecord}
 use Rattle.rules.specs.Entry.{Opened, openBlock, Counts, RecordMap, Laid, Added, added, refusedOld, refusedNew, checkRecording, readOne, writeOne, findItem, findRecord, addRecord}
-use Rattle.records.specs.Sets.{frnsFrom}
+use Rattle.sets.specs.Sets.{frnsFrom}
 use Rattle.io.specs.Digits.{digits}
 use Rattle.lines.specs.Page.{codes}
 use Rattle.lines.specs.Number.{decimalText}

@@ -8,11 +8,11 @@ use blocks::RecordPlace;
 use items::ItemRead;
 use items::ItemWritten;
 use recordings::RecordingChecked;
-use records::ItemSet;
+use sets::ItemSet;
 ghost use mathlib.Core.Path.{_≡_};
 ghost use lib.ListN.{length};
 ghost use Rattle.rules.specs.Entry.{addRecord};
-ghost use Rattle.records.specs.Sets.{frnsOf};
+ghost use Rattle.sets.specs.Sets.{frnsOf};
 ghost use Rattle.lines.specs.Page.{page, puts};
 ghost use Rattle.asterix_answers.specs.Text.{recordingText, readText, writeText, addedText, findText, startText, startsText, recordText};
 

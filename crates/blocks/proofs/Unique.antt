@@ -8,7 +8,7 @@ use native.Mathlib.Omega.{arith}
 use denote.Ref.{RefT}
 use Rattle.rules.specs.Entry.{checkBlock, findRecord, findItem, addRecord, leavesAdded, leastLength}
 use Rattle.rules.proofs.AnswerLaws.{ok-inj}
-use Rattle.records.specs.Sets.{frnsOf}
+use Rattle.sets.specs.Sets.{frnsOf}
 use Rattle.blocks.specs.declared.check.BlockChecked.{BlockChecked}
 use Rattle.blocks.specs.declared.check.BlockChecked.the-variants as blockChecked
 use Rattle.blocks.specs.declared.check.FrontChecked.{FrontChecked}

@@ -1,16 +1,16 @@
 // The record that is plainly legal: its set, what its message type asks for, its items.
 use super::item::Steps;
 use super::item::plain_item;
-use records::ItemSet;
 use records::RecordChecked;
-use records::SetRead;
 use records::check_record;
+use sets::ItemSet;
+use sets::SetRead;
 ghost use mathlib.Core.Path.{_≡_};
 ghost use mathlib.Core.Bool.{true};
 ghost use Prim.Native.Nat.{_/_, _≤_, _<_, _+_, _-_, _^_};
 ghost use lib.ListN.{length};
 ghost use Rattle.plain.specs.Item.{Plainly, soundSteps};
-ghost use Rattle.records.specs.Walk.{judgeSet};
+ghost use Rattle.sets.specs.Steps.{judgeSet};
 ghost use Rattle.records.specs.Answers.{endOf};
 ghost use Rattle.plain.specs.Record.{soundTypes, typeSets, Content, Later, Passed, endAt};
 

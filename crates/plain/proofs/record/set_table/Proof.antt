@@ -4,7 +4,7 @@ use Rattle.rules.specs.Presence.{number}
 use Rattle.rules.specs.Category017.{category017}
 use Rattle.rules.specs.Category018.{category018}
 use Rattle.rules.specs.Entry.{categories}
-use Rattle.records.specs.Sets.{categoryAt, bitsOf}
+use Rattle.sets.specs.Sets.{categoryAt, bitsOf}
 use Rattle.plain.specs.Record.{typeSets}
 use Rattle.plain.proofs.record.set_table.Statement.{statement}
 use Rattle.plain.proofs.record.set_table.Tie as tie

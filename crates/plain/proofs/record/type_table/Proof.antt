@@ -8,8 +8,8 @@ use Rattle.rules.specs.Category018.{category018}
 use Rattle.rules.specs.Entry.{categories}
 use Rattle.layouts.specs.FieldRules.{singles}
 use Rattle.layouts.specs.Tables.{layoutAt, layouts, groupAt, groups}
-use Rattle.records.specs.Sets.{categoryAt, bitsOf}
-use Rattle.records.specs.Walk.{rowAt}
+use Rattle.sets.specs.Sets.{categoryAt, bitsOf}
+use Rattle.sets.specs.Steps.{rowAt}
 use Rattle.plain.specs.Record.{typeSets, soundTypes}
 use Rattle.plain.proofs.record.type_table.Statement.{statement}
 use Rattle.plain.proofs.record.type_table.Tie as tie
