@@ -25,7 +25,7 @@ use Rattle.rules.proofs.AnswerLaws.{Octets, Split, after, ok-inj, refused-ok, s
 use Rattle.rules.proofs.BlockLaws.{single-forth}
 use Rattle.rules.proofs.RecordLaws.{place-laws, judge-same}
 use Rattle.items.specs.Answers.{referenceIn, checkAt, sizeOf, profileIn}
-use Rattle.layouts.proofs.TableLaws.{in-row}
+use Rattle.tables.proofs.TableLaws.{in-row}
 use Rattle.sets.specs.Sets.{categoryIn, categoryAt, bitsOf, setAt}
 use Rattle.sets.proofs.FlagLaws.{bits-flags, over-pad}
 use Rattle.records.proofs.PlaceLaws.{some-within}

@@ -26,9 +26,9 @@ use Rattle.rules.specs.Entry.{categories, RecordMap, mapOf}
 use Rattle.rules.proofs.AnswerLaws.{ok-inj, bind-in, bind-elim, later-in, both-left, both-right, Octets}
 use Rattle.rules.proofs.PresenceLaws.{flags-length}
 use Rattle.items.specs.Answers.{checkAt, frnAs}
-use Rattle.layouts.specs.FieldRules.{singles}
+use Rattle.tables.specs.FieldRules.{singles}
 use Rattle.plain.specs.Item.{Plainly}
-use Rattle.layouts.specs.Tables.{layoutAt, layouts, groupAt, groups}
+use Rattle.tables.specs.Tables.{layoutAt, layouts, groupAt, groups}
 use Rattle.layouts.proofs.ReadLaws.{le-or-lt, octets-drop}
 use Rattle.plain.proofs.ItemLaws.{free-check}
 use Rattle.sets.specs.Sets.{categoryAt, setAt, within}

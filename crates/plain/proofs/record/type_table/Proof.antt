@@ -6,8 +6,8 @@ use Rattle.rules.specs.Record.{messageOf}
 use Rattle.rules.specs.Category017.{category017}
 use Rattle.rules.specs.Category018.{category018}
 use Rattle.rules.specs.Entry.{categories}
-use Rattle.layouts.specs.FieldRules.{singles}
-use Rattle.layouts.specs.Tables.{layoutAt, layouts, groupAt, groups}
+use Rattle.tables.specs.FieldRules.{singles}
+use Rattle.tables.specs.Tables.{layoutAt, layouts, groupAt, groups}
 use Rattle.sets.specs.Sets.{categoryAt, bitsOf}
 use Rattle.sets.specs.Steps.{rowAt}
 use Rattle.plain.specs.Record.{typeSets, soundTypes}
