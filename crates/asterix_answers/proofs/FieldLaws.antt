@@ -17,7 +17,8 @@ use Rattle.rules.proofs.AnswerLaws.{Octets, ok-inj, bind-elim, need-elim, later
 use Rattle.tables.specs.declared.tables.PlaceRow.{PlaceRow}
 use Rattle.tables.specs.Tables.{layoutIs, layoutAt, placeIs, placeRowAt, nowhere}
 use Rattle.layouts.specs.Read.{shapeOf, wholeOf, headOf, stepOf, partsLegal}
-use Rattle.items.specs.Answers.{frnAs, profileIn}
+use Rattle.tables.specs.Places.{frnAs}
+use Rattle.items.specs.Answers.{profileIn}
 use Rattle.items.proofs.OneLaws.{onlyItem, layout-found, layout-missed, one-is}
 use Rattle.layouts.proofs.ReadLaws.{fitting, le-or-lt}
 use Rattle.layouts.proofs.StoreLaws.{length-held}

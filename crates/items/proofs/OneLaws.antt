@@ -27,11 +27,12 @@ use Rattle.tables.specs.declared.tables.LayoutRow.{LayoutRow}
 use Rattle.tables.specs.declared.tables.PlaceRow.{PlaceRow}
 use Rattle.tables.specs.Tables.{layoutIs, layoutAt, with, placeIs}
 use Rattle.tables.proofs.TableLaws.{layout-none}
+use Rattle.tables.specs.Places.{frnAs}
 use Rattle.layouts.specs.Read.{holds, partsLegal, partValues, Shaped, headOf, stepOf, shapeOf, wholeOf, readBy, rowSound}
 use Rattle.layouts.proofs.ReadLaws.{Fitting, fitting, reads, le-or-lt}
 use Rattle.layouts.proofs.StoreLaws.{length-held}
 use Rattle.layouts.proofs.Stores.{sets-over}
-use Rattle.items.specs.Answers.{frnAs, profileIn, countOf}
+use Rattle.items.specs.Answers.{profileIn, countOf}
 use Rattle.items.proofs.CheckLaws.{no-item}
 use Rattle.items.proofs.PlaceLaws.{Found, found, found-place, missed}
 

@@ -21,7 +21,8 @@ use Rattle.rules.specs.Entry.{categories, profileAt, layoutAs, isItem}
 use Rattle.tables.specs.declared.tables.PlaceRow.{PlaceRow}
 use Rattle.tables.specs.Tables.{layoutIs, layoutAt, nowhere, placeRowAt, with, placeIs}
 use Rattle.tables.proofs.TableLaws.{place-is, place-none, profile-few, place-row, layout-none, layout-some}
-use Rattle.items.specs.Answers.{referenceIn, isNamed, frnAs}
+use Rattle.tables.specs.Places.{isNamed, frnAs}
+use Rattle.items.specs.Answers.{referenceIn}
 
 -- ---- the item of a place's row
 

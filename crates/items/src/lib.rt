@@ -23,8 +23,9 @@ ghost use Rattle.rules.specs.Presence.{present, placeAt};
 ghost use Rattle.rules.specs.Answer.{expect_or_};
 ghost use Rattle.rules.specs.Entry.{categories, profileAt, layoutOf, readOne, leaves};
 ghost use Rattle.tables.specs.Tables.{placeIs, layoutIs, layoutAt, groupAt, placeRowAt};
+ghost use Rattle.tables.specs.Places.{isNamed, frnAs};
 ghost use Rattle.layouts.specs.Read.{partSound, wholeSize, singleSize};
-ghost use Rattle.items.specs.Answers.{referenceIn, isNamed, frnAs, frnOf, checkedOf, checkAt, profileIn, readOf, countOf};
+ghost use Rattle.items.specs.Answers.{referenceIn, frnOf, checkedOf, checkAt, profileIn, readOf, countOf};
 
 // ---- where an item stands
 

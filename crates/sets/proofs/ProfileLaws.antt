@@ -18,7 +18,7 @@ use Rattle.rules.specs.Category018.{category018}
 use Rattle.rules.specs.Entry.{categories, profileAt}
 use Rattle.rules.proofs.AnswerLaws.{both-left, both-right}
 use Rattle.rules.proofs.Tables.{everyCategory, distinct, tables-distinct, tables-few}
-use Rattle.items.specs.Answers.{frnAs}
+use Rattle.tables.specs.Places.{frnAs}
 use Rattle.sets.specs.Sets.{categoryIn, categoryAt}
 use Rattle.sets.specs.Steps.{typeFrn}
 

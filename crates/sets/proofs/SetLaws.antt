@@ -22,7 +22,6 @@ use Rattle.rules.specs.Presence.{flags, number, present, usable, house, flagRow
 use Rattle.rules.specs.Record.{Place, places}
 use Rattle.rules.proofs.AnswerLaws.{refused-ok, ok-inj, bind-in, bind-elim, bind-assoc, if-inv, if-true, if-false, both-left, both-right, Octets}
 use Rattle.rules.proofs.PresenceLaws.{flags-length, number-flags}
-use Rattle.layouts.proofs.OctetLaws.{octets-known}
 use Rattle.sets.specs.Sets.{categoryAt, bitsOf, within, setAt}
 use Rattle.sets.specs.Steps.{usableBits, ended, setFrom}
 use Rattle.sets.proofs.FlagLaws.{number-append, number-none, over-pad, bits-flags, bits-tail, within-pad, within-append}
@@ -38,7 +37,8 @@ bind-same (refused n p) f g h = refl
 
 -- what a slice of octets holds
 pub octets-all : (bs : List ℕ) → ((k : ℕ) → Fits w8 (getD bs k 0)) → Octets bs
-octets-all bs h = octets-known bs (λ k. h k .fits)
+octets-all [] h = tt
+octets-all (b ∷ bs) h = (h 0 .fits, octets-all bs (λ k. h (suc k)))
 
 -- ---- octets chained by FX bits
 

@@ -9,7 +9,7 @@ use lib.ListN.{getD}
 use Rattle.rules.specs.Answer.{Answer, ok, refused, _>>=_, need_or_then_, if_then_else_}
 use Rattle.rules.specs.Presence.{flags, present, has}
 use Rattle.rules.specs.Record.{Place, places, messageOf}
-use Rattle.items.specs.Answers.{frnAs}
+use Rattle.tables.specs.Places.{frnAs}
 use Rattle.sets.specs.Sets.{categoryAt, bitsOf, within}
 
 -- ---- the FSPEC
