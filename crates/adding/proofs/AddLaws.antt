@@ -20,7 +20,7 @@ use Rattle.blocks.specs.Read.{Opening, openFrom}
 use Rattle.blocks.proofs.HeadLaws.{headed, len-few, old-none, old-is}
 use Rattle.blocks.proofs.LoopLaws.{made-refused}
 use Rattle.rules.proofs.LayoutLaws.{octets-take}
-use Rattle.records.specs.Sets.{categoryAt, frnsOf, fspecAt}
+use Rattle.sets.specs.Sets.{categoryAt, frnsOf, fspecAt}
 use Rattle.records.specs.Answers.{newAt}
 use Rattle.records.proofs.NewLaws.{new-octets}
 use Rattle.adding.specs.declared.add.RecordAdded.the-variants as recordAdded

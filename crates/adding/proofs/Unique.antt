@@ -3,7 +3,7 @@ use Prim.Native.Nat.{ℕ}
 use mathlib.Core.Path.{_≡_, sym, _∙_}
 use mathlib.Core.List.{List}
 use Rattle.rules.specs.Entry.{addRecord, leavesAdded, leastLength}
-use Rattle.records.specs.Sets.{frnsOf}
+use Rattle.sets.specs.Sets.{frnsOf}
 use Rattle.adding.specs.declared.add.RecordAdded.{RecordAdded}
 use Rattle.adding.specs.Added.{addedOf}
 

@@ -2,14 +2,14 @@
 use blocks::BlockChecked;
 use blocks::HEAD;
 use blocks::open_block;
-use records::ItemSet;
 use records::NewChecked;
+use sets::ItemSet;
 ghost use mathlib.Core.Path.{_≡_};
 ghost use Prim.Native.Nat.{_+_, _/_, _%_, _≤_, _<_};
 ghost use lib.ListN.{length, set};
 ghost use lib.Seq.{paste};
 ghost use Rattle.rules.specs.Entry.{addRecord, leavesAdded};
-ghost use Rattle.records.specs.Sets.{frnsOf, fspecAt};
+ghost use Rattle.sets.specs.Sets.{frnsOf, fspecAt};
 ghost use Rattle.adding.specs.Added.{addedOf, newNumber, newPlace, laid};
 
 // The longest that LEN can say.
@@ -54,10 +54,10 @@ fn lay_fspec(out: &mut [u8], at: usize, profile: usize, set: ItemSet)
     requires { ⌜ at + length (fspecAt profile (set .bits)) ≤ length (now out) ⌝ }
     ensures { λ _. ⌜ now (out .exit) ≡ paste (now (out .entry)) at (fspecAt profile (set .bits)) (length (fspecAt profile (set .bits))) ⌝ }
 {
-    let count = records::fspec_octets(profile, set);
+    let count = sets::fspec_octets(profile, set);
     let mut k: usize = 0;
     while k < count {
-        out[at + k] = records::fspec_octet(profile, set, k);
+        out[at + k] = sets::fspec_octet(profile, set, k);
         k += 1;
     }
 }
@@ -79,7 +79,7 @@ fn lay_record(out: &mut [u8], used: usize, len: usize, profile: usize, set: Item
     requires { ⌜ (3 ≤ used) × (len < 65536) × (len ≤ length (now out)) × (len ≡ used + (length (fspecAt profile (set .bits)) + length (now items))) ⌝ }
     ensures { λ _. ⌜ now (out .exit) ≡ laid (now (out .entry)) used len (fspecAt profile (set .bits)) (now (items .entry)) ⌝ }
 {
-    let count = records::fspec_octets(profile, set);
+    let count = sets::fspec_octets(profile, set);
     lay_len(&mut *out, len);
     lay_fspec(&mut *out, used, profile, set);
     lay_octets(&mut *out, used + count, items);

@@ -8,7 +8,7 @@ use lib.IntN.{ℤ}
 use lib.ListN.{length}
 use Rattle.rules.specs.Entry.{categories, leaves, checkBlock, checkRecording, findRecord, findItem, readOne, writeOne, addRecord, leavesAdded, leastLength}
 use Rattle.items.specs.Answers.{profileIn}
-use Rattle.records.specs.Sets.{frnsOf}
+use Rattle.sets.specs.Sets.{frnsOf}
 use Rattle.asterix.specs.declared.BlockChecked.{BlockChecked}
 use Rattle.asterix.specs.declared.RecordingChecked.{RecordingChecked}
 use Rattle.asterix.specs.declared.RecordFound.{RecordFound}

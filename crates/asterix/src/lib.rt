@@ -5,12 +5,12 @@
 // In order, as in the header: checking; finding; one item; adding a record; lengths.
 use finding::ItemLocated;
 use finding::RecordPlace;
-use records::ItemSet;
+use sets::ItemSet;
 ghost use mathlib.Core.Path.{_≡_};
 ghost use lib.ListN.{length};
 ghost use Rattle.rules.specs.Entry.{categories, leaves, checkBlock, checkRecording, findRecord, findItem, readOne, writeOne, addRecord, leavesAdded, leastLength};
 ghost use Rattle.items.specs.Answers.{profileIn};
-ghost use Rattle.records.specs.Sets.{frnsOf};
+ghost use Rattle.sets.specs.Sets.{frnsOf};
 ghost use Rattle.asterix.specs.Answers.{blockChecked, recordingChecked, recordFound, itemFound, itemRead, itemWritten, recordAdded};
 
 // ---- checking

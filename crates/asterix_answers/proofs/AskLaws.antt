@@ -15,8 +15,8 @@ use lib.Seq.{length-take-le, take-at, take-take}
 use Rattle.rules.specs.Presence.{flags}
 use Rattle.rules.specs.Entry.{addRecord, oldBlock}
 use Rattle.layouts.proofs.ReadLaws.{le-or-lt}
-use Rattle.records.specs.Sets.{frnsOf}
-use Rattle.records.specs.declared.ItemSet.{ItemSet}
+use Rattle.sets.specs.Sets.{frnsOf}
+use Rattle.sets.specs.declared.ItemSet.{ItemSet}
 use Rattle.adding.proofs.AddLaws.{add-none}
 use Rattle.lines.specs.Page.{codes}
 use Rattle.lines.specs.Word.{words, wordEnd}

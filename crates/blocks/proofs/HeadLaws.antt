@@ -21,7 +21,7 @@ use Rattle.rules.specs.Category017.{category017}
 use Rattle.rules.specs.Category018.{category018}
 use Rattle.rules.proofs.BlockLaws.{category-cat}
 use Rattle.rules.proofs.AnswerLaws.{refused-ok, ok-inj, later-inv, bind-elim, need-elim, expect-elim, expect-in, expect-out, if-false, bind-in, bind-out, bind-assoc, bind-cong, need-bind, need-in, need-out, T-true, Octets}
-use Rattle.records.specs.Sets.{categoryAt}
+use Rattle.sets.specs.Sets.{categoryAt}
 use Rattle.blocks.specs.declared.check.BlockChecked.{BlockChecked}
 use Rattle.blocks.specs.declared.check.BlockChecked.the-variants as blockChecked
 use Rattle.blocks.specs.Answers.{checkedOf, openedBy}

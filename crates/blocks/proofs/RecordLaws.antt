@@ -13,7 +13,7 @@ use Rattle.rules.specs.Block.{readAll}
 use Rattle.rules.specs.Entry.{RecordMap, mapOf}
 use Rattle.rules.proofs.AnswerLaws.{refused-ok, ok-inj, bind-in, bind-elim, bind-cong, later-inv, later-in, octetsOf-ok, Octets, Split}
 use Rattle.rules.proofs.RecordLaws.{record-laws, record-starts}
-use Rattle.records.specs.Sets.{categoryAt}
+use Rattle.sets.specs.Sets.{categoryAt}
 use Rattle.records.specs.declared.RecordChecked.the-variants as recordChecked
 use Rattle.records.specs.declared.RecordChecked.{RecordChecked}
 use Rattle.records.specs.Answers.{endOf, recordAt}

@@ -5,7 +5,7 @@ use mathlib.Core.List.{List}
 use native.Mathlib.Omega.{arith}
 use Rattle.rules.specs.Entry.{checkBlock}
 use Rattle.rules.proofs.AnswerLaws.{ok-inj}
-use Rattle.records.specs.Sets.{categoryAt}
+use Rattle.sets.specs.Sets.{categoryAt}
 use Rattle.blocks.specs.declared.check.BlockChecked.{BlockChecked}
 use Rattle.blocks.specs.declared.check.BlockChecked.the-variants as blockChecked
 use Rattle.blocks.specs.declared.check.BlockOpened.{BlockOpened}

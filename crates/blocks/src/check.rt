@@ -14,7 +14,7 @@ ghost use Prim.Native.Nat.{_+_, _<_};
 ghost use lib.ListN.{length};
 ghost use Rattle.rules.specs.Entry.{checkBlock};
 ghost use Rattle.steps.specs.Item.{soundSteps};
-ghost use Rattle.records.specs.Sets.{categoryAt};
+ghost use Rattle.sets.specs.Sets.{categoryAt};
 ghost use Rattle.plain.specs.Record.{soundTypes};
 ghost use Rattle.plain.specs.Shape.{soundSets};
 ghost use Rattle.blocks.specs.Read.{countFrom, openFrom, checkFront};

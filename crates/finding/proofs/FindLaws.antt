@@ -25,7 +25,7 @@ use Rattle.rules.proofs.LayoutLaws.{item-laws}
 use Rattle.rules.proofs.Tables.{category-every, distinct, tables-distinct, tables-few}
 use Rattle.rules.proofs.Demands.{items-lie, map-start}
 use Rattle.items.specs.Answers.{isNamed, frnAs, sizeOf, checkAt}
-use Rattle.records.specs.Sets.{categoryIn, categoryAt}
+use Rattle.sets.specs.Sets.{categoryIn, categoryAt}
 use Rattle.finding.specs.declared.find.RecordPlace.the-variants as recordPlace
 use Rattle.finding.specs.declared.find.RecordLocated.{RecordLocated}
 use Rattle.finding.specs.declared.find.ItemLocated.the-variants as itemLocated

@@ -11,7 +11,7 @@ use Rattle.rules.specs.Record.{Category}
 use Rattle.rules.specs.Block.{readUpTo, readAll}
 use Rattle.rules.specs.Entry.{mapOf, numbered}
 use Rattle.rules.proofs.AnswerLaws.{bind-in, Octets}
-use Rattle.records.specs.Sets.{categoryAt}
+use Rattle.sets.specs.Sets.{categoryAt}
 use Rattle.records.specs.declared.RecordMap.{RecordMap as RecordMap′}
 use Rattle.records.specs.declared.RecordWalked.{RecordWalked}
 use Rattle.records.specs.Answers.{mapIn, Walked, recordAt}

@@ -12,7 +12,7 @@ ghost use Prim.Native.Nat.{_+_, _≤_, _<_};
 ghost use lib.ListN.{length};
 ghost use Rattle.rules.specs.Answer.{refused};
 ghost use Rattle.rules.specs.Entry.{findRecord, findItem};
-ghost use Rattle.records.specs.Sets.{categoryAt};
+ghost use Rattle.sets.specs.Sets.{categoryAt};
 ghost use Rattle.blocks.specs.Read.{Records};
 ghost use Rattle.finding.specs.Part.{VeryPart};
 ghost use Rattle.finding.specs.Found.{seekAt, recordLocated, recordSpan, locatedOf, itemSpan};

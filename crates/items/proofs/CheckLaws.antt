@@ -17,17 +17,18 @@ use Rattle.rules.specs.Layout.{Layout, Values}
 use Rattle.rules.specs.Presence.{placeAt}
 use Rattle.rules.specs.Entry.{categories, profileAt}
 use Rattle.rules.proofs.AnswerLaws.{Octets, none-some}
-use Rattle.layouts.specs.declared.tables.LayoutRow.{LayoutRow}
-use Rattle.layouts.specs.declared.tables.PlaceRow.{PlaceRow}
-use Rattle.layouts.specs.Tables.{groups, groupIs, groupRows, groupAt, layoutBy, layoutIs, layoutAt, nowhere, profileRows, placeRowAt, placeIs}
-use Rattle.layouts.specs.Read.{rowsAt, partAt, legal, partSound, partsSound, partsLegal, Shaped, headOf, stepOf, shapeBy, shapeOf, wholeOf, wholeSize, readBy, rowSound}
-use Rattle.items.specs.Answers.{sizeOf, checkAt}
-use Rattle.layouts.specs.FieldRules.{singleOf, singles, singleSize}
+use Rattle.tables.specs.declared.tables.LayoutRow.{LayoutRow}
+use Rattle.tables.specs.declared.tables.PlaceRow.{PlaceRow}
+use Rattle.tables.specs.Tables.{groups, groupIs, groupRows, groupAt, layoutBy, layoutIs, layoutAt, nowhere, profileRows, placeRowAt, placeIs}
+use Rattle.tables.specs.FieldRules.{singleOf, singles}
+use Rattle.tables.proofs.TableLaws.{place-is, place-row, place-none}
+use Rattle.layouts.specs.Read.{rowsAt, partAt, legal, partSound, partsSound, partsLegal, Shaped, headOf, stepOf, shapeBy, shapeOf, wholeOf, wholeSize, readBy, rowSound, singleSize}
 use Rattle.layouts.proofs.PartLaws.{First, first-part}
 use Rattle.layouts.proofs.ReadLaws.{fitting, reads, le-or-lt}
 use Rattle.layouts.proofs.ShapeLaws.{Rowed, rowed, fixed-one, fixed-group, fixed-cut, fixed-there}
-use Rattle.layouts.proofs.TableLaws.{layout-sound, place-is, place-row, place-none}
+use Rattle.layouts.proofs.SoundLaws.{layout-sound}
 use Rattle.layouts.proofs.WholeLaws.{whole-stopped, equal-free}
+use Rattle.items.specs.Answers.{sizeOf, checkAt}
 
 -- ---- how many octets an item takes
 

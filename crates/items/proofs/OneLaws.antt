@@ -23,16 +23,17 @@ use Rattle.rules.specs.Category017.{category017}
 use Rattle.rules.specs.Category018.{category018}
 use Rattle.rules.specs.Entry.{categories, profileAt, layoutAs, layoutOf, readOne, leaves}
 use Rattle.rules.proofs.AnswerLaws.{Octets, none-some, some-inj, bind-elim, need-elim, if-inv, if-true, if-false}
-use Rattle.layouts.specs.declared.tables.LayoutRow.{LayoutRow}
-use Rattle.layouts.specs.declared.tables.PlaceRow.{PlaceRow}
-use Rattle.layouts.specs.Tables.{layoutIs, layoutAt, with, placeIs}
+use Rattle.tables.specs.declared.tables.LayoutRow.{LayoutRow}
+use Rattle.tables.specs.declared.tables.PlaceRow.{PlaceRow}
+use Rattle.tables.specs.Tables.{layoutIs, layoutAt, with, placeIs}
+use Rattle.tables.proofs.TableLaws.{layout-none}
+use Rattle.tables.specs.Places.{frnAs}
 use Rattle.layouts.specs.Read.{holds, partsLegal, partValues, Shaped, headOf, stepOf, shapeOf, wholeOf, readBy, rowSound}
-use Rattle.items.specs.Answers.{frnAs, profileIn, countOf}
-use Rattle.items.proofs.CheckLaws.{no-item}
 use Rattle.layouts.proofs.ReadLaws.{Fitting, fitting, reads, le-or-lt}
 use Rattle.layouts.proofs.StoreLaws.{length-held}
 use Rattle.layouts.proofs.Stores.{sets-over}
-use Rattle.layouts.proofs.TableLaws.{layout-none}
+use Rattle.items.specs.Answers.{profileIn, countOf}
+use Rattle.items.proofs.CheckLaws.{no-item}
 use Rattle.items.proofs.PlaceLaws.{Found, found, found-place, missed}
 
 -- ---- the index of a category

@@ -18,10 +18,11 @@ use Rattle.rules.proofs.AnswerLaws.{if-inv, if-true, if-false, some-inj, none-s
 use Rattle.rules.specs.Presence.{present, placeAt}
 use Rattle.rules.specs.Record.{Place}
 use Rattle.rules.specs.Entry.{categories, profileAt, layoutAs, isItem}
-use Rattle.layouts.specs.declared.tables.PlaceRow.{PlaceRow}
-use Rattle.layouts.specs.Tables.{layoutIs, layoutAt, nowhere, placeRowAt, with, placeIs}
-use Rattle.items.specs.Answers.{referenceIn, isNamed, frnAs}
-use Rattle.layouts.proofs.TableLaws.{place-is, place-none, profile-few, place-row, layout-none, layout-some}
+use Rattle.tables.specs.declared.tables.PlaceRow.{PlaceRow}
+use Rattle.tables.specs.Tables.{layoutIs, layoutAt, nowhere, placeRowAt, with, placeIs}
+use Rattle.tables.proofs.TableLaws.{place-is, place-none, profile-few, place-row, layout-none, layout-some}
+use Rattle.tables.specs.Places.{isNamed, frnAs}
+use Rattle.items.specs.Answers.{referenceIn}
 
 -- ---- the item of a place's row
 

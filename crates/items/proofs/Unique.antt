@@ -8,13 +8,14 @@ use lib.IntN.{ℤ}
 use Rattle.rules.specs.Layout.{concat}
 use Rattle.rules.specs.Presence.{present, placeAt}
 use Rattle.rules.specs.Entry.{categories, profileAt, readOne, leaves}
+use Rattle.tables.specs.Places.{frnAs}
 use Rattle.items.specs.declared.FrnFound.{FrnFound}
 use Rattle.items.specs.declared.FrnFound.the-variants.{Frn, NoItem}
 use Rattle.items.specs.declared.ItemCheck.{ItemCheck}
 use Rattle.items.specs.declared.ItemCheck.the-variants as check
 use Rattle.items.specs.declared.ItemRead.{ItemRead}
 use Rattle.items.specs.declared.ItemRead.the-variants as read
-use Rattle.items.specs.Answers.{frnAs, frnOf, profileIn, checkedOf, checkAt, readOf, countOf}
+use Rattle.items.specs.Answers.{frnOf, profileIn, checkedOf, checkAt, readOf, countOf}
 
 same-frn : (a b : FrnFound) → frnOf a ≡ frnOf b → a ≡ b
 same-frn (Frn m) (Frn n) e = cc

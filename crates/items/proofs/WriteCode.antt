@@ -19,10 +19,10 @@ use mir.Val.{toZ, ofZ, SFits}
 use mir.ValLaws.{toZ-ofZ}
 use Rattle.rules.specs.Answer.{Answer, ok, refused, _>>=_, need_or_then_}
 use Rattle.rules.specs.Field.{Kind, unsigned, signed, Field, spare, value, half, put}
-use Rattle.layouts.specs.Tables.{fieldRow, fieldAt, minus}
-use Rattle.items.specs.Write.{fieldIn, widthOf, kindOf, codeFor}
-use Rattle.layouts.specs.declared.tables.FieldRow.{FieldRow}
+use Rattle.tables.specs.Tables.{fieldRow, fieldAt, minus}
+use Rattle.tables.specs.declared.tables.FieldRow.{FieldRow}
 use Rattle.layouts.proofs.FieldCodes.{twice}
+use Rattle.items.specs.Write.{fieldIn, widthOf, kindOf, codeFor}
 use Rattle.items.proofs.WriteSound.{SoundField, width-few}
 use Rattle.items.proofs.WriteTables.{field-row, field-in-sound}
 

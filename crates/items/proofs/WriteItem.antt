@@ -22,12 +22,12 @@ use Rattle.rules.specs.Category018.{category018}
 use Rattle.rules.specs.Entry.{categories, layoutOf, writeOne, over, leaves}
 use Rattle.rules.proofs.AnswerLaws.{refused-ok, ok-inj, bind-elim, bind-in, bind-cong, octetsOf-ok}
 use Rattle.rules.proofs.LayoutLaws.{octets-length}
-use Rattle.layouts.specs.declared.tables.LayoutRow.{LayoutRow}
-use Rattle.layouts.specs.Tables.{fields, groups, layouts, groupRows, groupAt, groupIs, layoutRows, layoutAt, layoutBy, layoutIs}
+use Rattle.tables.specs.declared.tables.LayoutRow.{LayoutRow}
+use Rattle.tables.specs.Tables.{fields, groups, layouts, groupRows, groupAt, groupIs, layoutRows, layoutAt, layoutBy, layoutIs}
+use Rattle.tables.proofs.TableLaws.{layout-none, layout-some}
+use Rattle.layouts.proofs.Stores.{sets-append, sets-over}
 use Rattle.items.specs.Answers.{countOf}
 use Rattle.items.specs.Write.{partsOf, chained, headOf, partsAt, chainedAt, headAt, groupIn, numbersOf, marked, laidParts, parts, countParts, layParts}
-use Rattle.layouts.proofs.TableLaws.{layout-none, layout-some}
-use Rattle.layouts.proofs.Stores.{sets-append, sets-over}
 use Rattle.items.proofs.WriteSound.{All, SoundGroup, Sound}
 use Rattle.items.proofs.WriteRefusals.{Eleven, done, not-done, eleven-bind, partsFrom-eleven, packAll-eleven}
 use Rattle.items.proofs.WriteTables.{layout-row-is}

@@ -19,10 +19,10 @@ use Rattle.rules.specs.Answer.{Answer, ok, refused, _>>=_}
 use Rattle.rules.specs.Field.{Kind, unsigned, signed, Field, spare, value, bits, arity, put, pack}
 use Rattle.rules.specs.Layout.{octets}
 use Rattle.rules.proofs.AnswerLaws.{refused-ok, ok-inj, bind-elim, need-elim, bind-cong, bind-assoc, need-bind}
+use Rattle.tables.specs.Tables.{fields, fieldRow, fieldAt, groupAt}
+use Rattle.tables.specs.declared.tables.FieldRow.{FieldRow}
+use Rattle.tables.specs.declared.tables.GroupRow.{GroupRow}
 use Rattle.items.specs.Write.{marked, packFirst, codeFor, widthOf, kindOf, fieldIn, groupIn, part, packFrom}
-use Rattle.layouts.specs.Tables.{fields, fieldRow, fieldAt, groupAt}
-use Rattle.layouts.specs.declared.tables.FieldRow.{FieldRow}
-use Rattle.layouts.specs.declared.tables.GroupRow.{GroupRow}
 use Rattle.items.proofs.WriteSound.{width-few}
 use Rattle.items.proofs.WriteTables.{fields-length, field-row, field-in-sound, group-end, group-in-sound}
 use Rattle.items.proofs.WriteLaid.{pow-256}

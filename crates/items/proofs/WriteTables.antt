@@ -16,10 +16,10 @@ use Rattle.rules.specs.Layout.{Group}
 use Rattle.rules.specs.Category017.{category017}
 use Rattle.rules.specs.Category018.{category018}
 use Rattle.rules.specs.Entry.{categories}
-use Rattle.layouts.specs.Tables.{fields, groups, layouts, fieldRow, fieldAt, groupRows, groupAt, layoutRows, layoutAt, groupIs}
+use Rattle.tables.specs.Tables.{fields, groups, layouts, fieldRow, fieldAt, groupRows, groupAt, layoutRows, layoutAt, groupIs}
+use Rattle.tables.specs.declared.tables.GroupRow.{GroupRow}
+use Rattle.tables.specs.declared.tables.LayoutRow.{LayoutRow}
 use Rattle.items.specs.Write.{fieldIn, noGroup, groupIn, partsAt, chainedAt}
-use Rattle.layouts.specs.declared.tables.GroupRow.{GroupRow}
-use Rattle.layouts.specs.declared.tables.LayoutRow.{LayoutRow}
 use Rattle.items.proofs.WriteSound.{SoundField, SoundGroup, Sound, every, every-at, every-in, both, fieldTest, field-sound, groupTest, group-sound, partsTest, parts-sound}
 
 -- ---- fields

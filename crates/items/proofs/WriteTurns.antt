@@ -19,11 +19,11 @@ use Rattle.rules.specs.Field.{Field, bits, arity}
 use Rattle.rules.specs.Layout.{Group, octets}
 use Rattle.rules.proofs.AnswerLaws.{refused-ok, ok-inj, bind-elim, bind-in, bind-cong, octetsOf-ok}
 use Rattle.rules.proofs.LayoutLaws.{octets-length}
-use Rattle.layouts.specs.Tables.{groupAt, layoutAt}
-use Rattle.layouts.specs.declared.tables.GroupRow.{GroupRow}
-use Rattle.layouts.specs.declared.tables.LayoutRow.{LayoutRow}
-use Rattle.items.specs.Write.{noGroup, groupIn, packFirst, numbersOf, marked, laidParts, partsAt, chainedAt, part, packFrom, Parts, parts, countParts, layParts}
+use Rattle.tables.specs.Tables.{groupAt, layoutAt}
+use Rattle.tables.specs.declared.tables.GroupRow.{GroupRow}
+use Rattle.tables.specs.declared.tables.LayoutRow.{LayoutRow}
 use Rattle.layouts.proofs.Stores.{sets-append}
+use Rattle.items.specs.Write.{noGroup, groupIn, packFirst, numbersOf, marked, laidParts, partsAt, chainedAt, part, packFrom, Parts, parts, countParts, layParts}
 use Rattle.items.proofs.WriteSound.{All, SoundGroup, all-drop}
 use Rattle.items.proofs.WriteTables.{layout-row-is, group-in-sound}
 use Rattle.items.proofs.WriteRefusals.{Eleven, done, not-done}

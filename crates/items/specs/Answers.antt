@@ -1,6 +1,5 @@
 -- What each function of this crate answers, in the words of the rules. Assumes nothing.
-use Prim.Native.Nat.{ℕ, suc, _+_, _-_}
-use mathlib.Core.Bool.{Bool, false}
+use Prim.Native.Nat.{ℕ, suc, _-_}
 use mathlib.Core.Option.{Option, none, some}
 use mathlib.Core.List.{List, [], _∷_}
 use lib.Dec.{eqb}
@@ -23,16 +22,6 @@ use Rattle.items.specs.declared.ItemRead.the-variants as read
 abbrev pub referenceIn : Option Place → ℕ
 referenceIn none = 0
 referenceIn (some p) = p .reference
-
--- whether the item at a place has a reference
-abbrev pub isNamed : ℕ → Option Place → Bool
-isNamed ref none = false
-isNamed ref (some p) = eqb ref (p .reference)
-
--- the FRN of the item with a reference, the first place having the number given
-unfoldable pub frnAs : ℕ → ℕ → List (Option Place) → Option ℕ
-frnAs ref f [] = none
-frnAs ref f (p ∷ ps) = if isNamed ref p then some f else frnAs ref (f + 1) ps
 
 -- the index of a category in a list, or how long the list is
 unfoldable pub profileIn : ℕ → List Category → ℕ

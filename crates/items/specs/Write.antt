@@ -10,7 +10,7 @@ use lib.IntN.{ℤ}
 use Rattle.rules.specs.Answer.{Answer, ok, refused, _>>=_, need_or_then_}
 use Rattle.rules.specs.Field.{Field, Kind, spare, value, unsigned, any, arity, put, pack}
 use Rattle.rules.specs.Layout.{Group, Layout, fixed, repeated, led, extended, group, octets, packAll, partsFrom}
-use Rattle.layouts.specs.Tables.{fields, groups, groupRows, groupAt, layoutAt, groupIs}
+use Rattle.tables.specs.Tables.{fields, groups, groupRows, groupAt, layoutAt, groupIs}
 use Rattle.items.specs.declared.write.ItemWritten.{ItemWritten}
 use Rattle.items.specs.declared.write.ItemWritten.the-variants as written
 use Rattle.items.specs.declared.write.Coded.{Coded}

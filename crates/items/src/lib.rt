@@ -1,18 +1,18 @@
 // One item of categories 017 and 018, over its layout: where a profile has it, its check, and its fields read and written.
 mod write;
 
-use layouts::FRNS;
-use layouts::PROFILES;
-use layouts::PlaceRow;
 use layouts::Shape;
 use layouts::item_store;
-use layouts::layout_at;
-use layouts::layout_row;
 use layouts::part_legal;
-use layouts::place_at;
-use layouts::single_at;
-use layouts::size_at;
 use layouts::whole_of;
+use tables::FRNS;
+use tables::PROFILES;
+use tables::PlaceRow;
+use tables::layout_at;
+use tables::layout_row;
+use tables::place_at;
+use tables::single_at;
+use tables::size_at;
 pub use write::ItemWritten;
 pub use write::write_item;
 ghost use mathlib.Core.Path.{_≡_};
@@ -22,10 +22,10 @@ ghost use Rattle.rules.specs.Layout.{concat};
 ghost use Rattle.rules.specs.Presence.{present, placeAt};
 ghost use Rattle.rules.specs.Answer.{expect_or_};
 ghost use Rattle.rules.specs.Entry.{categories, profileAt, layoutOf, readOne, leaves};
-ghost use Rattle.layouts.specs.Tables.{placeIs, layoutIs, layoutAt, groupAt, placeRowAt};
-ghost use Rattle.layouts.specs.Read.{partSound, wholeSize};
-ghost use Rattle.layouts.specs.FieldRules.{singleSize};
-ghost use Rattle.items.specs.Answers.{referenceIn, isNamed, frnAs, frnOf, checkedOf, checkAt, profileIn, readOf, countOf};
+ghost use Rattle.tables.specs.Tables.{placeIs, layoutIs, layoutAt, groupAt, placeRowAt};
+ghost use Rattle.tables.specs.Places.{isNamed, frnAs};
+ghost use Rattle.layouts.specs.Read.{partSound, wholeSize, singleSize};
+ghost use Rattle.items.specs.Answers.{referenceIn, frnOf, checkedOf, checkAt, profileIn, readOf, countOf};
 
 // ---- where an item stands
 

@@ -1,13 +1,13 @@
 // Writing one item: its fields, a list of whole numbers, to octets. All fields are checked before any octet is laid, so that a refusal changes
 // nothing. The parts of an item are packed one after another, by the groups of its layout; no item has code of its own.
 use super::layout_of;
-use layouts::EXTENDED;
-use layouts::LED;
-use layouts::REPEATED;
-use layouts::SPARE;
-use layouts::field_at;
-use layouts::group_at;
-use layouts::layout_at;
+use tables::EXTENDED;
+use tables::LED;
+use tables::REPEATED;
+use tables::SPARE;
+use tables::field_at;
+use tables::group_at;
+use tables::layout_at;
 ghost use mathlib.Core.Path.{_≡_};
 ghost use Prim.Native.Nat.{ℕ, _+_, _-_, _*_, _^_, _<_, _≤_};
 ghost use lib.ListN.{length, drop, getD};

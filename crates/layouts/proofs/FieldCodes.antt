@@ -1,6 +1,6 @@
 -- Codes of fields and the values they stand for, as the code works them out; and that the fields of a number are the rules' own.
 --
--- In order: signed numbers; tests; values; one field; all fields of a number. Assumes nothing.
+-- In order: signed numbers; values; one field; all fields of a number. Assumes nothing.
 use Prim.Native.Nat.{ℕ, zero, suc, _+_, _-_, _/_, _%_, _<_, _≤_, _^_, zero-le}
 use mathlib.Core.Path.{_≡_, refl, sym, ap, _∙_, subst}
 use mathlib.Core.Bool.{Bool, true, false, cond, _&&_}
@@ -17,8 +17,8 @@ use mir.Val.{toZ, ofZ, SFits}
 use mir.ValLaws.{toZ-pos, toZ-ofZ}
 use Rattle.rules.specs.Answer.{Answer, ok, _>>=_, need_or_then_, if_then_else_}
 use Rattle.rules.specs.Field.{Field, Kind, spare, value, unsigned, signed, bits, half, get, unpack}
-use Rattle.layouts.specs.declared.tables.FieldRow.{FieldRow}
-use Rattle.layouts.specs.Tables.{minus, fieldRow}
+use Rattle.tables.specs.declared.tables.FieldRow.{FieldRow}
+use Rattle.tables.specs.Tables.{minus, fieldRow}
 use Rattle.layouts.specs.Read.{twosOf, valueOf, within, isSpare, width, legal, shown, values}
 
 -- ---- signed numbers, for the functions that make one
@@ -41,14 +41,6 @@ module _ (k : ℕ) (h : k < 2 ^ 63) where
 -- a signed number that a local holds is read again from its bits
 abbrev pub again : ℤ → ℤ
 again z = toZ w64 (ofZ w64 z)
-
--- ---- tests
-
-pub and-true : {a : Bool} (b : Bool) → a ≡ true → a && b ≡ b
-and-true b e = ap (λ (x : Bool). x && b) e
-
-pub and-false : {a : Bool} (b : Bool) → a ≡ false → a && b ≡ false
-and-false b e = ap (λ (x : Bool). x && b) e
 
 -- ---- values
 

@@ -1,5 +1,5 @@
 pub mod Stores
-pub mod TableLaws
+pub mod SoundLaws
 pub mod FieldCodes
 pub mod Turns
 pub mod OctetLaws
@@ -8,4 +8,4 @@ pub mod ShapeLaws
 pub mod ReadLaws
 pub mod WholeLaws
 pub mod StoreLaws
-pub mod RuleLaws
+pub mod LegalLaws

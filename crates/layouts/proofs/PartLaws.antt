@@ -13,10 +13,10 @@ use lib.Seq.{drop-drop}
 use lib.Pow.{shr-lt}
 use borrow.Author.Tests.{ltb-true, leb-true, eqb-true}
 use Rattle.rules.proofs.AnswerLaws.{both-left, both-right}
-use Rattle.layouts.specs.declared.tables.GroupRow.{GroupRow}
-use Rattle.layouts.specs.Tables.{groupAt}
+use Rattle.tables.specs.declared.tables.GroupRow.{GroupRow}
+use Rattle.tables.specs.Tables.{groupAt}
+use Rattle.tables.proofs.RuleLaws.{and-true, and-false}
 use Rattle.layouts.specs.Read.{rows, rowsAt, partAt, width, legal, span, partSound, partsSound, partsLegal}
-use Rattle.layouts.proofs.FieldCodes.{and-true, and-false}
 
 -- ---- a sound group
 

@@ -25,9 +25,10 @@ use Rattle.rules.proofs.LayoutLaws.{octets-take}
 use Rattle.rules.specs.Category017.{category017}
 use Rattle.rules.specs.Category018.{category018}
 use Rattle.rules.specs.Entry.{categories}
-use Rattle.layouts.specs.declared.tables.LayoutRow.{LayoutRow}
-use Rattle.layouts.specs.Tables as t
-use Rattle.layouts.specs.Tables.{fields, fieldRow, groupIs, groupRows, groupAt, layoutIs, layoutBy}
+use Rattle.tables.specs.declared.tables.LayoutRow.{LayoutRow}
+use Rattle.tables.specs.Tables as t
+use Rattle.tables.specs.Tables.{fields, fieldRow, groupIs, groupRows, groupAt, layoutIs, layoutBy}
+use Rattle.tables.proofs.TableLaws.{fieldsAt}
 use Rattle.layouts.specs.Read.{rows, rowsAt, partAt, width, legal, values, span, holds, partSound, partsSound, partsLegal, partValues, Shaped, chain, headOf, stepOf, listShape, shapeBy, shapeOf, readKind, readBy, isOctet, rowSound}
 use Rattle.layouts.proofs.FieldCodes.{Wide, width-bits, unpack-is}
 use Rattle.layouts.proofs.OctetLaws.{joined-lt}
@@ -35,9 +36,6 @@ use Rattle.layouts.proofs.PartLaws.{PartSound, part-sound}
 use Rattle.layouts.proofs.ShapeLaws.{Rowed, rowed, fixed-one, led-many, led-size, led-octet, chain-ends, chain-inside, few-kinds}
 
 -- ---- the fields of a group
-
-abbrev pub fieldsAt : ℕ → List Field
-fieldsAt g = slice (groupAt g .1) (groupAt g .2) fields
 
 take-map : {A B : Type 0} (f : A → B) (k : ℕ) (l : List A) → take k (map f l) ≡ map f (take k l)
 take-map f zero l = refl

@@ -14,8 +14,8 @@ use borrow.Author.Tests.{le-leb, lt-leb, le-ltb, lt-ltb, leb-true, eqb-true}
 use Rattle.rules.specs.Answer.{Answer, ok, refused, _>>=_, need_or_then_, if_then_else_}
 use Rattle.rules.specs.Layout.{joined}
 use Rattle.rules.proofs.AnswerLaws.{both-left, both-right}
-use Rattle.layouts.specs.declared.tables.LayoutRow.{LayoutRow}
-use Rattle.layouts.specs.Tables.{fields, groupAt}
+use Rattle.tables.specs.declared.tables.LayoutRow.{LayoutRow}
+use Rattle.tables.specs.Tables.{fields, groupAt}
 use Rattle.layouts.specs.Read.{holds, partsSound, Shaped, chain, stepOf, listShape, shapeBy, shapeOf, isOctet, rowSoundBy, rowSound}
 use Rattle.layouts.proofs.OctetLaws.{joined-suc}
 use Rattle.layouts.proofs.PartLaws.{PartSound, part-sound, First, first-part}

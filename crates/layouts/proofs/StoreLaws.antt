@@ -16,9 +16,9 @@ use mir.Syntax.{w64}
 use mir.Val.{SFits}
 use mir.ValLaws.{toZ-ofZ}
 use Rattle.rules.specs.Layout.{concat}
-use Rattle.layouts.specs.declared.tables.FieldRow.{FieldRow}
-use Rattle.layouts.specs.declared.tables.GroupRow.{GroupRow}
-use Rattle.layouts.specs.Tables.{groupAt}
+use Rattle.tables.specs.declared.tables.FieldRow.{FieldRow}
+use Rattle.tables.specs.declared.tables.GroupRow.{GroupRow}
+use Rattle.tables.specs.Tables.{groupAt}
 use Rattle.layouts.specs.Read.{rows, rowsAt, partAt, valueOf, isSpare, width, shown, takes, values, count, span, holds, partsSound, partValues}
 use Rattle.layouts.proofs.FieldCodes.{again}
 use Rattle.layouts.proofs.PartLaws.{First, first-part}

@@ -11,10 +11,10 @@ use lib.IntN.{pos}
 use lib.ListN.{take, drop-of-length-le}
 use lib.Seq.{slice-cons, length-take-le}
 use lib.Pow.{pow-pos, shr-lt}
-use Rattle.layouts.specs.declared.tables.FieldRow.{FieldRow}
-use Rattle.layouts.specs.Tables.{fields, fieldRow, fieldAt}
+use Rattle.tables.specs.declared.tables.FieldRow.{FieldRow}
+use Rattle.tables.specs.Tables.{fields, fieldRow, fieldAt}
+use Rattle.tables.proofs.TableLaws.{field-few, field-wide, fields-long}
 use Rattle.layouts.specs.Read.{rows, valueOf, width, shown, takes, values, count}
-use Rattle.layouts.proofs.TableLaws.{field-few, field-wide, fields-long}
 
 -- ---- the row of a field
 

@@ -16,14 +16,14 @@ use borrow.Author.Tests.{le-leb, lt-ltb, ltb-true, ltb-false, eqb-true, ne-eqb}
 use Rattle.rules.specs.Answer.{ok, refused, _>>=_, need_or_then_}
 use Rattle.rules.specs.Field.{Field, spare, value, unsigned, signed, bits, half}
 use Rattle.rules.proofs.AnswerLaws.{Octets, both-left, both-right, refused-ok}
-use Rattle.layouts.specs.declared.tables.LayoutRow.{LayoutRow}
-use Rattle.layouts.specs.Tables.{fieldRow, minus, isFree, groupAt}
+use Rattle.tables.specs.declared.tables.LayoutRow.{LayoutRow}
+use Rattle.tables.specs.Tables.{fieldRow, minus, isFree, groupAt}
+use Rattle.tables.proofs.TableLaws.{fieldsAt, group-free}
 use Rattle.layouts.specs.Read.{rowsAt, partAt, twosOf, valueOf, within, legal, span, partSound, partsSound, partsLegal, headOf, stepOf, shapeOf, wholeOf, rowSound}
 use Rattle.layouts.proofs.FieldCodes.{Wide, width-bits, low-minus, low-neg, twice}
 use Rattle.layouts.proofs.PartLaws.{PartSound, part-sound}
-use Rattle.layouts.proofs.ReadLaws.{fieldsAt, rows-map, wide-slice, part-small, octets-drop, Fitting, fitting}
+use Rattle.layouts.proofs.ReadLaws.{rows-map, wide-slice, part-small, octets-drop, Fitting, fitting}
 use Rattle.layouts.proofs.ShapeLaws.{rowed, Grouped, fixed-group, list-group, led-group, few-kinds, no-shape}
-use Rattle.layouts.proofs.TableLaws.{group-free}
 
 -- ---- free groups
 

@@ -11,12 +11,12 @@ use lib.Seq.{slice}
 use Rattle.rules.specs.Answer.{Answer, ok, refused, _>>=_, need_or_then_, if_then_else_, Read}
 use Rattle.rules.specs.Field.{Field, spare, value, unsigned, signed}
 use Rattle.rules.specs.Layout.{Values, joined}
+use Rattle.tables.specs.declared.tables.FieldRow.{FieldRow}
+use Rattle.tables.specs.declared.tables.GroupRow.{GroupRow}
+use Rattle.tables.specs.declared.tables.LayoutRow.{LayoutRow}
+use Rattle.tables.specs.Tables.{fields, fieldRow, groupAt}
 use Rattle.layouts.specs.declared.parts.Shape.{Shape}
 use Rattle.layouts.specs.declared.parts.Shape.the-variants.{Parts, Refused}
-use Rattle.layouts.specs.declared.tables.FieldRow.{FieldRow}
-use Rattle.layouts.specs.declared.tables.GroupRow.{GroupRow}
-use Rattle.layouts.specs.declared.tables.LayoutRow.{LayoutRow}
-use Rattle.layouts.specs.Tables.{fields, fieldRow, groupAt}
 
 -- ---- the fields of a part
 
@@ -154,6 +154,13 @@ unfoldable pub wholeSize : LayoutRow → List ℕ → Answer ℕ
 wholeSize l bs = do
   s ← wholeOf l bs
   ok (s .1)
+
+-- ---- an item with one part
+
+unfoldable pub singleSize : ℕ → List ℕ → Answer ℕ
+singleSize g bs =
+    need leb (groupAt g .0) (length bs) or 9 then
+    need legal (rowsAt g) (partAt 0 g bs) or 11 then ok (groupAt g .0)
 
 -- ---- an item by its row: its shape, then its fields
 

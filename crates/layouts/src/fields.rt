@@ -1,22 +1,15 @@
 // The fields of a part, which is one number: they are cut off it from its highest bit down, each by its row of the table.
-use super::tables::FieldRow;
-use super::tables::SPARE;
-use super::tables::TWOS;
-use super::tables::field_at;
+use tables::FieldRow;
+use tables::SPARE;
+use tables::TWOS;
+use tables::field_at;
+use tables::pow2;
 ghost use mathlib.Core.Path.{_≡_};
 ghost use Prim.Native.Nat.{_+_, _≤_, _<_, _^_};
 ghost use mathlib.Core.List.{[]};
 ghost use lib.Seq.{sets};
 ghost use lib.IntN.{pos, negsuc};
 ghost use Rattle.layouts.specs.Read.{rows, valueOf, width, shown, takes, values, count};
-
-// The power of two.
-pub fn pow2(k: u64) -> u64
-    requires { ⌜ k < 64 ⌝ }
-    ensures { λ r. ⌜ r ≡ 2 ^ k ⌝ }
-{
-    1u64 << k
-}
 
 // n and -(n + 1): the only places where a signed number is made.
 fn up(n: u64) -> i64

@@ -1,16 +1,16 @@
 // The parts of an item, end to end: how many there are and how many octets they take, and their fields, part by part.
-use super::field_rules::are_obeyed;
-use super::field_rules::first_rule;
-use super::field_rules::is_free;
-use super::field_rules::size_at;
 use super::fields::fields_store;
-use super::tables::EXTENDED;
-use super::tables::FIXED;
-use super::tables::LED;
-use super::tables::LayoutRow;
-use super::tables::NONE;
-use super::tables::REPEATED;
-use super::tables::group_at;
+use tables::EXTENDED;
+use tables::FIXED;
+use tables::LED;
+use tables::LayoutRow;
+use tables::NONE;
+use tables::REPEATED;
+use tables::are_obeyed;
+use tables::first_rule;
+use tables::group_at;
+use tables::is_free;
+use tables::size_at;
 ghost use mathlib.Core.Path.{_≡_};
 ghost use mathlib.Core.Bool.{true};
 ghost use Prim.Native.Nat.{_+_, _-_, _*_, _%_, _≤_, _<_, _^_};
@@ -19,7 +19,7 @@ ghost use lib.Seq.{sets};
 ghost use Rattle.rules.specs.Layout.{joined, concat};
 ghost use Rattle.layouts.specs.Read.{rowsAt, partAt, legal, span, partSound, partsSound, partsLegal, values, count, holds, partValues, shapeIs, chain, listShape, headOf, stepOf, shapeOf, wholeOf, rowSound};
 ghost use lib.Dec.{eqb};
-ghost use Rattle.layouts.specs.Tables.{groupAt};
+ghost use Rattle.tables.specs.Tables.{groupAt};
 
 fn wide(x: u8) -> u64
     ensures { λ r. ⌜ (r ≡ x) × (r < 256) ⌝ }

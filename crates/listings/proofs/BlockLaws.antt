@@ -25,13 +25,12 @@ use Rattle.rules.proofs.AnswerLaws.{Octets, Split, after, ok-inj, refused-ok, s
 use Rattle.rules.proofs.BlockLaws.{single-forth}
 use Rattle.rules.proofs.RecordLaws.{place-laws, judge-same}
 use Rattle.items.specs.Answers.{referenceIn, checkAt, sizeOf, profileIn}
-use Rattle.layouts.proofs.TableLaws.{in-row}
-use Rattle.records.specs.Sets.{categoryIn, categoryAt, bitsOf, setAt}
-use Rattle.records.proofs.FlagLaws.{bits-flags, over-pad}
+use Rattle.tables.proofs.TableLaws.{in-row}
+use Rattle.sets.specs.Sets.{categoryIn, categoryAt, bitsOf, setAt}
+use Rattle.sets.proofs.FlagLaws.{bits-flags, over-pad}
 use Rattle.records.proofs.PlaceLaws.{some-within}
-use Rattle.records.proofs.ProfileLaws.{places-few, profile-at}
-use Rattle.records.proofs.RecordLaws.{Fspec, fspec-read}
-use Rattle.records.proofs.RowLaws.{rows-few}
+use Rattle.sets.proofs.ProfileLaws.{places-few, profile-at}
+use Rattle.sets.proofs.UsableLaws.{Fspec, fspec-read, rows-few}
 use Rattle.blocks.specs.Read.{Records, Opening, opening, openFrom, headBy, headAt}
 use Rattle.blocks.proofs.HeadLaws.{opened-is}
 use Rattle.blocks.proofs.OpenLaws.{opens}

@@ -17,7 +17,7 @@ use Rattle.rules.specs.Entry.{categories, profileAt, readOne}
 use Rattle.rules.proofs.AnswerLaws.{Octets, ok-inj}
 use Rattle.rules.proofs.PresenceLaws.{flags-length}
 use Rattle.items.specs.Answers.{referenceIn, checkAt}
-use Rattle.records.specs.Sets.{categoryAt, setAt}
+use Rattle.sets.specs.Sets.{categoryAt, setAt}
 use Rattle.blocks.specs.Read.{Records}
 use Rattle.blocks.proofs.LoopLaws.{octets-drop}
 use Rattle.blocks.proofs.RecordLaws.{Accepted, Refusal, records-turn, seek-stop}

@@ -11,7 +11,7 @@ use Rattle.rules.specs.Record.{Category, readRecord}
 use Rattle.rules.specs.Block.{readAll}
 use Rattle.rules.specs.Entry.{categories, profileAt, readOne}
 use Rattle.items.specs.Answers.{referenceIn, checkAt}
-use Rattle.records.specs.Sets.{setAt}
+use Rattle.sets.specs.Sets.{setAt}
 use Rattle.lines.specs.Page.{codes}
 use Rattle.phrases.specs.Text.{numberText}
 use Rattle.listings.specs.Text.{fieldsText, recordsText}

@@ -14,14 +14,16 @@ use Rattle.rules.specs.Layout.{concat}
 use Rattle.rules.specs.Presence.{placeAt}
 use Rattle.rules.specs.Entry.{categories, profileAt, layoutOf, readOne}
 use Rattle.rules.proofs.AnswerLaws.{Octets, ok-inj, bind-elim, need-elim, later-inv}
-use Rattle.layouts.specs.declared.tables.PlaceRow.{PlaceRow}
-use Rattle.layouts.specs.Tables.{layoutIs, layoutAt, placeIs, placeRowAt, nowhere}
+use Rattle.tables.specs.declared.tables.PlaceRow.{PlaceRow}
+use Rattle.tables.specs.Tables.{layoutIs, layoutAt, placeIs, placeRowAt, nowhere}
 use Rattle.layouts.specs.Read.{shapeOf, wholeOf, headOf, stepOf, partsLegal}
-use Rattle.items.specs.Answers.{frnAs, profileIn}
+use Rattle.tables.specs.Places.{frnAs}
+use Rattle.items.specs.Answers.{profileIn}
 use Rattle.items.proofs.OneLaws.{onlyItem, layout-found, layout-missed, one-is}
 use Rattle.layouts.proofs.ReadLaws.{fitting, le-or-lt}
 use Rattle.layouts.proofs.StoreLaws.{length-held}
-use Rattle.layouts.proofs.TableLaws.{place-is, place-row, none-past, none-other, layout-sound}
+use Rattle.layouts.proofs.SoundLaws.{layout-sound}
+use Rattle.tables.proofs.TableLaws.{place-is, place-row, none-past, none-other}
 
 -- ---- the layout of an item among the tables
 

@@ -26,23 +26,25 @@ use Rattle.rules.specs.Entry.{categories, RecordMap, mapOf}
 use Rattle.rules.proofs.AnswerLaws.{ok-inj, bind-in, bind-elim, later-in, both-left, both-right, Octets}
 use Rattle.rules.proofs.PresenceLaws.{flags-length}
 use Rattle.items.specs.Answers.{checkAt, frnAs}
-use Rattle.layouts.specs.FieldRules.{singles}
+use Rattle.tables.specs.FieldRules.{singles}
 use Rattle.steps.specs.Item.{Plainly}
-use Rattle.layouts.specs.Tables.{layoutAt, layouts, groupAt, groups}
+use Rattle.tables.specs.Tables.{layoutAt, layouts, groupAt, groups}
 use Rattle.layouts.proofs.ReadLaws.{le-or-lt, octets-drop}
 use Rattle.steps.proofs.ItemLaws.{free-check}
-use Rattle.records.specs.Sets.{categoryAt, setAt, within}
-use Rattle.records.specs.Walk.{typeFrn, Came, passed, walk, startAt, rowAt, judgeSet, recordBy}
-use Rattle.records.specs.Answers.{setOf, recordAt}
+use Rattle.sets.specs.Sets.{categoryAt, setAt, within}
+use Rattle.sets.specs.Steps.{typeFrn, rowAt, judgeSet}
+use Rattle.records.specs.Walk.{Came, passed, walk, startAt, recordBy}
+use Rattle.sets.specs.Answers.{setOf}
+use Rattle.records.specs.Answers.{recordAt}
 use Rattle.plain.specs.Record.{allBelow, typeSets, isRow, soundRow, free, allFree, freeSum, soundSum, soundTypes, Content, Goes, Later, Walks, Passed, endAt}
-use Rattle.records.specs.declared.ItemSet.{ItemSet}
-use Rattle.records.specs.declared.SetRead.{SetRead}
-use Rattle.records.specs.declared.SetRead.the-variants as set
-use Rattle.records.proofs.FlagLaws.{flags-split, has-bit}
-use Rattle.records.proofs.SetLaws.{octets-all, to-end}
+use Rattle.sets.specs.declared.ItemSet.{ItemSet}
+use Rattle.sets.specs.declared.SetRead.{SetRead}
+use Rattle.sets.specs.declared.SetRead.the-variants as set
+use Rattle.sets.proofs.FlagLaws.{flags-split, has-bit}
+use Rattle.sets.proofs.SetLaws.{octets-all, to-end}
 use Rattle.records.proofs.PlaceLaws.{check-within}
 use Rattle.records.proofs.WalkLaws.{walk-none}
-use Rattle.records.proofs.JudgeLaws.{judge-right}
+use Rattle.sets.proofs.JudgeLaws.{judge-right}
 use Rattle.records.proofs.RecordLaws.{record-law, record-read, RecordRead}
 
 -- ---- the tables

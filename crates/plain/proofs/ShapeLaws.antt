@@ -18,18 +18,20 @@ use Rattle.rules.specs.Answer.{Answer, ok, refused, if_then_else_}
 use Rattle.rules.specs.Presence.{flags, number}
 use Rattle.rules.proofs.AnswerLaws.{ok-inj, refused-ok, both-left, both-right, Octets}
 use Rattle.rules.proofs.PresenceLaws.{flags-length, flags-number, number-lt}
-use Rattle.layouts.specs.declared.tables.LayoutRow.{LayoutRow}
+use Rattle.tables.specs.declared.tables.LayoutRow.{LayoutRow}
 use Rattle.layouts.specs.Read.{wholeSize, rowSound}
-use Rattle.layouts.specs.Tables.{layoutAt, placeRowAt}
+use Rattle.tables.specs.Tables.{layoutAt, placeRowAt}
 use Rattle.layouts.proofs.ReadLaws.{octets-drop}
-use Rattle.layouts.proofs.TableLaws.{layout-sound, place-row}
+use Rattle.layouts.proofs.SoundLaws.{layout-sound}
+use Rattle.tables.proofs.TableLaws.{place-row}
 use Rattle.items.specs.Answers.{checkAt}
 use Rattle.items.proofs.CheckLaws.{check-place}
-use Rattle.records.specs.Sets.{categoryAt, setAt, within}
-use Rattle.records.specs.Walk.{Came, passed, walk, startAt, rowAt, judgeSet, ended, setFrom}
-use Rattle.records.specs.declared.ItemSet.{ItemSet}
-use Rattle.records.specs.declared.SetRead.the-variants as set
-use Rattle.records.proofs.SetLaws.{set-law, octets-all, to-end}
+use Rattle.sets.specs.Sets.{categoryAt, setAt, within}
+use Rattle.records.specs.Walk.{Came, passed, walk, startAt}
+use Rattle.sets.specs.Steps.{rowAt, judgeSet, ended, setFrom}
+use Rattle.sets.specs.declared.ItemSet.{ItemSet}
+use Rattle.sets.specs.declared.SetRead.the-variants as set
+use Rattle.sets.proofs.SetLaws.{set-law, octets-all, to-end}
 use Rattle.records.proofs.WalkLaws.{walk-none}
 use Rattle.steps.specs.Item.{Plainly, firstThree, asks, soundSingle, soundCounted}
 use Rattle.plain.specs.Record.{allBelow, typeSets, soundTypes, free, Content, Goes, Later, Walks, Passed, endAt}

@@ -10,9 +10,10 @@ use Rattle.rules.specs.Layout.{concat}
 use Rattle.rules.specs.Presence.{flags}
 use Rattle.rules.specs.Record.{Category}
 use Rattle.rules.specs.Entry.{categories}
-use Rattle.layouts.specs.FieldRules.{singles}
-use Rattle.records.specs.Walk.{Came, walk, startAt, markBits, rowAt}
-use Rattle.records.specs.Sets.{categoryAt}
+use Rattle.tables.specs.FieldRules.{singles}
+use Rattle.sets.specs.Steps.{markBits, rowAt}
+use Rattle.records.specs.Walk.{Came, walk, startAt}
+use Rattle.sets.specs.Sets.{categoryAt}
 use Rattle.records.specs.Answers.{recordAt}
 
 -- ---- the tables

@@ -8,10 +8,10 @@ use lib.Dec.{leb, ltb, eqb}
 use lib.ListN.{length, drop, getD}
 use Rattle.rules.specs.Answer.{Answer, ok, refused}
 use Rattle.rules.specs.Presence.{flags, number}
-use Rattle.layouts.specs.declared.tables.LayoutRow.{LayoutRow}
-use Rattle.layouts.specs.Tables.{layoutAt, placeRowAt}
-use Rattle.records.specs.Sets.{categoryAt, within}
-use Rattle.records.specs.Walk.{setFrom, rowAt}
+use Rattle.tables.specs.declared.tables.LayoutRow.{LayoutRow}
+use Rattle.tables.specs.Tables.{layoutAt, placeRowAt}
+use Rattle.sets.specs.Sets.{categoryAt, within}
+use Rattle.sets.specs.Steps.{setFrom, rowAt}
 use Rattle.steps.specs.Item.{firstThree, asks, soundSingle, soundCounted}
 use Rattle.plain.specs.Record.{allBelow, typeSets, free}
 

@@ -1,8 +1,8 @@
 // Where a record ends: by its shape, by its items one after the other, or by the exact check.
+use super::lent::Sets;
+use super::lent::Types;
 use super::record::plain_record;
 use super::shape::shaped_record;
-use super::tables::Sets;
-use super::tables::Types;
 use records::RecordChecked;
 use records::check_record;
 use steps::Steps;

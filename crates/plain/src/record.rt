@@ -1,8 +1,8 @@
 // The record that is plainly legal: its set, what its message type asks for, its items.
-use super::tables::Sets;
-use super::tables::Types;
-use records::ItemSet;
-use records::SetRead;
+use super::lent::Sets;
+use super::lent::Types;
+use sets::ItemSet;
+use sets::SetRead;
 use steps::Steps;
 use steps::octet;
 use steps::plain_item;
@@ -11,7 +11,7 @@ ghost use mathlib.Core.Bool.{true};
 ghost use Prim.Native.Nat.{_/_, _≤_, _<_, _+_, _-_, _^_};
 ghost use lib.ListN.{length};
 ghost use Rattle.steps.specs.Item.{Plainly, soundSteps};
-ghost use Rattle.records.specs.Walk.{judgeSet};
+ghost use Rattle.sets.specs.Steps.{judgeSet};
 ghost use Rattle.plain.specs.Record.{soundTypes, Content, Later, Passed, endAt};
 ghost use Rattle.plain.specs.Shape.{soundSets};
 

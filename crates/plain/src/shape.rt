@@ -1,7 +1,7 @@
 // A record whose FSPEC is a known shape: its length and all rules of its items but a few are one row of a table. Most records of a recording have one.
+use super::lent::Sets;
+use super::lent::Types;
 use super::record::later_items;
-use super::tables::Sets;
-use super::tables::Types;
 use steps::Steps;
 use steps::is_kept;
 use steps::octet;

@@ -27,7 +27,7 @@ use Rattle.questions.specs.declared.word.Octets.{Octets}
 use Rattle.questions.specs.declared.word.Octets.the-variants as octets
 use Rattle.questions.specs.declared.word.Items.{Items}
 use Rattle.questions.specs.declared.word.Items.the-variants as items
-use Rattle.records.specs.declared.ItemSet.{ItemSet}
+use Rattle.sets.specs.declared.ItemSet.{ItemSet}
 use Rattle.questions.specs.Word.{_>>=_, atMost, numberIn, NumberWithin, categoryOf, categoryIn, octetsIn, OctetsWithin, withFrns, frnsOf, setIn}
 
 differ : {A : Type 0} → _≡_ {A = ℕ} 0 1 → A

@@ -16,7 +16,7 @@ use super::word::read_items;
 use super::word::read_number;
 use super::word::read_octets;
 use lines::ListRead;
-use records::ItemSet;
+use sets::ItemSet;
 ghost use mathlib.Core.Path.{_≡_};
 ghost use Prim.Native.Nat.{_/_, _≤_};
 ghost use lib.ListN.{length};

@@ -1,7 +1,7 @@
 // What each word of a question says.
 use lines::Decimal;
 use lines::OctetsRead;
-use records::ItemSet;
+use sets::ItemSet;
 ghost use mathlib.Core.Path.{_≡_};
 ghost use Prim.Native.Nat.{_/_, _≤_, min};
 ghost use lib.ListN.{length};

@@ -21,9 +21,10 @@ use Rattle.rules.specs.Record.{Place, typeOf, writePlace}
 use Rattle.rules.specs.Entry.{over, laid, startOf, countOf}
 use Rattle.rules.proofs.AnswerLaws.{refused-ok, ok-inj, bind-elim, need-elim, if-true, if-false, none-some, some-inj, octetsOf-ok}
 use Rattle.rules.proofs.EntryLaws.{itemOctets, Written}
-use Rattle.records.specs.Sets.{within}
-use Rattle.records.specs.Walk.{typeFrn, Came, passed}
-use Rattle.records.proofs.ProfileLaws.{octet}
+use Rattle.sets.specs.Sets.{within}
+use Rattle.sets.specs.Steps.{typeFrn}
+use Rattle.sets.proofs.ProfileLaws.{octet}
+use Rattle.records.specs.Walk.{Came, passed}
 
 -- the values at places, the first of which has the FRN f
 abbrev pub comes : ℕ → ℕ → List (Option Place) → List (Option Values) → Came → Came

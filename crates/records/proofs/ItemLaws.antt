@@ -14,13 +14,15 @@ use Rattle.rules.proofs.AnswerLaws.{bind-in, bind-out, later-in, later-out, Oct
 use Rattle.rules.proofs.PresenceLaws.{rows-forth}
 use Rattle.rules.proofs.RecordLaws.{place-laws}
 use Rattle.rules.proofs.EntryLaws.{itemOctets, Written, rows-written}
-use Rattle.records.specs.Sets.{categoryAt, bitsOf, within}
-use Rattle.records.specs.Walk.{Came, walk, startAt, judgeSet}
-use Rattle.records.proofs.ProfileLaws.{places-few, TypePlace}
-use Rattle.records.proofs.SetLaws.{map-append}
-use Rattle.records.proofs.JudgeLaws.{judge-law}
+use Rattle.sets.specs.Sets.{categoryAt, bitsOf, within}
+use Rattle.sets.specs.Steps.{judgeSet}
+use Rattle.sets.proofs.ProfileLaws.{places-few, TypePlace}
+use Rattle.sets.proofs.SetLaws.{map-append}
+use Rattle.sets.proofs.JudgeLaws.{judge-law}
+use Rattle.sets.proofs.UsableLaws.{RowsUsable, rows-within, rows-few}
+use Rattle.records.specs.Walk.{Came, walk, startAt}
 use Rattle.records.proofs.CameLaws.{comes, comes-here, kind-law}
-use Rattle.records.proofs.RowLaws.{RowsUsable, rows-within, rows-few, items-law}
+use Rattle.records.proofs.RowLaws.{items-law}
 
 map-concat : {A B : Type 0} (f : A → B) (xs : List (List A)) → map f (concat xs) ≡ concat (map (map f) xs)
 map-concat f [] = refl

@@ -1,13 +1,8 @@
-pub mod FlagLaws
-pub mod ProfileLaws
-pub mod SetLaws
-pub mod JudgeLaws
 pub mod PlaceLaws
 pub mod WalkLaws
 pub mod CameLaws
 pub mod RowLaws
 pub mod ItemLaws
 pub mod RecordLaws
-pub mod FspecLaws
 pub mod NewLaws
 pub mod Unique

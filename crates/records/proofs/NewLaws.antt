@@ -19,18 +19,20 @@ use Rattle.rules.specs.Presence.{flags, writePresence, readRows, allUsable, set
 use Rattle.rules.specs.Record.{Record, judge, readPlace}
 use Rattle.rules.specs.Entry.{newRecord}
 use Rattle.rules.proofs.AnswerLaws.{ok-inj, bind-elim, need-elim, bind-in, bind-out, need-bind, need-in, need-out, later-in, later-out, T-true, Octets}
-use Rattle.records.specs.Sets.{categoryAt, bitsOf, frnsOf, within, fspecAt}
-use Rattle.records.specs.Walk.{usableBits, Came, walk, startAt, judgeSet, rowsLeft, newBy}
-use Rattle.records.specs.Answers.{judgedOf, judgedNumber, cameBy, cameOf, checkedNumber, checkedPlace, newAt}
-use Rattle.records.specs.declared.Judgement.{Judgement}
-use Rattle.records.specs.declared.Judgement.the-variants as judgement
+use Rattle.sets.specs.Sets.{categoryAt, bitsOf, frnsOf, within, fspecAt}
+use Rattle.sets.specs.Steps.{usableBits, judgeSet, rowsLeft}
+use Rattle.sets.specs.Answers.{judgedOf, judgedNumber}
+use Rattle.sets.specs.declared.Judgement.{Judgement}
+use Rattle.sets.specs.declared.Judgement.the-variants as judgement
+use Rattle.sets.proofs.ProfileLaws.{TypePlace, type-place}
+use Rattle.sets.proofs.SetLaws.{octets-all}
+use Rattle.sets.proofs.FspecLaws.{set-within, set-barred, set-some, set-usable, setRows, set-rows, set-rows-usable, set-rows-bits, no-rows, fspec-counted}
+use Rattle.records.specs.Walk.{Came, walk, startAt, newBy}
+use Rattle.records.specs.Answers.{cameBy, cameOf, checkedNumber, checkedPlace, newAt}
 use Rattle.records.specs.declared.RecordChecked.the-variants as checked
 use Rattle.records.specs.declared.ItemsWalked.{ItemsWalked}
-use Rattle.records.proofs.ProfileLaws.{TypePlace, type-place}
-use Rattle.records.proofs.SetLaws.{octets-all}
 use Rattle.records.proofs.RecordLaws.{came-refused, judged-refused}
 use Rattle.records.proofs.ItemLaws.{cameTo, octetsIn, walk-refused, walk-came, items-long, items-end, judged}
-use Rattle.records.proofs.FspecLaws.{set-within, set-barred, set-some, set-usable, setRows, set-rows, set-rows-usable, set-rows-bits, no-rows, fspec-counted}
 
 -- ---- the items, of a set that is not empty and that the profile has
 

@@ -16,7 +16,7 @@ use Rattle.rules.specs.Record.{Place}
 use Rattle.rules.specs.Entry.{categories, profileAt}
 use Rattle.rules.proofs.AnswerLaws.{refused-ok, ok-inj, bind-elim, expect-elim, none-some}
 use Rattle.items.specs.Answers.{sizeOf, checkAt}
-use Rattle.records.proofs.ProfileLaws.{profile-at, places-few}
+use Rattle.sets.proofs.ProfileLaws.{profile-at, places-few}
 
 -- ---- answers
 

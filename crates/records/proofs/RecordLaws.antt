@@ -1,11 +1,10 @@
 -- A record read as the code reads it, its FSPEC, its items and its message type one after the other, is the rules' record, and its map is theirs.
 --
--- In order: what an FSPEC leaves; the law; where a record ends; the steps of checking a record. Assumes nothing.
-use Prim.Native.Nat.{ℕ, _+_, _-_, _^_, _≤_, _<_}
+-- In order: the law; where a record ends; the steps of checking a record. Assumes nothing.
+use Prim.Native.Nat.{ℕ, _+_, _-_, _<_}
 use mathlib.Core.Path.{_≡_, refl, sym, ap, ap₂, _∙_, subst}
 use mathlib.Core.Logic.{⊎-elim}
 use mathlib.Core.Bool.{Bool}
-use mathlib.Core.Option.{Option}
 use mathlib.Core.List.{List, [], _∷_, map}
 use native.Mathlib.Omega.{arith}
 use native.Mathlib.Nat.{add-assoc, add-zero, zero-add}
@@ -15,64 +14,29 @@ use mir.Syntax.{w8}
 use mir.Val.{Fits}
 use Rattle.rules.specs.Answer.{Answer, ok, refused, octetsOf}
 use Rattle.rules.specs.Layout.{concat, readChain}
-use Rattle.rules.specs.Presence.{flags, numbers, writePresence, readPresence, readRows, readPlaces}
-use Rattle.rules.specs.Record.{Place, Record, places, judge, readPlace, writeRecord, readRecord}
+use Rattle.rules.specs.Presence.{flags, readPresence, readRows, readPlaces}
+use Rattle.rules.specs.Record.{Record, places, judge, readPlace, writeRecord, readRecord}
 use Rattle.rules.specs.Entry.{RecordMap, mapOf, over, laid, startOf, countOf}
-use Rattle.rules.proofs.AnswerLaws.{refused-ok, ok-inj, bind-in, bind-out, bind-elim, need-elim, later-in, later-out, later-inv, octetsOf-ok, Octets, Split, after}
-use Rattle.rules.proofs.PresenceLaws.{presence-laws}
+use Rattle.rules.proofs.AnswerLaws.{refused-ok, ok-inj, bind-in, bind-out, bind-elim, later-in, later-out, later-inv, octetsOf-ok, Octets, Split, after}
 use Rattle.rules.proofs.RecordLaws.{record-laws, record-starts}
-use Rattle.rules.proofs.EntryLaws.{presence-count}
-use Rattle.records.specs.Sets.{categoryAt, bitsOf, setAt}
-use Rattle.records.specs.Walk.{Came, walk, startAt, judgeSet, recordBy}
-use Rattle.records.specs.Answers.{setOf, setNumber, judgedOf, judgedNumber, cameBy, cameOf, checkedNumber, checkedPlace, endOf, absent, mapIn, Walked, recordAt}
-use Rattle.records.specs.declared.ItemSet.{ItemSet}
-use Rattle.records.specs.declared.SetRead.{SetRead}
-use Rattle.records.specs.declared.SetRead.the-variants as set
-use Rattle.records.specs.declared.Judgement.{Judgement}
-use Rattle.records.specs.declared.Judgement.the-variants as judgement
+use Rattle.sets.specs.Sets.{categoryAt, bitsOf, setAt}
+use Rattle.sets.specs.Steps.{judgeSet}
+use Rattle.sets.specs.Answers.{setOf, setNumber, judgedOf, judgedNumber}
+use Rattle.sets.specs.declared.ItemSet.{ItemSet}
+use Rattle.sets.specs.declared.SetRead.{SetRead}
+use Rattle.sets.specs.declared.SetRead.the-variants as set
+use Rattle.sets.specs.declared.Judgement.{Judgement}
+use Rattle.sets.specs.declared.Judgement.the-variants as judgement
+use Rattle.sets.proofs.ProfileLaws.{places-few, TypePlace, type-place}
+use Rattle.sets.proofs.SetLaws.{octets-all, to-end}
+use Rattle.sets.proofs.UsableLaws.{Fspec, fspec-read}
+use Rattle.records.specs.Walk.{Came, walk, startAt, recordBy}
+use Rattle.records.specs.Answers.{cameBy, cameOf, checkedNumber, checkedPlace, endOf, absent, mapIn, Walked, recordAt}
 use Rattle.records.specs.declared.RecordChecked.the-variants as checked
 use Rattle.records.specs.declared.RecordWalked.{RecordWalked}
 use Rattle.records.specs.declared.ItemsWalked.{ItemsWalked}
-use Rattle.records.proofs.FlagLaws.{bits-lt}
-use Rattle.records.proofs.ProfileLaws.{places-few, TypePlace, type-place}
-use Rattle.records.proofs.SetLaws.{octets-all, to-end}
 use Rattle.records.proofs.CameLaws.{comes-count, comes-starts}
-use Rattle.records.proofs.RowLaws.{RowsUsable}
 use Rattle.records.proofs.ItemLaws.{cameTo, octetsIn, walk-refused, walk-came, rows-count, stands, items-long, items-end, judged}
-
--- ---- what an FSPEC leaves
-
-usable-rows : (ps : List (List (Option Place))) (ts : List (List Bool)) (ns : List ℕ) → numbers ps ts ≡ ok ns → RowsUsable ps ts
-unfolding numbers
-usable-rows ps [] ns h = tt
-usable-rows [] (t ∷ ts) ns h = refused-ok h
-usable-rows (p ∷ ps) (t ∷ ts) ns h =
-    need-elim _ _ _ h λ u h₁.
-    bind-elim _ _ h₁ λ ms q h₂.
-    (u, usable-rows ps ts ms q)
-
-pub record Fspec (i : ℕ) (bs : List ℕ) (ts : List (List Bool)) (rest : List ℕ) : Type 0 where
-  pub took : length bs - length rest ≡ length ts
-  pub long : length bs ≡ length ts + length rest
-  pub left : drop (length bs - length rest) bs ≡ rest
-  pub rows : RowsUsable (categoryAt i .profile) ts
-  pub clean : Octets rest
-
-pub fspec-read : (i : ℕ) (bs : List ℕ) (ts : List (List Bool)) (rest : List ℕ) → Octets bs → readPresence 5 (categoryAt i .profile) bs ≡ ok (ts, rest) → Fspec i bs ts rest
-unfolding writePresence
-fspec-read i bs ts rest o h =
-    let s : Split (writePresence (categoryAt i .profile)) ts bs rest = presence-laws 5 (categoryAt i .profile) .forth ts bs rest o h in
-    let n : length (s .out) ≡ length ts = presence-count (categoryAt i .profile) ts (s .out) (s .writes) in
-    let a : length bs ≡ length (s .out) + length rest = ap length (s .joins) ∙ length-append (s .out) rest in
-    let m : length (s .out) ≡ length bs - length rest = omega arith in
-    bind-elim _ _ (s .writes) λ ns q _.
-    record {
-      took = omega arith;
-      long = omega arith;
-      left = ap (drop (length bs - length rest)) (s .joins) ∙ drop-at (s .out) rest (length bs - length rest) m;
-      rows = usable-rows (categoryAt i .profile) ts ns q;
-      clean = after s o;
-    }
 
 -- ---- the law
 
@@ -223,14 +187,6 @@ judged-refused x a n number h e m = sym h ∙ ap judgedOf e ∙ ap (λ z. refuse
 
 walked-refused : (w : RecordWalked) (a : Answer RecordMap) (n p : ℕ) → a ≡ refused n p → (w .checked ≡ checked.Refused n p) × (w .map ≡ absent) → Walked w a
 walked-refused w a n p e c = record { answer = ap endOf (c .0) ∙ sym (bind-out _ e); map = c .1 ∙ sym (ap mapIn e) }
-
-pub set-bounds : (i : ℕ) (bs : List ℕ) (bits used : ℕ) → setAt i bs ≡ ok (bits, used) → (bits < 2 ^ 63) × (used ≤ length bs)
-unfolding setAt
-set-bounds i bs bits used h =
-    bind-elim _ _ h λ x p h₁.
-    let e : _≡_ {A = ℕ × ℕ} (bitsOf (concat (x .0)), length bs - length (x .1)) (bits, used) = ok-inj h₁ in
-    let u : length bs - length (x .1) ≡ used = ap (λ z. z .1) e in
-    (subst (λ n. n < 2 ^ 63) (ap (λ z. z .0) e) (bits-lt (concat (x .0))), omega arith)
 
 module _ (i k : ℕ) (bs : List ℕ) (known : (j : ℕ) → Fits w8 (getD bs j 0)) (b : k + length bs < 65_536) where
   by-rules : (w : RecordWalked) → Walked w (recordBy i k bs) → Walked w (recordAt i k bs)

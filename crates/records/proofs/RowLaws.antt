@@ -3,18 +3,18 @@
 -- In order: places counted on; one row; rows end to end; the items of a set. Assumes nothing.
 use Prim.Native.Nat.{ℕ, zero, suc, _+_, _-_, _≤_}
 use mathlib.Core.Path.{_≡_, refl, sym, ap, ap₂, _∙_}
-use mathlib.Core.Bool.{Bool, true, false, _&&_}
+use mathlib.Core.Bool.{Bool, true, false}
 use mathlib.Core.Option.{Option, none, some}
-use mathlib.Core.List.{List, [], _∷_, _++_, map, append-assoc}
+use mathlib.Core.List.{List, [], _∷_, _++_, append-assoc}
 use native.Mathlib.Omega.{arith}
 use native.Mathlib.Nat.{add-zero, add-assoc}
 use native.Mathlib.Numerals.{add-one}
 use lib.Dec.{T}
-use lib.ListN.{length, take, drop, getD, replicate, length-append, length-map}
+use lib.ListN.{length, take, drop, getD, replicate, length-append}
 use lib.Seq.{take-at, drop-at, drop-drop, getD-drop}
 use Rattle.rules.specs.Answer.{Answer, ok, refused, _>>=_, later, octetsOf}
 use Rattle.rules.specs.Layout.{Values, concat}
-use Rattle.rules.specs.Presence.{flags, present, usable, readRow, readRows}
+use Rattle.rules.specs.Presence.{flags, usable, readRow, readRows}
 use Rattle.rules.specs.Record.{Place, Record, places, readPlace, writePlace}
 use Rattle.rules.specs.Entry.{categories, profileAt}
 use Rattle.rules.proofs.AnswerLaws.{bind-in, bind-out, bind-cong, later-in, later-out, expect-in, octetsOf-ok, Octets, Split, after}
@@ -22,11 +22,11 @@ use Rattle.rules.proofs.PresenceLaws.{usable-length, row-forth}
 use Rattle.rules.proofs.RecordLaws.{place-laws}
 use Rattle.rules.proofs.EntryLaws.{RowWritten, row-written}
 use Rattle.items.specs.Answers.{sizeOf, checkAt}
-use Rattle.records.specs.Sets.{categoryAt, bitsOf, within}
+use Rattle.sets.specs.Sets.{categoryAt, bitsOf}
+use Rattle.sets.proofs.FlagLaws.{over-pad, bits-flags-tail}
+use Rattle.sets.proofs.ProfileLaws.{profile-at, places-few}
+use Rattle.sets.proofs.UsableLaws.{RowsUsable, rows-few}
 use Rattle.records.specs.Walk.{Came, passed, walk, startAt}
-use Rattle.records.proofs.FlagLaws.{over-pad, bits-flags-tail, within-append}
-use Rattle.records.proofs.ProfileLaws.{profile-at, places-few}
-use Rattle.records.proofs.SetLaws.{usable-within, map-append}
 use Rattle.records.proofs.CameLaws.{comes, comes-none, comes-append, comes-here}
 
 -- ---- places counted on
@@ -51,16 +51,6 @@ first l g x xs d e = ap (λ n. getD l n d) (sym (add-zero g)) ∙ sym (getD-drop
 
 past : {A : Type 0} (l : List A) (g : ℕ) (xs ys : List A) → drop g l ≡ xs ++ ys → drop (g + length xs) l ≡ ys
 past l g xs ys e = sym (drop-drop (length xs) g l) ∙ ap (drop (length xs)) e ∙ drop-at xs ys (length xs) refl
-
-T-is : (t : Bool) → T t → t ≡ true
-T-is true h = refl
-T-is false h = absurd h
-
--- every flag that is set in a row has a usable place, and rows are as long as the profile's
-abbrev pub RowsUsable : List (List (Option Place)) → List (List Bool) → Type 0
-RowsUsable ps [] = Unit {0}
-RowsUsable [] (t ∷ ts) = ⊥
-RowsUsable (p ∷ ps) (t ∷ ts) = T (usable p t) × RowsUsable ps ts
 
 module _ (i : ℕ) where
   -- from a row on
@@ -177,22 +167,6 @@ walk-blank : (i m f : ℕ) (bs : List ℕ) (w : Came) → walk i (replicate m fa
 unfolding walk
 walk-blank i zero f bs w = refl
 walk-blank i (suc m) f bs w = walk-blank i m (f + 1) bs w
-
-pub rows-within : (ps : List (List (Option Place))) (ts : List (List Bool)) → RowsUsable ps ts → within (concat ts) (map present (concat ps)) ≡ true
-rows-within ps [] u = refl
-rows-within [] (t ∷ ts) u = absurd u
-rows-within (p ∷ ps) (t ∷ ts) u =
-    ap (within (t ++ concat ts)) (map-append present p (concat ps))
-    ∙ within-append t (map present p) (concat ts) (map present (concat ps)) (usable-length p t (u .0) ∙ sym (length-map p present))
-    ∙ ap₂ _&&_ (sym (usable-within p t (usable-length p t (u .0))) ∙ T-is (usable p t) (u .0)) (rows-within ps ts (u .1))
-
-pub rows-few : (ps : List (List (Option Place))) (ts : List (List Bool)) → RowsUsable ps ts → length (concat ts) ≤ length (concat ps)
-rows-few ps [] u = omega arith
-rows-few [] (t ∷ ts) u = absurd u
-rows-few (p ∷ ps) (t ∷ ts) u =
-    let a : length (t ++ concat ts) ≡ length t + length (concat ts) = length-append t (concat ts) in
-    let b : length (p ++ concat ps) ≡ length p + length (concat ps) = length-append p (concat ps) in
-    omega (arith, usable-length p t (u .0), rows-few ps ts (u .1))
 
 pub items-law : (i : ℕ) (ts : List (List Bool)) (bs : List ℕ) (k : ℕ) → RowsUsable (categoryAt i .profile) ts → Octets bs
     → walk i (flags 63 (bitsOf (concat ts))) 1 bs (startAt k)

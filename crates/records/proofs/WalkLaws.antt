@@ -17,9 +17,10 @@ use Rattle.rules.proofs.AnswerLaws.{bind-in, bind-out, later-in, later-out}
 use Rattle.items.specs.declared.ItemCheck.{ItemCheck}
 use Rattle.items.specs.declared.ItemCheck.the-variants as item
 use Rattle.items.specs.Answers.{checkAt, checkedOf}
-use Rattle.records.specs.Walk.{typeFrn, Came, passed, walk, startAt}
+use Rattle.sets.specs.Steps.{typeFrn}
+use Rattle.sets.proofs.SetLaws.{to-end}
+use Rattle.records.specs.Walk.{Came, passed, walk, startAt}
 use Rattle.records.specs.Answers.{itemNumber, itemPlace}
-use Rattle.records.proofs.SetLaws.{to-end}
 use Rattle.records.proofs.PlaceLaws.{check-within}
 
 -- ---- the next FRN of a set: its flag is the highest of what is left of the number

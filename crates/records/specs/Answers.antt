@@ -7,14 +7,10 @@ use Rattle.rules.specs.Answer.{Answer, ok, refused, _>>=_, later}
 use Rattle.rules.specs.Record.{readRecord}
 use Rattle.rules.specs.Entry.{mapOf, newRecord}
 use Rattle.rules.specs.Entry as entry
-use Rattle.records.specs.Sets.{categoryAt, frnsOf}
+use Rattle.items.specs.declared.ItemCheck.{ItemCheck}
+use Rattle.items.specs.declared.ItemCheck.the-variants as item
+use Rattle.sets.specs.Sets.{categoryAt, frnsOf}
 use Rattle.records.specs.Walk.{Came}
-use Rattle.records.specs.declared.SetRead.{SetRead}
-use Rattle.records.specs.declared.SetRead.the-variants.{Items, Refused}
-use Rattle.records.specs.declared.messages.MessageRow.{MessageRow}
-use Rattle.records.specs.declared.messages.MessageRow.the-variants.{Known, Unknown}
-use Rattle.records.specs.declared.Judgement.{Judgement}
-use Rattle.records.specs.declared.Judgement.the-variants as judgement
 use Rattle.records.specs.declared.RecordMap.{RecordMap}
 use Rattle.records.specs.declared.RecordChecked.{RecordChecked}
 use Rattle.records.specs.declared.RecordChecked.the-variants as checked
@@ -22,35 +18,6 @@ use Rattle.records.specs.declared.RecordWalked.{RecordWalked}
 use Rattle.records.specs.declared.ItemsWalked.{ItemsWalked}
 use Rattle.records.specs.declared.NewChecked.{NewChecked}
 use Rattle.records.specs.declared.NewChecked.the-variants as new
-use Rattle.items.specs.declared.ItemCheck.{ItemCheck}
-use Rattle.items.specs.declared.ItemCheck.the-variants as item
-
--- ---- the FSPEC
-
--- a set, and how many octets its FSPEC has
-abbrev pub setOf : SetRead → Answer (ℕ × ℕ)
-setOf (Items s n) = ok (s .bits, n)
-setOf (Refused n) = refused n 0
-
--- the number of a refusal, 0 where there is none
-abbrev pub setNumber : SetRead → ℕ
-setNumber (Items s n) = 0
-setNumber (Refused n) = n
-
--- ---- what the message type asks for
-
--- the sets of a message type: what it must have, and what it must or may have
-abbrev pub rowOf : MessageRow → Answer (ℕ × ℕ)
-rowOf (Known must may) = ok (must, may)
-rowOf Unknown = refused 13 0
-
-abbrev pub judgedOf : Judgement → Answer (Unit {0})
-judgedOf judgement.Right = ok tt
-judgedOf (judgement.Refused n) = refused n 0
-
-abbrev pub judgedNumber : Judgement → ℕ
-judgedNumber judgement.Right = 0
-judgedNumber (judgement.Refused n) = n
 
 -- ---- the items
 

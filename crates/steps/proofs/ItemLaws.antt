@@ -20,20 +20,21 @@ use Rattle.rules.specs.Category018.{category018}
 use Rattle.rules.specs.Entry.{categories}
 use Rattle.rules.specs.Layout.{joined}
 use Rattle.rules.proofs.AnswerLaws.{Octets, both-left, both-right}
-use Rattle.layouts.specs.declared.tables.LayoutRow.{LayoutRow}
-use Rattle.layouts.specs.declared.tables.PlaceRow.{PlaceRow}
+use Rattle.tables.specs.declared.tables.LayoutRow.{LayoutRow}
+use Rattle.tables.specs.declared.tables.PlaceRow.{PlaceRow}
 use Rattle.items.specs.Answers.{checkAt}
-use Rattle.layouts.specs.FieldRules.{Rule, obeys, allObeyed, rules, firstRule, singleOf, singles}
+use Rattle.tables.specs.FieldRules.{Rule, obeys, allObeyed, rules, firstRule, singleOf, singles}
 use Rattle.steps.specs.Item.{Plainly, firstThree, downOf, addedOf, upOf, limitOf, asks, sameRule, sameRules, soundRule, lowAt, highAt, asked, soundRow, soundFree, soundSingle, soundRuled, soundCounted, soundExtended, samePair, soundTwice, soundBy, soundWord, soundWords, soundSteps}
 use Rattle.layouts.specs.Read.{rowsAt, partAt, legal, partSound, partsLegal, chain, listShape, shapeOf, wholeSize, rowSound}
-use Rattle.layouts.specs.Tables.{groupAt, layoutAt, nowhere, profileRows, placeRowAt}
+use Rattle.tables.specs.Tables.{groupAt, layoutAt, nowhere, profileRows, placeRowAt}
 use Rattle.items.proofs.CheckLaws.{Single, single-is, single-size, single-sound, single-legal, free-of, free-there, check-whole, check-place}
 use Rattle.layouts.proofs.WholeLaws.{equal-free, chain-legal}
 use Rattle.layouts.proofs.OctetLaws.{joined-suc, joined-nil}
 use Rattle.layouts.proofs.ReadLaws.{octets-drop, le-or-lt}
-use Rattle.layouts.proofs.RuleLaws.{part-ruled}
+use Rattle.layouts.proofs.LegalLaws.{part-ruled}
 use Rattle.layouts.proofs.ShapeLaws.{rowed, Chaining, chain-begun, chain-group, chain-last, chain-more, chain-parts, chain-shape, list-shape, list-there, led-there}
-use Rattle.layouts.proofs.TableLaws.{layout-sound, place-row}
+use Rattle.layouts.proofs.SoundLaws.{layout-sound}
+use Rattle.tables.proofs.TableLaws.{place-row}
 
 -- ---- what is told
 

@@ -9,10 +9,10 @@ use lib.ListN.{getD}
 use lib.Seq.{slice}
 use Rattle.rules.specs.Answer.{Answer, ok}
 use Rattle.rules.specs.Entry.{categories}
-use Rattle.layouts.specs.declared.tables.LayoutRow.{LayoutRow}
-use Rattle.layouts.specs.declared.tables.PlaceRow.{PlaceRow}
-use Rattle.layouts.specs.Tables.{groupAt, layoutAt, profileRows}
-use Rattle.layouts.specs.FieldRules.{Rule, rules, firstRule, singleOf}
+use Rattle.tables.specs.declared.tables.LayoutRow.{LayoutRow}
+use Rattle.tables.specs.declared.tables.PlaceRow.{PlaceRow}
+use Rattle.tables.specs.Tables.{groupAt, layoutAt, profileRows}
+use Rattle.tables.specs.FieldRules.{Rule, rules, firstRule, singleOf}
 
 -- 0 tells nothing of an answer, and any other number that the answer is that number
 abbrev pub Plainly : ℕ → Answer ℕ → Type 0

@@ -7,7 +7,7 @@ ghost use lib.ListN.{length, getD};
 ghost use Rattle.items.specs.Answers.{checkAt};
 ghost use Rattle.steps.specs.Item.{Plainly, firstThree, asks, asked, soundFree, soundRuled, soundCounted, soundExtended, soundTwice, soundSteps};
 ghost use Rattle.layouts.specs.Read.{wholeSize};
-ghost use Rattle.layouts.specs.Tables.{layoutAt, placeRowAt};
+ghost use Rattle.tables.specs.Tables.{layoutAt, placeRowAt};
 
 // A word for each place of the profiles, 36 to a profile; then, for each of 16 rules, how many bits stand below its field _ what is added to the
 // field's code; then how many bits of 64 the field has not _ the greatest sum that is legal.

@@ -7,7 +7,7 @@ use lib.Dec.{eqb}
 use lib.IntN.{ℤ}
 use lib.ListN.{length, take, drop, replicate}
 use Rattle.rules.specs.Entry.{Counts, RecordMap, Laid, Added, added, refusedOld, refusedNew, checkRecording, readOne, writeOne, findItem, findRecord, addRecord}
-use Rattle.records.specs.Sets.{frnsFrom}
+use Rattle.sets.specs.Sets.{frnsFrom}
 use Rattle.lines.specs.Page.{codes}
 use Rattle.lines.specs.Number.{decimalText}
 use Rattle.lines.specs.Octet.{octetsText}

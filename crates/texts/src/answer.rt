@@ -8,11 +8,11 @@ use phrases::put_made;
 use phrases::put_number;
 use phrases::put_refused;
 use recordings::RecordingChecked;
-use records::ItemSet;
+use sets::ItemSet;
 ghost use mathlib.Core.Path.{_≡_};
 ghost use lib.ListN.{length};
 ghost use Rattle.rules.specs.Entry.{addRecord};
-ghost use Rattle.records.specs.Sets.{frnsOf};
+ghost use Rattle.sets.specs.Sets.{frnsOf};
 ghost use Rattle.lines.specs.Page.{page, puts};
 ghost use Rattle.texts.specs.Text.{recordingText, readText, writeText, addedText, findText, startText, startsText, recordText};
 

@@ -4,13 +4,14 @@ use mathlib.Core.Bool.{true}
 use Prim.Native.Nat.{_<_, _-_}
 use native.Mathlib.Omega.{arith}
 use Rattle.rules.proofs.AnswerLaws.{Octets}
-use Rattle.layouts.specs.declared.tables.LayoutRow.{LayoutRow}
-use Rattle.layouts.specs.FieldRules.{singleOf}
+use Rattle.tables.specs.declared.tables.LayoutRow.{LayoutRow}
+use Rattle.tables.specs.FieldRules.{singleOf}
+use Rattle.tables.specs.Tables.{layoutAt, placeRowAt}
+use Rattle.tables.proofs.TableLaws.{place-row}
 use Rattle.layouts.specs.Read.{shapeIs, wholeOf, rowSound}
-use Rattle.layouts.specs.Tables.{layoutAt, placeRowAt}
 use Rattle.layouts.proofs.OctetLaws.{octets-known}
+use Rattle.layouts.proofs.SoundLaws.{layout-sound}
 use Rattle.items.proofs.CheckLaws.{Single, single-is, single-of, single-size, single-sound, Free, free-of, free-cut, free-there, check-whole, check-refused}
-use Rattle.layouts.proofs.TableLaws.{layout-sound, place-row}
 use borrow.Author.Needs.{needs}
 use Rattle.items.proofs.check_at.Statement.{statement}
 use Rattle.items.proofs.check_at.Tie as tie

@@ -1,9 +1,9 @@
 -- `items::check_item` meets its contract: the row of the place says what the profile has there. Assumes nothing.
 use mathlib.Core.Path.{_∙_}
 use native.Mathlib.Omega.{arith}
+use Rattle.tables.proofs.TableLaws.{none-past, none-other}
 use Rattle.layouts.proofs.OctetLaws.{octets-known}
 use Rattle.items.proofs.CheckLaws.{check-place, no-place}
-use Rattle.layouts.proofs.TableLaws.{none-past, none-other}
 use borrow.Author.Needs.{needs}
 use Rattle.items.proofs.check_item.Statement.{statement}
 use Rattle.items.proofs.check_item.Tie as tie

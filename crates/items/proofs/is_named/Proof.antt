@@ -1,7 +1,7 @@
 -- `items::is_named` meets its contract. Assumes nothing.
 use mathlib.Core.Path.{ap, _∙_, sym}
 use borrow.Author.Tests.{eq-eqb, ne-eqb}
-use Rattle.items.specs.Answers.{isNamed}
+use Rattle.tables.specs.Places.{isNamed}
 use Rattle.items.proofs.PlaceLaws.{place-named}
 use borrow.Author.Needs.{needs}
 use Rattle.items.proofs.is_named.Statement.{statement}

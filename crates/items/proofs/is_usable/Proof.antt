@@ -1,5 +1,5 @@
 -- `items::is_usable` meets its contract: a place has an item where its layout is not that of no item. Assumes nothing.
-use Rattle.layouts.proofs.TableLaws.{none-past, none-other}
+use Rattle.tables.proofs.TableLaws.{none-past, none-other}
 use Rattle.items.proofs.PlaceLaws.{usable-at, not-usable}
 use borrow.Author.Needs.{needs}
 use Rattle.items.proofs.is_usable.Statement.{statement}

@@ -2,8 +2,8 @@
 use Prim.Native.Nat.{_<_, _*_, _+_}
 use mathlib.Core.Path.{ap, _∙_, sym, subst}
 use lib.Dec.{lit<}
-use Rattle.layouts.specs.Tables.{placeIs}
-use Rattle.layouts.proofs.TableLaws.{place-is, place-row, none-past, none-other}
+use Rattle.tables.specs.Tables.{placeIs}
+use Rattle.tables.proofs.TableLaws.{place-is, place-row, none-past, none-other}
 use borrow.Author.Needs.{needs}
 use Rattle.items.proofs.place_of.Statement.{statement}
 use Rattle.items.proofs.place_of.Tie as tie

@@ -4,11 +4,11 @@ use mathlib.Core.Bool.{true}
 use native.Mathlib.Omega.{arith}
 use denote.Ref.{now}
 use Rattle.rules.proofs.AnswerLaws.{Octets}
-use Rattle.layouts.specs.declared.tables.LayoutRow.{LayoutRow}
+use Rattle.tables.specs.declared.tables.LayoutRow.{LayoutRow}
 use Rattle.layouts.specs.Read.{shapeIs, rowSound}
 use Rattle.layouts.proofs.OctetLaws.{octets-known}
+use Rattle.layouts.proofs.SoundLaws.{layout-sound}
 use Rattle.items.proofs.OneLaws.{one-refused, one-longer, one-fits, one-whole}
-use Rattle.layouts.proofs.TableLaws.{layout-sound}
 use borrow.Author.Needs.{needs}
 use Rattle.items.proofs.read_item.Statement.{statement}
 use Rattle.items.proofs.read_item.Tie as tie

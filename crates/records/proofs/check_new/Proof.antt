@@ -1,7 +1,7 @@
 -- `records::check_new` meets its contract: at each `return` the functions called say which step of the rules ended the work. Assumes nothing.
 use native.Mathlib.Omega.{arith}
 use borrow.Author.Needs.{needs}
-use Rattle.records.proofs.FspecLaws.{set-low, set-within}
+use Rattle.sets.proofs.FspecLaws.{set-low, set-within}
 use Rattle.records.proofs.NewLaws.{new-empty, new-barred, new-stop, new-more, new-judged, new-whole}
 use Rattle.records.proofs.check_new.Statement.{statement}
 use Rattle.records.proofs.check_new.Tie as tie

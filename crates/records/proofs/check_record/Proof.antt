@@ -5,9 +5,10 @@ use native.Mathlib.Omega.{arith}
 use lib.ListN.{length}
 use borrow.Author.Needs.{needs}
 use Rattle.rules.specs.Answer.{ok}
-use Rattle.records.specs.Sets.{setAt}
-use Rattle.records.specs.Answers.{setOf}
-use Rattle.records.proofs.RecordLaws.{set-bounds, step-set, step-walk, step-judge, step-whole}
+use Rattle.sets.specs.Sets.{setAt}
+use Rattle.sets.specs.Answers.{setOf}
+use Rattle.sets.proofs.UsableLaws.{set-bounds}
+use Rattle.records.proofs.RecordLaws.{step-set, step-walk, step-judge, step-whole}
 use Rattle.records.proofs.check_record.Statement.{statement}
 use Rattle.records.proofs.check_record.Tie as tie
 

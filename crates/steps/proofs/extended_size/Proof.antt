@@ -7,10 +7,11 @@ use borrow.Author.Tests.{not-false}
 use lib.ListN.{drop}
 use Rattle.rules.proofs.AnswerLaws.{Octets}
 use Rattle.steps.specs.Item.{firstThree, asked, soundExtended}
-use Rattle.layouts.specs.Tables.{layoutAt, placeRowAt}
+use Rattle.tables.specs.Tables.{layoutAt, placeRowAt}
 use Rattle.layouts.proofs.OctetLaws.{octets-known}
 use Rattle.steps.proofs.ItemLaws.{three-on, asked-first, extended-one, extended-two}
-use Rattle.layouts.proofs.TableLaws.{layout-sound, place-row}
+use Rattle.layouts.proofs.SoundLaws.{layout-sound}
+use Rattle.tables.proofs.TableLaws.{place-row}
 use borrow.Author.Needs.{needs}
 use Rattle.steps.proofs.extended_size.Statement.{statement}
 use Rattle.steps.proofs.extended_size.Tie as tie

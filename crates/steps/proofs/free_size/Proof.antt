@@ -2,7 +2,8 @@
 use native.Mathlib.Omega.{arith}
 use Rattle.layouts.proofs.OctetLaws.{octets-known}
 use Rattle.steps.proofs.ItemLaws.{free-told}
-use Rattle.layouts.proofs.TableLaws.{layout-sound, place-row}
+use Rattle.layouts.proofs.SoundLaws.{layout-sound}
+use Rattle.tables.proofs.TableLaws.{place-row}
 use borrow.Author.Needs.{needs}
 use Rattle.steps.proofs.free_size.Statement.{statement}
 use Rattle.steps.proofs.free_size.Tie as tie

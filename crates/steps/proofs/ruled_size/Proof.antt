@@ -2,7 +2,8 @@
 use native.Mathlib.Omega.{arith}
 use Rattle.layouts.proofs.OctetLaws.{octets-known}
 use Rattle.steps.proofs.ItemLaws.{asked-first, ruled-told}
-use Rattle.layouts.proofs.TableLaws.{layout-sound, place-row}
+use Rattle.layouts.proofs.SoundLaws.{layout-sound}
+use Rattle.tables.proofs.TableLaws.{place-row}
 use borrow.Author.Needs.{needs}
 use Rattle.steps.proofs.ruled_size.Statement.{statement}
 use Rattle.steps.proofs.ruled_size.Tie as tie

@@ -3,9 +3,9 @@ use mathlib.Core.Path.{refl}
 use Rattle.rules.specs.Entry.{categories}
 use Rattle.rules.specs.Category017.{category017}
 use Rattle.rules.specs.Category018.{category018}
-use Rattle.layouts.specs.FieldRules.{rules, firstRule}
+use Rattle.tables.specs.FieldRules.{rules, firstRule}
 use Rattle.steps.specs.Item.{downOf, addedOf, upOf, limitOf, soundRule, soundSingle, soundCounted, soundExtended, soundTwice, soundWord, soundWords, soundSteps}
-use Rattle.layouts.specs.Tables.{groups, layouts, groupAt, layoutAt}
+use Rattle.tables.specs.Tables.{groups, layouts, groupAt, layoutAt}
 use Rattle.steps.proofs.steps.Statement.{statement}
 use Rattle.steps.proofs.steps.Tie as tie
 

@@ -2,7 +2,8 @@
 use native.Mathlib.Omega.{arith}
 use borrow.Author.Needs.{needs}
 use borrow.Author.Tests.{not-false}
-use Rattle.layouts.proofs.TableLaws.{layout-sound, place-row}
+use Rattle.layouts.proofs.SoundLaws.{layout-sound}
+use Rattle.tables.proofs.TableLaws.{place-row}
 use Rattle.layouts.proofs.OctetLaws.{octets-known}
 use Rattle.steps.proofs.ItemLaws.{asked-first, twice-told}
 use Rattle.steps.proofs.twice_size.Statement.{statement}

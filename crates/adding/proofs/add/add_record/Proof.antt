@@ -9,7 +9,7 @@ use mathlib.Core.List.{_++_}
 use lib.ListN.{length, take}
 use Rattle.rules.specs.Answer.{ok, refused}
 use Rattle.rules.specs.Entry.{newRecord}
-use Rattle.records.specs.Sets.{categoryAt, frnsOf, fspecAt}
+use Rattle.sets.specs.Sets.{categoryAt, frnsOf, fspecAt}
 use Rattle.records.specs.Answers.{newOf, newAt}
 use Rattle.blocks.specs.Read.{Opening, openFrom}
 use Rattle.blocks.specs.Answers.{checkedNumber, checkedPlace, openedBy}

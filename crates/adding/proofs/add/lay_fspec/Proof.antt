@@ -2,7 +2,7 @@
 use Prim.Native.Nat.{_-_}
 use borrow.Author.Needs.{needs}
 use native.Mathlib.Omega.{arith}
-use Rattle.records.specs.Sets.{fspecAt}
+use Rattle.sets.specs.Sets.{fspecAt}
 use Rattle.adding.proofs.AddLaws.{Laying, lay-start, lay-length, lay-again, lay-end}
 use Rattle.adding.proofs.add.lay_fspec.Statement.{statement}
 use Rattle.adding.proofs.add.lay_fspec.Tie as tie

@@ -4,7 +4,7 @@ use mathlib.Core.Path.{ap, ap₂, _∙_}
 use borrow.Author.Needs.{needs}
 use lib.ListN.{length}
 use lib.Seq.{paste}
-use Rattle.records.specs.Sets.{fspecAt}
+use Rattle.sets.specs.Sets.{fspecAt}
 use Rattle.adding.proofs.add.lay_record.Statement.{statement}
 use Rattle.adding.proofs.add.lay_record.Tie as tie
 

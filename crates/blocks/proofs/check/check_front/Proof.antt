@@ -7,7 +7,7 @@ use lib.Dec.{leb, leb→le}
 use lib.ListN.{length}
 use Rattle.rules.specs.Answer.{ok, refused}
 use Rattle.rules.specs.Block.{Head}
-use Rattle.records.specs.Sets.{categoryAt}
+use Rattle.sets.specs.Sets.{categoryAt}
 use Rattle.blocks.specs.Read.{headBy}
 use Rattle.blocks.specs.Answers.{headOf, headNumber, checkedOf, checkedNumber, checkedPlace}
 use Rattle.blocks.proofs.LoopLaws.{octets-each}

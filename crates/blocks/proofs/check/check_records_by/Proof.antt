@@ -5,7 +5,7 @@ use mathlib.Core.Path.{refl, sym, ap, _∙_}
 use borrow.Author.Needs.{needs}
 use native.Mathlib.Omega.{arith}
 use lib.ListN.{length}
-use Rattle.records.specs.Sets.{categoryAt}
+use Rattle.sets.specs.Sets.{categoryAt}
 use Rattle.blocks.specs.Answers.{checkedBy}
 use Rattle.blocks.proofs.LoopLaws.{octets-each, to-end}
 use Rattle.blocks.proofs.RecordLaws.{Accepted, ended-accepted, ended-refused, count-end, count-stop, Counting, count-again}

@@ -7,7 +7,7 @@ use lib.Dec.{eqb, eqb→eq}
 use lib.ListN.{length}
 use Rattle.rules.specs.Answer.{ok, refused, _>>=_}
 use Rattle.rules.specs.Block.{Head}
-use Rattle.records.specs.Sets.{categoryAt}
+use Rattle.sets.specs.Sets.{categoryAt}
 use Rattle.blocks.specs.Read.{headBy, opening}
 use Rattle.blocks.specs.Answers.{headOf, headNumber}
 use Rattle.blocks.proofs.LoopLaws.{octets-each, to-end}

@@ -10,7 +10,7 @@ use Rattle.rules.specs.Layout.{concat}
 use Rattle.rules.specs.Record.{places}
 use Rattle.rules.proofs.AnswerLaws.{refused-ok, ok-inj}
 use Rattle.items.specs.Answers.{frnOf, frnAs, checkedOf, checkAt}
-use Rattle.records.specs.Sets.{categoryAt}
+use Rattle.sets.specs.Sets.{categoryAt}
 use Rattle.blocks.specs.Read.{Opening}
 use Rattle.blocks.specs.Answers.{checkedNumber, checkedPlace, openedBy}
 use Rattle.blocks.proofs.LoopLaws.{octets-each, to-end}

@@ -4,7 +4,7 @@ use mathlib.Core.Path.{sym, ap, ap₂, _∙_}
 use borrow.Author.Needs.{needs}
 use native.Mathlib.Omega.{arith}
 use Rattle.rules.specs.Answer.{refused}
-use Rattle.records.specs.Sets.{categoryAt}
+use Rattle.sets.specs.Sets.{categoryAt}
 use Rattle.blocks.specs.Read.{Opening}
 use Rattle.blocks.specs.Answers.{checkedNumber, checkedPlace, openedBy}
 use Rattle.blocks.proofs.LoopLaws.{octets-each, to-end}

@@ -4,8 +4,9 @@ use lib.ListN.{length}
 use Prim.Native.Nat.{_+_, _≤_}
 use mathlib.Core.Path.{sym, subst}
 use Rattle.rules.proofs.AnswerLaws.{Octets}
+use Rattle.tables.proofs.RuleLaws.{rules-few}
 use Rattle.layouts.proofs.OctetLaws.{octets-known}
-use Rattle.layouts.proofs.RuleLaws.{size-few, part-below, rules-few, part-free, part-ruled}
+use Rattle.layouts.proofs.LegalLaws.{size-few, part-below, part-free, part-ruled}
 use borrow.Author.Needs.{needs}
 use Rattle.layouts.proofs.parts.part_legal.Statement.{statement}
 use Rattle.layouts.proofs.parts.part_legal.Tie as tie

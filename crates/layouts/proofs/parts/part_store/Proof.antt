@@ -6,8 +6,8 @@ use denote.Ref.{now}
 use lib.ListN.{length, drop, take}
 use lib.Seq.{sets}
 use Rattle.rules.specs.Layout.{joined}
-use Rattle.layouts.specs.declared.tables.GroupRow.{GroupRow}
-use Rattle.layouts.specs.Tables.{groupAt}
+use Rattle.tables.specs.declared.tables.GroupRow.{GroupRow}
+use Rattle.tables.specs.Tables.{groupAt}
 use Rattle.layouts.specs.Read.{rows, count, values}
 use Rattle.layouts.proofs.PartLaws.{PartSound, part-sound, one-part}
 use borrow.Author.Needs.{needs}

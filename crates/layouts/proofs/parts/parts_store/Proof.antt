@@ -1,8 +1,8 @@
 -- `layouts::parts::parts_store` meets its contract: what is left to store makes of the output what all makes. Assumes nothing.
 use mathlib.Core.Path.{_≡_, ap}
 use native.Mathlib.Omega.{arith}
-use Rattle.layouts.specs.declared.tables.GroupRow.{GroupRow}
-use Rattle.layouts.specs.Tables.{groupAt}
+use Rattle.tables.specs.declared.tables.GroupRow.{GroupRow}
+use Rattle.tables.specs.Tables.{groupAt}
 use Rattle.layouts.proofs.PartLaws.{First, first-part}
 use Rattle.layouts.proofs.StoreLaws.{StoreParts, store-begun, holds-cons, part-stored, parts-stored}
 use Rattle.layouts.proofs.parts.parts_store.Statement.{statement}

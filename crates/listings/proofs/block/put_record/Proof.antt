@@ -1,7 +1,7 @@
 -- `block::put_record` meets its contract: part after part. Assumes nothing.
 use mathlib.Core.Path.{sym, ap, _∙_}
-use Rattle.records.specs.Answers.{setOf}
-use Rattle.records.proofs.RecordLaws.{set-bounds}
+use Rattle.sets.specs.Answers.{setOf}
+use Rattle.sets.proofs.UsableLaws.{set-bounds}
 use Rattle.blocks.proofs.LoopLaws.{to-end}
 use Rattle.lines.proofs.PageLaws.{instead, after}
 use Rattle.listings.proofs.ListLaws.{set-ok, set-not}

@@ -3,7 +3,7 @@ use Prim.Native.Nat.{_-_}
 use native.Mathlib.Omega.{arith}
 use borrow.Author.Needs.{needs}
 use lib.ListN.{length}
-use Rattle.records.specs.Sets.{categoryAt}
+use Rattle.sets.specs.Sets.{categoryAt}
 use Rattle.blocks.proofs.LoopLaws.{octets-each, to-end}
 use Rattle.blocks.proofs.RecordLaws.{ended-accepted, ended-refused}
 use Rattle.lines.specs.Page.{page, puts}

@@ -5,7 +5,7 @@ use native.Mathlib.Omega.{arith}
 use lib.ListN.{getD}
 use borrow.Author.Needs.{needs}
 use Rattle.rules.specs.Answer.{ok}
-use Rattle.records.specs.Walk.{rowAt}
+use Rattle.sets.specs.Steps.{rowAt}
 use Rattle.plain.proofs.RecordLaws.{row-few, row-read, content}
 use Rattle.plain.proofs.ShapeLaws.{sets-read}
 use Rattle.plain.proofs.record.is_content.Statement.{statement}

@@ -2,7 +2,7 @@
 use mathlib.Core.Path.{refl}
 use native.Mathlib.Omega.{arith}
 use borrow.Author.Needs.{needs}
-use Rattle.records.proofs.SetLaws.{octets-all}
+use Rattle.sets.proofs.SetLaws.{octets-all}
 use Rattle.plain.proofs.RecordLaws.{later-within, pass-three, pass-sum}
 use Rattle.plain.proofs.record.plain_items.Statement.{statement}
 use Rattle.plain.proofs.record.plain_items.Tie as tie

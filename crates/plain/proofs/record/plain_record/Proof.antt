@@ -5,10 +5,10 @@ use native.Mathlib.Omega.{arith}
 use lib.ListN.{length}
 use borrow.Author.Needs.{needs}
 use Rattle.rules.specs.Answer.{ok}
-use Rattle.records.specs.Sets.{setAt}
-use Rattle.records.specs.Answers.{setOf}
+use Rattle.sets.specs.Sets.{setAt}
+use Rattle.sets.specs.Answers.{setOf}
 use Rattle.plain.specs.Record.{endAt}
-use Rattle.records.proofs.RecordLaws.{set-bounds}
+use Rattle.sets.proofs.UsableLaws.{set-bounds}
 use Rattle.plain.proofs.RecordLaws.{tell, right, plain-whole, end-within}
 use Rattle.plain.proofs.record.plain_record.Statement.{statement}
 use Rattle.plain.proofs.record.plain_record.Tie as tie

@@ -12,7 +12,7 @@ use Rattle.questions.proofs.word.read_items.Lts as lts
 use Rattle.lines.proofs.is_none.Reads as is-none-reads
 use Rattle.lines.proofs.end_of.Reads as end-of-reads
 use Rattle.questions.proofs.word.read_number.Reads as read-number-reads
-use Rattle.records.proofs.ItemSet.with.Reads as with-reads
+use Rattle.sets.proofs.ItemSet.with.Reads as with-reads
 
 abbrev Inv-loop : tie.InvT-loop
 Inv-loop word rest₀ set₀ rest set = Setting word rest (set .bits)

@@ -1,0 +1,226 @@
+-- What holds of the tables, by computed tests over each whole table: the rows of groups and places stand for what the rules have there.
+--
+-- In order: places; a test of each row; fields; groups; rows as one number; layouts. Assumes nothing.
+use Prim.Native.Nat.{ℕ, zero, suc, _+_, _*_, _/_, _%_, _≤_, _<_}
+use mathlib.Core.Path.{_≡_, refl, sym, ap, _∙_}
+use mathlib.Core.Bool.{Bool, true, false, _&&_}
+use mathlib.Core.Option.{Option, none}
+use mathlib.Core.List.{List, [], _∷_, _++_, map}
+use native.Mathlib.Omega.{arith}
+use native.Mathlib.Nat.{le-of-suc-le-suc, not-suc-le-zero, le-trans}
+use lib.Dec.{leb, ltb, eqb, lit≤}
+use lib.IntN.{pos}
+use lib.ListN.{length, getD, drop, replicate, List·getD-map, List·getD-append, List·getD-eq-default}
+use lib.Seq.{slice, getD-append-add}
+use borrow.Author.Tests.{ltb-true, leb-true}
+use Rattle.rules.specs.Field.{Field}
+use Rattle.rules.specs.Layout.{concat}
+use Rattle.rules.proofs.AnswerLaws.{both-left, both-right}
+use Rattle.rules.specs.Presence.{present, placeAt}
+use Rattle.rules.specs.Record.{Place, Category, places}
+use Rattle.rules.specs.Category017.{category017}
+use Rattle.rules.specs.Category018.{category018}
+use Rattle.rules.specs.Entry.{categories, profileAt, over}
+use Rattle.tables.specs.declared.tables.GroupRow.{GroupRow}
+use Rattle.tables.specs.declared.tables.LayoutRow.{LayoutRow}
+use Rattle.tables.specs.declared.tables.FieldRow.{FieldRow}
+use Rattle.tables.specs.Tables.{fields, fieldRow, fieldAt, ranges, least, greatest, fieldWord, fieldWords, groupWord, groupWords, layoutWord, layoutWords, layoutsIn, referencesIn, isFree, groups, layouts, groupRows, groupAt, layoutRows, layoutBy, layoutIs, layoutAt, nowhere, profileRows, placeRowAt, placeIs}
+
+-- ---- places
+
+-- the places of a profile as the table has them, FRN 0 first
+abbrev padded : Category → List (Option Place)
+padded c = over (none ∷ places c) (replicate 36 none)
+
+places-tied : map placeIs (profileRows 1 categories) ≡ padded category017 ++ padded category018
+unfolding placeIs layoutIs layoutBy layoutAt groupAt fields groups layouts categories category017 category018
+places-tied = refl
+
+-- what holds of a whole table holds of each row
+at-row : {A B : Type 0} (f g : A → B) (l : List A) (i : ℕ) (d : A) → f d ≡ g d → map f l ≡ map g l → f (getD l i d) ≡ g (getD l i d)
+at-row f g l i d e h = sym (List·getD-map f l i d) ∙ ap (λ m. getD m i (f d)) h ∙ ap (getD (map g l) i) e ∙ List·getD-map g l i d
+
+pub in-row : {A B : Type 0} (f g : A → B) (l : List A) (i : ℕ) (d : A) → i < length l → map f l ≡ map g l → f (getD l i d) ≡ g (getD l i d)
+in-row f g [] i d k h = absurd (not-suc-le-zero k)
+in-row f g (a ∷ l) zero d k h = ap (λ m. getD m 0 (f a)) h
+in-row f g (a ∷ l) (suc i) d k h = in-row f g l i d (le-of-suc-le-suc k) (ap (drop 1) h)
+
+getD-over : {A : Type 0} (xs : List A) (n f : ℕ) (d : A) → length xs ≤ n → getD (over xs (replicate n d)) f d ≡ getD xs f d
+getD-over [] n f d h = all n f
+  where
+    all : (n f : ℕ) → getD (replicate n d) f d ≡ d
+    all zero f = refl
+    all (suc n) zero = refl
+    all (suc n) (suc f) = all n f
+getD-over (x ∷ xs) zero f d h = absurd (not-suc-le-zero h)
+getD-over (x ∷ xs) (suc n) zero d h = refl
+getD-over (x ∷ xs) (suc n) (suc f) d h = getD-over xs n f d (le-of-suc-le-suc h)
+
+pub place-none : placeIs nowhere ≡ none
+unfolding placeIs layoutIs layoutBy layoutAt
+place-none = refl
+
+place-getD : (i : ℕ) → placeIs (placeRowAt i) ≡ getD (padded category017 ++ padded category018) i none
+unfolding placeRowAt
+place-getD i = sym (List·getD-map placeIs (profileRows 1 categories) i nowhere) ∙ ap (getD (map placeIs (profileRows 1 categories)) i) place-none ∙ ap (λ l. getD l i none) places-tied
+
+-- FRN f of a profile's places
+first : (c : Category) (f : ℕ) → length (none ∷ places c) ≤ 36 → getD (padded c) f none ≡ placeAt (c .profile) f
+first c zero h = getD-over (none ∷ places c) 36 zero none h
+first c (suc f) h = getD-over (none ∷ places c) 36 (suc f) none h
+
+long017 : length (padded category017) ≡ 36
+unfolding category017
+long017 = refl
+
+few017 : length (none ∷ places category017) ≤ 36
+unfolding category017
+few017 = lit≤ tt
+
+few018 : length (none ∷ places category018) ≤ 36
+unfolding category018
+few018 = lit≤ tt
+
+-- the row at an FRN of a profile stands for what the profile has there
+pub place-is : (p f : ℕ) → p < 2 → f < 36 → placeIs (placeRowAt (p * 36 + f)) ≡ placeAt (profileAt categories p) f
+unfolding categories
+place-is zero f h k =
+    let i : zero * 36 + f ≡ f = omega arith in
+    rw i (place-getD f ∙ List·getD-append (padded category017) (padded category018) none f (rw long017 k) ∙ first category017 f few017)
+place-is (suc zero) f h k =
+    let i : suc zero * 36 + f ≡ length (padded category017) + f = omega (arith, long017) in
+    rw i (place-getD (length (padded category017) + f) ∙ getD-append-add (padded category017) (padded category018) f none ∙ first category018 f few018)
+place-is (suc (suc p)) f h k = absurd (not-suc-le-zero (le-of-suc-le-suc (le-of-suc-le-suc h)))
+
+-- there is nothing past the last FRN, nor in another profile
+pub place-past : (p f : ℕ) → 36 ≤ f → placeAt (profileAt categories p) f ≡ none
+unfolding categories
+place-past p zero h = absurd (not-suc-le-zero h)
+place-past zero (suc f) h = List·getD-eq-default (places category017) none (le-trans (le-of-suc-le-suc few017) (le-of-suc-le-suc h))
+place-past (suc zero) (suc f) h = List·getD-eq-default (places category018) none (le-trans (le-of-suc-le-suc few018) (le-of-suc-le-suc h))
+place-past (suc (suc p)) (suc f) h = refl
+
+pub profile-past : (p : ℕ) → 2 ≤ p → profileAt categories p ≡ []
+unfolding categories
+profile-past zero h = absurd (not-suc-le-zero h)
+profile-past (suc zero) h = absurd (not-suc-le-zero (le-of-suc-le-suc h))
+profile-past (suc (suc p)) h = refl
+
+pub profile-few : (p : ℕ) → length (concat (profileAt categories p)) ≤ 35
+unfolding categories
+profile-few zero = le-of-suc-le-suc few017
+profile-few (suc zero) = le-of-suc-le-suc few018
+profile-few (suc (suc p)) = lit≤ tt
+
+pub none-past : (p f : ℕ) → 36 ≤ f → placeIs nowhere ≡ placeAt (profileAt categories p) f
+none-past p f h = place-none ∙ sym (place-past p f h)
+
+pub none-other : (p f : ℕ) → 2 ≤ p → placeIs nowhere ≡ placeAt (profileAt categories p) f
+none-other p f h = place-none ∙ sym (ap (λ ps. placeAt ps f) (profile-past p h) ∙ nothing f)
+  where
+    nothing : (f : ℕ) → _≡_ {A = Option Place} (placeAt [] f) none
+    nothing zero = refl
+    nothing (suc f) = refl
+
+-- a row has a layout of the table
+pub place-row : (i : ℕ) → placeRowAt i .0 < 51
+unfolding placeRowAt categories category017 category018
+place-row i = ltb-true (placeRowAt i .0) 51 (at-row (λ r. ltb (r .0) 51) (λ r. true) (profileRows 1 categories) i nowhere refl refl)
+
+-- ---- what holds of each row of a table, by one test
+
+abbrev pub every : {A : Type 0} → (A → Bool) → List A → Bool
+every t [] = true
+every t (a ∷ l) = t a && every t l
+
+pub each : {A : Type 0} (t : A → Bool) (l : List A) (d : A) → every t l ≡ true → (i : ℕ) → i < length l → t (getD l i d) ≡ true
+each t [] d h i k = absurd (not-suc-le-zero k)
+each t (a ∷ l) d h zero k = both-left (t a) (every t l) h
+each t (a ∷ l) d h (suc i) k = each t l d (both-right (t a) (every t l) h) i (le-of-suc-le-suc k)
+
+-- ---- fields
+
+pub fields-long : length (map fieldRow fields) ≡ 113
+unfolding fields groups layouts categories category017 category018
+fields-long = refl
+
+pub field-wide : (i : ℕ) → i < 113 → 1 ≤ fieldAt i .0
+unfolding fieldAt fields groups layouts categories category017 category018
+field-wide i h = leb-true 1 (fieldAt i .0) (each (λ f. leb 1 (f .0)) (map fieldRow fields) (0, 0, pos 0, pos 0) refl i h)
+
+pub field-few : (i : ℕ) → i < 113 → fieldAt i .0 ≤ 62
+unfolding fieldAt fields groups layouts categories category017 category018
+field-few i h = leb-true (fieldAt i .0) 62 (each (λ f. leb (f .0) 62) (map fieldRow fields) (0, 0, pos 0, pos 0) refl i h)
+
+-- ---- groups
+
+abbrev pub fieldsAt : ℕ → List Field
+fieldsAt g = slice (groupAt g .1) (groupAt g .2) fields
+
+-- a row says that its group is free where it is
+pub group-free : (g : ℕ) → g < 52 → groupAt g .4 ≡ isFree (slice (groupAt g .1) (groupAt g .2) fields)
+unfolding groupAt fields groups layouts categories category017 category018
+group-free g h =
+    in-row (λ r. r .4) (λ r. isFree (slice (r .1) (r .2) fields)) (groupRows 0 groups) g (0, 0, 0, 0, false) h refl
+
+-- ---- rows as one number
+
+pub getD-map-in : {A B : Type 0} (f : A → B) (l : List A) (i : ℕ) (d : A) (e : B) → i < length l → getD (map f l) i e ≡ f (getD l i d)
+getD-map-in f [] i d e h = absurd (not-suc-le-zero h)
+getD-map-in f (a ∷ l) zero d e h = refl
+getD-map-in f (a ∷ l) (suc i) d e h = getD-map-in f l i d e (le-of-suc-le-suc h)
+
+-- what was put into digits is read from them
+abbrev pub fieldDigits : ℕ → FieldRow
+fieldDigits w = (w / 1_000, w / 100 % 10, getD least (w % 100) (pos 0), getD greatest (w % 100) (pos 0))
+
+abbrev pub groupDigits : ℕ → GroupRow
+groupDigits w = (w / 100_000_000, w / 100_000 % 1_000, w / 100_000 % 1_000 + w / 1_000 % 100, w / 10 % 100, eqb (w % 10) 1)
+
+abbrev pub layoutDigits : ℕ → LayoutRow
+layoutDigits w = (w / 100_000_000, w / 10_000_000 % 10, w / 10_000 % 1_000, w / 10 % 1_000, w / 10 % 1_000 + w % 10)
+
+pub field-digits : (i : ℕ) → i < 113 → fieldDigits (getD fieldWords i 0) ≡ fieldAt i
+unfolding fieldWords fieldAt least greatest ranges fields groups layouts categories category017 category018
+field-digits i h =
+    ap fieldDigits (getD-map-in fieldWord (map fieldRow fields) i (0, 0, pos 0, pos 0) 0 h)
+    ∙ in-row (λ r. fieldDigits (fieldWord r)) (λ r. r) (map fieldRow fields) i (0, 0, pos 0, pos 0) h refl
+
+pub field-range : (i : ℕ) → i < 113 → getD fieldWords i 0 % 100 < 21
+unfolding fieldWords ranges fields groups layouts categories category017 category018
+field-range i h = ltb-true _ 21 (each (λ w. ltb (w % 100) 21) fieldWords 0 refl i h)
+
+pub group-digits : (i : ℕ) → i < 52 → groupDigits (getD groupWords i 0) ≡ groupAt i
+unfolding groupWords groupAt fields groups layouts categories category017 category018
+group-digits i h =
+    ap groupDigits (getD-map-in groupWord (groupRows 0 groups) i (0, 0, 0, 0, false) 0 h)
+    ∙ in-row (λ r. groupDigits (groupWord r)) (λ r. r) (groupRows 0 groups) i (0, 0, 0, 0, false) h refl
+
+pub layout-digits : (i : ℕ) → i < 51 → layoutDigits (getD layoutWords i 0) ≡ layoutAt i
+unfolding layoutWords layoutAt layouts categories category017 category018
+layout-digits zero h = refl
+layout-digits (suc i) h =
+    ap layoutDigits (getD-map-in layoutWord (layoutRows 0 layouts) i (0, 0, 0, 0, 0) 0 (le-of-suc-le-suc h))
+    ∙ in-row (λ r. layoutDigits (layoutWord r)) (λ r. r) (layoutRows 0 layouts) i (0, 0, 0, 0, 0) (le-of-suc-le-suc h) refl
+
+pub layout-in : (i : ℕ) → getD layoutsIn i 0 ≡ placeRowAt i .0
+unfolding layoutsIn placeRowAt
+layout-in i = List·getD-map (λ r. r .0) (profileRows 1 categories) i nowhere
+
+pub reference-in : (i : ℕ) → getD referencesIn i 0 ≡ placeRowAt i .1
+unfolding referencesIn placeRowAt
+reference-in i = List·getD-map (λ r. r .1) (profileRows 1 categories) i nowhere
+
+-- ---- layouts
+
+no-layout : LayoutRow
+no-layout = (0, 0, 0, 0, 0)
+
+-- the first row is that of no item, each other one that of an item
+pub layout-none : layoutIs (layoutAt 0) ≡ none
+unfolding layoutIs layoutBy layoutAt
+layout-none = refl
+
+pub layout-some : (j : ℕ) → j < 50 → present (layoutIs (layoutAt (suc j))) ≡ true
+unfolding layoutIs layoutBy layoutAt groupAt fields groups layouts categories category017 category018 no-layout
+layout-some j h = each (λ l. present (layoutIs l)) (layoutRows 0 layouts) no-layout refl j h

@@ -1,0 +1,22 @@
+-- `tables::tables::group_word` meets its contract: the code's table is, row by row, the one that the rules' profiles give. Assumes nothing.
+use mathlib.Core.Path.{refl}
+use borrow.Author.Needs.{needs}
+use Rattle.rules.specs.Entry.{categories}
+use Rattle.rules.specs.Category017.{category017}
+use Rattle.rules.specs.Category018.{category018}
+use Rattle.tables.specs.Tables.{groupWords, groups, layouts}
+use Rattle.tables.proofs.tables.group_word.Statement.{statement}
+use Rattle.tables.proofs.tables.group_word.Tie as tie
+
+mul-result : tie.Need-mul-result
+mul-result c = search needs
+
+array-read-result : tie.Need-array-read-result
+array-read-result c = search needs
+
+returns : tie.Need-returns
+unfolding groupWords groups layouts categories category017 category018
+returns c = refl
+
+pub group-word-spec : {M : Type 1} → statement M
+group-word-spec = tie.close (tie.spec mul-result array-read-result returns)

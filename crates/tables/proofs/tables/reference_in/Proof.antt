@@ -1,0 +1,22 @@
+-- `tables::tables::reference_in` meets its contract: the code's table is, row by row, the one that the rules' profiles give. Assumes nothing.
+use mathlib.Core.Path.{refl}
+use borrow.Author.Needs.{needs}
+use Rattle.rules.specs.Entry.{categories}
+use Rattle.rules.specs.Category017.{category017}
+use Rattle.rules.specs.Category018.{category018}
+use Rattle.tables.specs.Tables.{referencesIn}
+use Rattle.tables.proofs.tables.reference_in.Statement.{statement}
+use Rattle.tables.proofs.tables.reference_in.Tie as tie
+
+mul-result : tie.Need-mul-result
+mul-result c = search needs
+
+array-read-result : tie.Need-array-read-result
+array-read-result c = search needs
+
+returns : tie.Need-returns
+unfolding referencesIn categories category017 category018
+returns c = refl
+
+pub reference-in-spec : {M : Type 1} → statement M
+reference-in-spec = tie.close (tie.spec mul-result array-read-result returns)
