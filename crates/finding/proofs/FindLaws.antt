@@ -24,7 +24,8 @@ use Rattle.rules.proofs.EntryLaws.{Lies, RecordWritten, record-written, ItemFou
 use Rattle.rules.proofs.LayoutLaws.{item-laws}
 use Rattle.rules.proofs.Tables.{category-every, distinct, tables-distinct, tables-few}
 use Rattle.rules.proofs.Demands.{items-lie, map-start}
-use Rattle.items.specs.Answers.{isNamed, frnAs, sizeOf, checkAt}
+use Rattle.tables.specs.Places.{isNamed, frnAs}
+use Rattle.items.specs.Answers.{sizeOf, checkAt}
 use Rattle.sets.specs.Sets.{categoryIn, categoryAt}
 use Rattle.finding.specs.declared.find.RecordPlace.the-variants as recordPlace
 use Rattle.finding.specs.declared.find.RecordLocated.{RecordLocated}

@@ -25,7 +25,8 @@ use Rattle.rules.specs.Category018.{category018}
 use Rattle.rules.specs.Entry.{categories, RecordMap, mapOf}
 use Rattle.rules.proofs.AnswerLaws.{ok-inj, bind-in, bind-elim, later-in, both-left, both-right, Octets}
 use Rattle.rules.proofs.PresenceLaws.{flags-length}
-use Rattle.items.specs.Answers.{checkAt, frnAs}
+use Rattle.items.specs.Answers.{checkAt}
+use Rattle.tables.specs.Places.{frnAs}
 use Rattle.tables.specs.FieldRules.{singles}
 use Rattle.steps.specs.Item.{Plainly}
 use Rattle.tables.specs.Tables.{layoutAt, layouts, groupAt, groups}

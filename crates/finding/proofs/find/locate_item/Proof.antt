@@ -9,7 +9,8 @@ use Rattle.rules.specs.Answer.{ok, refused}
 use Rattle.rules.specs.Layout.{concat}
 use Rattle.rules.specs.Record.{places}
 use Rattle.rules.proofs.AnswerLaws.{refused-ok, ok-inj}
-use Rattle.items.specs.Answers.{frnOf, frnAs, checkedOf, checkAt}
+use Rattle.items.specs.Answers.{frnOf, checkedOf, checkAt}
+use Rattle.tables.specs.Places.{frnAs}
 use Rattle.sets.specs.Sets.{categoryAt}
 use Rattle.blocks.specs.Read.{Opening}
 use Rattle.blocks.specs.Answers.{checkedNumber, checkedPlace, openedBy}
