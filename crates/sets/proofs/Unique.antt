@@ -1,4 +1,4 @@
--- No two distinct results satisfy the statement of a public function that answers a set, of a set or of its FSPEC.
+-- No two distinct results satisfy the statement of a public function of `ItemSet`, nor of one that answers its FSPEC.
 --
 -- In order: answers that are numbers or tests; a set; an FSPEC. Assumes nothing.
 use Prim.Native.Nat.{ℕ, _^_, _<_, min}
