@@ -6,16 +6,15 @@ use mathlib.Core.Path.{_≡_, refl, sym, ap, _∙_, subst}
 use mathlib.Core.Bool.{Bool, cond, true, false, not, _&&_}
 use mathlib.Core.Option.{Option, none, some}
 use mathlib.Core.List.{List, [], _∷_, _++_}
-use native.Mathlib.Numerals.{add-one}
 use native.Mathlib.Omega.{arith}
-use borrow.Author.Tests.{leb-true, leb-false, eq-eqb, ne-eqb, lt-ltb, le-ltb, le-leb, lt-leb, ltb-true, ltb-false}
+use borrow.Author.Tests.{leb-true, leb-false, eq-eqb, ne-eqb, lt-ltb, le-ltb, le-leb, lt-leb, ltb-true}
 use lib.ListN.{length, take, drop, getD, set, drop-of-length-le, length-drop, length-set}
 use lib.Seq.{take-all}
 use lib.Dec.{ltb, leb, eqb, leb·zero}
 use Rattle.lines.proofs.ListLaws.{drop-next, both}
 use Rattle.lines.proofs.PageLaws.{put-room, puts-size, Fronted, puts-front}
 use Rattle.lines.specs.Page.{Page, page, put, puts}
-use Rattle.lines.specs.Octet.{digitOf, allHex, pairs, isNone, areOctets, octetsOf, octetsRead, octetsLeft, glyphOf, octetText, hexText, octetsText}
+use Rattle.lines.specs.Octet.{digitOf, allHex, pairs, isNone, areOctets, octetsOf, octetsRead, octetsLeft, octetText, hexText, octetsText}
 use Rattle.lines.specs.declared.octet.OctetsRead.{OctetsRead}
 
 -- ---- the digits of a word, one by one: what is left says what all says

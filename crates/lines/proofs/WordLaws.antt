@@ -3,12 +3,12 @@
 -- In order: the first word of a line; two words compared; what the answer for a word's number says; a list word by word; its numbers laid in a buffer; a list as text.
 -- Assumes nothing.
 use Prim.Native.Nat.{ℕ, zero, suc, _+_, _-_, _^_, _<_, _≤_, min}
-use mathlib.Core.Path.{_≡_, refl, sym, ap, _∙_, subst}
+use mathlib.Core.Path.{_≡_, refl, sym, ap, _∙_}
 use mathlib.Core.Bool.{Bool, cond, true, false, _&&_, and-false}
 use mathlib.Core.Option.{Option, none, some}
 use mathlib.Core.List.{List, [], _∷_, _++_, map}
 use native.Mathlib.Omega.{arith}
-use borrow.Author.Tests.{leb-true, leb-false, eq-eqb, ne-eqb, lt-ltb, le-ltb}
+use borrow.Author.Tests.{leb-true, leb-false, eq-eqb, ne-eqb}
 use lib.ListN.{length, take, drop, getD, length-take, length-drop, drop-of-length-le}
 use lib.Seq.{take-length, take-all, getD-take, length-take-le}
 use lib.Dec.{leb, ltb, eqb, eqb·zero-suc, eqb·suc-suc}
@@ -21,7 +21,7 @@ use Rattle.lines.specs.Octet.{isNone}
 use Rattle.lines.specs.declared.number.Integer.{Integer}
 use Rattle.lines.specs.declared.word.ListRead.{ListRead}
 use Rattle.lines.proofs.ListLaws.{drop-next, front, back}
-use Rattle.lines.proofs.PageLaws.{puts-append, puts-size, Fronted, puts-front}
+use Rattle.lines.proofs.PageLaws.{puts-size, Fronted, puts-front}
 
 -- ---- the first word of a line
 

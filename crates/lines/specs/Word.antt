@@ -1,5 +1,5 @@
 -- Words with a separator between, and lists of numbers with commas between. Assumes nothing.
-use Prim.Native.Nat.{ℕ, zero, suc, _^_, _-_}
+use Prim.Native.Nat.{ℕ, suc, _^_, _-_}
 use mathlib.Core.Bool.{Bool, true, false, cond, _&&_}
 use mathlib.Core.Option.{Option, none, some}
 use mathlib.Core.List.{List, [], _∷_, _++_, map}

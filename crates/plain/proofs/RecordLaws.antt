@@ -8,7 +8,6 @@ use mathlib.Core.Logic.{⊎-elim}
 use mathlib.Core.List.{List, [], _∷_, _++_}
 use native.Mathlib.Omega.{arith}
 use native.Mathlib.Nat.{add-assoc, add-zero, zero-add, mod-lt, mod-eq-of-lt, mod-eq-sub-mod, pow-suc}
-use native.Mathlib.Numerals.{add-one}
 use lib.Count.{leadingZeros, leading-top}
 use lib.Pow.{pow-pos, pow-mono}
 use lib.Dec.{ltb, eqb}
@@ -19,7 +18,6 @@ use mir.Val.{Fits}
 use borrow.Author.Tests.{lt-leb, le-leb, ltb-true, eqb-true, eq-eqb, ne-eqb}
 use Rattle.rules.specs.Answer.{Answer, ok, refused, if_then_else_}
 use Rattle.rules.specs.Presence.{flags}
-use Rattle.rules.specs.Record.{readRecord}
 use Rattle.rules.specs.Category017.{category017}
 use Rattle.rules.specs.Category018.{category018}
 use Rattle.rules.specs.Entry.{categories, RecordMap, mapOf}

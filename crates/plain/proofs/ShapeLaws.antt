@@ -13,10 +13,10 @@ use lib.Seq.{drop-drop, getD-drop}
 use lib.Pow.{field, mod-mod-pow}
 use mir.Syntax.{w8}
 use mir.Val.{Fits}
-use borrow.Author.Tests.{leb-true, ltb-true, eqb-true, eq-eqb}
+use borrow.Author.Tests.{leb-true, ltb-true, eqb-true}
 use Rattle.rules.specs.Answer.{Answer, ok, refused, if_then_else_}
 use Rattle.rules.specs.Presence.{flags, number}
-use Rattle.rules.proofs.AnswerLaws.{ok-inj, refused-ok, both-left, both-right, Octets}
+use Rattle.rules.proofs.AnswerLaws.{refused-ok, both-left, both-right, Octets}
 use Rattle.rules.proofs.PresenceLaws.{flags-length, flags-number, number-lt}
 use Rattle.tables.specs.declared.tables.LayoutRow.{LayoutRow}
 use Rattle.layouts.specs.Read.{wholeSize, rowSound}
@@ -29,7 +29,6 @@ use Rattle.items.proofs.CheckLaws.{check-place}
 use Rattle.sets.specs.Sets.{categoryAt, setAt, within}
 use Rattle.records.specs.Walk.{Came, passed, walk, startAt}
 use Rattle.sets.specs.Steps.{rowAt, judgeSet, ended, setFrom}
-use Rattle.sets.specs.declared.ItemSet.{ItemSet}
 use Rattle.sets.specs.declared.SetRead.the-variants as set
 use Rattle.sets.proofs.SetLaws.{set-law, octets-all, to-end}
 use Rattle.records.proofs.WalkLaws.{walk-none}

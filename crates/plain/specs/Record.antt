@@ -8,8 +8,6 @@ use lib.ListN.{length, getD}
 use Rattle.rules.specs.Answer.{Answer, ok, refused, _>>=_}
 use Rattle.rules.specs.Layout.{concat}
 use Rattle.rules.specs.Presence.{flags}
-use Rattle.rules.specs.Record.{Category}
-use Rattle.rules.specs.Entry.{categories}
 use Rattle.tables.specs.FieldRules.{singles}
 use Rattle.sets.specs.Steps.{markBits, rowAt}
 use Rattle.records.specs.Walk.{Came, walk, startAt}

@@ -2,10 +2,10 @@
 use Prim.Native.Nat.{ℕ, _+_, _-_, _<_, _≤_}
 use mathlib.Core.Path.{_≡_, refl, sym, ap, _∙_, subst}
 use mathlib.Core.Bool.{Bool, true, false, true≢false}
-use mathlib.Core.Option.{Option, none, some}
+use mathlib.Core.Option.{none, some}
 use mathlib.Core.List.{List, [], _∷_}
 use native.Mathlib.Omega.{arith}
-use borrow.Author.Tests.{eqb-true, eqb-false, eq-eqb, ne-eqb}
+use borrow.Author.Tests.{eqb-true, eqb-false}
 use lib.Dec.{eqb}
 use lib.ListN.{length, take, drop, length-drop}
 use lib.Seq.{take-length, drop-drop}
@@ -16,7 +16,7 @@ use Rattle.questions.specs.declared.split.Two.{Two}
 use Rattle.questions.specs.declared.split.Two.the-variants as two
 use Rattle.questions.specs.declared.split.Three.{Three}
 use Rattle.questions.specs.declared.split.Three.the-variants as three
-use Rattle.questions.specs.Split.{Text, isOne, twoOf, before, threeOf, fourOf, between, twoIn, TwoWithin, threeIn, ThreeWithin, fourIn, FourWithin}
+use Rattle.questions.specs.Split.{Text, isOne, twoOf, before, threeOf, fourOf, between, twoIn, TwoWithin, threeIn, ThreeWithin}
 
 -- ---- a text is one word
 

@@ -1,22 +1,21 @@
 -- What the words of a question say, by what the crate `lines` answers of them.
 --
 -- In order: numbers; categories; sets of FRNs, word by word; what each reading says. Assumes nothing.
-use Prim.Native.Nat.{ℕ, _+_, _-_, _/_, _^_, _<_, _≤_, min}
+use Prim.Native.Nat.{ℕ, _+_, _-_, _^_, _<_, _≤_, min}
 use mathlib.Core.Path.{_≡_, refl, sym, ap, _∙_, subst}
-use mathlib.Core.Bool.{Bool, true, false, cond}
+use mathlib.Core.Bool.{Bool, true, false}
 use mathlib.Core.Option.{Option, none, some}
-use mathlib.Core.List.{List, [], _∷_}
+use mathlib.Core.List.{List}
 use native.Mathlib.Omega.{arith}
 use borrow.Author.Tests.{lt-ltb, le-ltb}
 use lib.Dec.{ltb}
 use lib.ListN.{length, take, drop, set, replicate}
 use Rattle.rules.specs.Presence.{flags}
-use Rattle.lines.specs.declared.number.Decimal.{Decimal}
 use Rattle.lines.specs.declared.number.Decimal.the-variants as decimal
 use Rattle.lines.specs.Number.{numberOf, decimalAs, mapped}
 use Rattle.lines.specs.Octet.{isNone}
 use Rattle.lines.specs.Word.{wordEnd, words}
-use Rattle.lines.proofs.ListLaws.{front, back}
+use Rattle.lines.proofs.ListLaws.{front}
 use Rattle.lines.proofs.NumberLaws.{number-is, large-is, not-is}
 use Rattle.lines.proofs.WordLaws.{later, first-is, none-later, some-later}
 use Rattle.questions.specs.declared.word.Number.{Number}

@@ -6,23 +6,22 @@ use Prim.Native.Nat.{ℕ, zero, suc, _+_, _-_, _*_, _^_, _≤_, _<_, max}
 use mathlib.Core.Path.{_≡_, refl, sym, ap, ap₂, _∙_, subst}
 use mathlib.Core.Logic.{⊎-elim}
 use mathlib.Core.Bool.{Bool, true, false}
-use mathlib.Core.List.{List, [], _∷_, _++_, append-nil}
+use mathlib.Core.List.{List, [], _∷_, _++_, append-nil, append-assoc}
 use native.Mathlib.Omega.{arith}
-use native.Mathlib.Nat.{zero-add, le-refl, le-max-left, min-eq-left, max-eq-left, max-eq-right}
+use native.Mathlib.Nat.{zero-add, le-refl, le-max-left, min-eq-left, min-eq-right, max-eq-left, max-eq-right}
 use lib.Dec.{leb, ltb, eqb, le→leb}
-use borrow.Author.Tests.{le-leb, lt-leb, leb-true, ltb-true, eqb-true, eqb-false}
+use borrow.Author.Tests.{le-leb, lt-leb, leb-true, leb-false, ltb-true, eqb-true, eqb-false}
 use lib.ListN.{length, take, drop, getD, length-append, length-drop, take-append-drop, List·getD-append}
 use lib.Seq.{length-take-le, getD-take, drop-at, take-append-le, drop-append-le}
-use Rattle.rules.specs.Answer.{Answer, ok, refused, _>>=_, need_or_then_, if_then_else_, expect_or_}
+use Rattle.rules.specs.Answer.{Answer, ok, refused, _>>=_, need_or_then_, if_then_else_, expect_or_, later}
 use Rattle.rules.specs.Layout.{concat}
 use Rattle.rules.specs.Block.{Head, categoryOf}
 use Rattle.rules.specs.Entry.{categories, Counts, checkRecording}
 use Rattle.rules.proofs.AnswerLaws.{refused-ok, ok-inj, bind-in, bind-out, bind-elim, need-in, later-in, later-out, if-inv, if-true, if-false, Octets, octets-left, octets-right}
 use Rattle.blocks.specs.Read.{lenAt, headAt, headBy, countFrom, bodyAt, Front, checkFront}
 use Rattle.blocks.proofs.HeadLaws.{by-no-head, by-head, Headed, headed, front-refused, front-empty, front-body}
-use Rattle.blocks.proofs.InsideLaws.{front-inside}
 use Rattle.recordings.specs.Feed.{capped, SoFar, placed, fed, finished, blockLength}
-use Rattle.recordings.proofs.CountLaws.{FrontTaken, front-taken, counts, countsFrom, counts-start, counts-end, counts-stop, counts-turn, counts-on, counts-few, place-few}
+use Rattle.recordings.proofs.CountLaws.{FrontTaken, front-taken, counts, counts-start, counts-end, counts-stop, counts-turn, counts-on, counts-few, place-few}
 
 -- ---- the length of a piece
 
@@ -50,6 +49,26 @@ length-by bs l = if-true 3 (le-leb 3 (length bs) l) refl
 
 pub capped-is : (n : ℕ) → n < 2 ^ 64 → capped n ≡ n
 capped-is n l = min-eq-left (omega arith)
+
+capped-top : (n : ℕ) → 2 ^ 64 - 1 ≤ n → capped n ≡ 2 ^ 64 - 1
+capped-top n l = min-eq-right l
+
+by-top : (n : ℕ) (P : Type 0) → (2 ^ 64 - 1 ≤ n → P) → (n < 2 ^ 64 → P) → P
+by-top n P f g = go (leb (2 ^ 64 - 1) n) refl
+  where
+    go : (t : Bool) → leb (2 ^ 64 - 1) n ≡ t → P
+    go true e = f (leb-true (2 ^ 64 - 1) n e)
+    go false e = g (let l : n < 2 ^ 64 - 1 = leb-false (2 ^ 64 - 1) n e in omega (arith, l))
+
+capped-fits : (n : ℕ) → capped n < 2 ^ 64
+capped-fits n = by-top n (capped n < 2 ^ 64) (λ l. omega (arith, capped-top n l)) (λ l. omega (arith, l, capped-is n l))
+
+-- what was held is added to as if it had not been
+capped-add : (n m : ℕ) → capped (capped n + m) ≡ capped (n + m)
+capped-add n m =
+    by-top n (capped (capped n + m) ≡ capped (n + m))
+    (λ l. capped-top (capped n + m) (omega (arith, capped-top n l)) ∙ sym (capped-top (n + m) (omega (arith, l))))
+    (λ l. ap (λ x. capped (x + m)) (capped-is n l))
 
 -- ---- a step
 
@@ -179,16 +198,6 @@ abbrev pub feedAll : Answer SoFar → List (List ℕ) → Answer SoFar
 feedAll s [] = s
 feedAll s (p ∷ ps) = feedAll (fed s p) ps
 
--- each but the last is as long as its head says; the last is what is left over
-abbrev pub Pieces : List (List ℕ) → Type 0
-Pieces [] = Unit {0}
-Pieces (p ∷ []) = Unit {0}
-Pieces (p ∷ (q ∷ ps)) = Whole p × Pieces (q ∷ ps)
-
-feed-refused : (n p : ℕ) (ps : List (List ℕ)) → feedAll (refused n p) ps ≡ refused n p
-feed-refused n p [] = refl
-feed-refused n p (q ∷ ps) = ap (λ s. feedAll s ps) (fed-stop n p q) ∙ feed-refused n p ps
-
 finish-ok : (a : SoFar) → finished (ok a) ≡ ok (counts (a .blocks) (a .records))
 unfolding finished _>>=_
 finish-ok a = refl
@@ -196,37 +205,6 @@ finish-ok a = refl
 finish-refused : (n p : ℕ) → finished (refused n p) ≡ refused n p
 unfolding finished _>>=_
 finish-refused n p = refl
-
--- what is known so far, with so many octets to come, stays in 64 bits
-record Room (a : SoFar) (n : ℕ) : Type 0 where
-  place : a .place + n < 2 ^ 64
-  blocks : a .blocks + n < 2 ^ 64
-  records : a .records + n < 2 ^ 64
-
-fed-within : (a : SoFar) (piece : List ℕ) (k : Counts) (n : ℕ) → Room a n → length piece ≤ n → k .blocks ≤ n → k .records ≤ n → checkRecording piece ≡ ok k
-    → fed (ok a) piece ≡ ok (sofar (a .place + length piece) (a .blocks + k .blocks) (a .records + k .records))
-fed-within a piece k n r l u v h =
-    fed-more a piece k h
-    ∙ ap (λ x. ok (sofar x (capped (a .blocks + k .blocks)) (capped (a .records + k .records)))) (capped-is (a .place + length piece) (omega (arith, r .place)))
-    ∙ ap₂ (λ x y. ok (sofar (a .place + length piece) x y)) (capped-is (a .blocks + k .blocks) (omega (arith, r .blocks))) (capped-is (a .records + k .records) (omega (arith, r .records)))
-
-fed-out : (a : SoFar) (piece : List ℕ) (m p n : ℕ) → Room a n → p ≤ n → checkRecording piece ≡ refused m p → fed (ok a) piece ≡ refused m (a .place + p)
-fed-out a piece m p n r l h = fed-bad a piece m p h ∙ ap (refused m) (capped-is (a .place + p) (omega (arith, r .place)))
-
--- the last piece
-fed-last : (a : SoFar) (p : List ℕ) → Octets p → Room a (length p) → finished (fed (ok a) p) ≡ countsFrom (a .blocks) (a .records) (a .place) p
-fed-last a p o r = go (checkRecording p) refl
-  where
-    go : (x : Answer Counts) → checkRecording p ≡ x → finished (fed (ok a) p) ≡ countsFrom (a .blocks) (a .records) (a .place) p
-    go (ok k) e =
-        let (u, v) = counts-few p k o e in
-        ap finished (fed-within a p k (length p) r (le-refl _) u v e)
-        ∙ finish-ok _
-        ∙ sym (counts-on (a .blocks) (a .records) (a .place) p ∙ bind-in _ (later-in (a .place) e) refl)
-    go (refused n q) e =
-        ap finished (fed-out a p n q (length p) r (place-few p o n q e) e)
-        ∙ finish-refused n (a .place + q)
-        ∙ sym (counts-on (a .blocks) (a .records) (a .place) p ∙ bind-out _ (later-out (a .place) e))
 
 -- a whole block alone
 whole-alone : (p : List ℕ) (f : Front) → Octets p → FrontTaken p f → f .len ≡ length p → checkRecording p ≡ ok (counts 1 (f .records))
@@ -236,59 +214,148 @@ whole-alone p f o t e =
     ∙ counts-end (0 + 1) (0 + f .records) (0 + f .len) (drop (f .len) p) (length-drop (f .len) p ∙ omega arith)
     ∙ ap (λ n. ok (counts 1 n)) (zero-add (f .records))
 
-module _ (a : SoFar) (p : List ℕ) (q : List ℕ) (ps : List (List ℕ)) (whole : Whole p) (o : Octets (concat (p ∷ (q ∷ ps)))) (r : Room a (length (concat (p ∷ (q ∷ ps))))) where
-  abbrev later-on : List ℕ
-  later-on = concat (q ∷ ps)
-
+-- a whole block and what follows it, fed at once or one after the other
+module _ (a : SoFar) (p rest : List ℕ) (whole : Whole p) (o : Octets (p ++ rest)) where
   p-octets : Octets p
-  p-octets = octets-left p later-on o
+  p-octets = octets-left p rest o
 
-  all-length : length (p ++ later-on) ≡ length p + length later-on
-  all-length = length-append p later-on
+  all-length : length (p ++ rest) ≡ length p + length rest
+  all-length = length-append p rest
 
-  -- the piece is refused, and so is the whole
-  first-refused : (n s : ℕ) → checkFront p ≡ refused n s → finished (feedAll (fed (ok a) p) (q ∷ ps)) ≡ countsFrom (a .blocks) (a .records) (a .place) (p ++ later-on)
-  first-refused n s e =
-      let l : 0 < length p = omega (arith, long p later-on whole) in
-      let i : s ≤ length p = front-inside p p-octets n s e in
-      ap (λ z. finished (feedAll z (q ∷ ps)))
-      (fed-out a p n s (length (p ++ later-on)) r (omega (arith, all-length)) (sym (counts-start p) ∙ counts-stop 0 0 0 p n s l e ∙ ap (refused n) (zero-add s)))
-      ∙ ap finished (feed-refused n (a .place + s) (q ∷ ps))
-      ∙ finish-refused n (a .place + s)
-      ∙ sym (counts-stop (a .blocks) (a .records) (a .place) (p ++ later-on) n s (omega (arith, all-length)) (same-front p later-on whole ∙ e))
+  Alike : Type 0
+  Alike = fed (ok a) (p ++ rest) ≡ fed (fed (ok a) p) rest
 
-  -- the piece is accepted, and the rest is fed
-  first-accepted : (f : Front) → checkFront p ≡ ok f
-      → ((b : SoFar) → Room b (length later-on) → finished (feedAll (ok b) (q ∷ ps)) ≡ countsFrom (b .blocks) (b .records) (b .place) later-on)
-      → finished (feedAll (fed (ok a) p) (q ∷ ps)) ≡ countsFrom (a .blocks) (a .records) (a .place) (p ++ later-on)
-  first-accepted f e ih =
-      let t : FrontTaken p f = front-taken p f p-octets e in
-      let n : f .len ≡ length p = front-whole p later-on whole f e in
-      let u : FrontTaken (p ++ later-on) f = front-taken (p ++ later-on) f o (same-front p later-on whole ∙ e) in
-      let m : f .records ≤ length p = omega (arith, t .few) in
-      ap (λ z. finished (feedAll z (q ∷ ps)))
-      (fed-within a p (counts 1 (f .records)) (length (p ++ later-on)) r (omega (arith, all-length)) (omega (arith, all-length, long p later-on whole)) (omega (arith, all-length)) (whole-alone p f p-octets t n))
-      ∙ ih (sofar (a .place + length p) (a .blocks + 1) (a .records + f .records))
-      (record { place = omega (arith, all-length, r .place); blocks = omega (arith, all-length, r .blocks, long p later-on whole); records = omega (arith, all-length, r .records) })
-      ∙ ap (λ k. countsFrom (a .blocks + 1) (a .records + f .records) (a .place + k) later-on) (sym n)
-      ∙ sym (counts-turn (a .blocks) (a .records) (a .place) (p ++ later-on) later-on f o u (sym (drop-at p later-on (f .len) (sym n))))
+  block-refused : (n s : ℕ) → checkFront p ≡ refused n s → Alike
+  unfolding Alike
+  block-refused n s e =
+      let l : 0 < length p = omega (arith, long p rest whole) in
+      let m : 0 < length (p ++ rest) = omega (arith, all-length, l) in
+      fed-bad a (p ++ rest) n s (sym (counts-start (p ++ rest)) ∙ counts-stop 0 0 0 (p ++ rest) n s m (same-front p rest whole ∙ e) ∙ ap (refused n) (zero-add s))
+      ∙ sym (ap (λ z. fed z rest) (fed-bad a p n s (sym (counts-start p) ∙ counts-stop 0 0 0 p n s l e ∙ ap (refused n) (zero-add s))) ∙ fed-stop n (capped (a .place + s)) rest)
 
--- from any state on
-fed-all : (a : SoFar) (ps : List (List ℕ)) → Octets (concat ps) → Room a (length (concat ps)) → Pieces ps
-    → finished (feedAll (ok a) ps) ≡ countsFrom (a .blocks) (a .records) (a .place) (concat ps)
-fed-all a [] o r w = finish-ok a ∙ sym (counts-end (a .blocks) (a .records) (a .place) [] refl)
-fed-all a (p ∷ []) o r w =
-    let e : p ++ [] ≡ p = append-nil p in
-    fed-last a p (subst Octets e o) (subst (λ z. Room a (length z)) e r) ∙ ap (countsFrom (a .blocks) (a .records) (a .place)) (sym e)
-fed-all a (p ∷ (q ∷ ps)) o r w =
-    by-answer (checkFront p) _
-    (λ f e. first-accepted a p q ps (w .0) o r f e (λ b s. fed-all b (q ∷ ps) (octets-right p (concat (q ∷ ps)) o) s (w .1)))
-    (λ n s e. first-refused a p q ps (w .0) o r n s e)
+  module _ (f : Front) (e : checkFront p ≡ ok f) where
+    n : f .len ≡ length p
+    n = front-whole p rest whole f e
+
+    first : fed (ok a) p ≡ ok (sofar (capped (a .place + length p)) (capped (a .blocks + 1)) (capped (a .records + f .records)))
+    first = fed-more a p (counts 1 (f .records)) (whole-alone p f p-octets (front-taken p f p-octets e) n)
+
+    -- the whole's answer by the rest's
+    both : checkRecording (p ++ rest) ≡ (later (0 + f .len) (checkRecording rest) >>= λ j. ok (counts (0 + 1 + j .blocks) (0 + f .records + j .records)))
+    both =
+        let t : FrontTaken (p ++ rest) f = front-taken (p ++ rest) f o (same-front p rest whole ∙ e) in
+        sym (counts-start (p ++ rest)) ∙ counts-turn 0 0 0 (p ++ rest) rest f o t (sym (drop-at p rest (f .len) (sym n))) ∙ counts-on (0 + 1) (0 + f .records) (0 + f .len) rest
+
+    block-accepted : Alike
+    unfolding Alike
+    block-accepted = by-answer (checkRecording rest) (fed (ok a) (p ++ rest) ≡ fed (fed (ok a) p) rest)
+        (λ k r.
+        let x : a .place + length (p ++ rest) ≡ a .place + length p + length rest = omega (arith, all-length) in
+        let y : a .blocks + (0 + 1 + k .blocks) ≡ a .blocks + 1 + k .blocks = omega arith in
+        let z : a .records + (0 + f .records + k .records) ≡ a .records + f .records + k .records = omega arith in
+        fed-more a (p ++ rest) (counts (0 + 1 + k .blocks) (0 + f .records + k .records)) (both ∙ bind-in _ (later-in (0 + f .len) r) refl)
+        ∙ ap (λ u. ok (sofar (capped u) (capped (a .blocks + (0 + 1 + k .blocks))) (capped (a .records + (0 + f .records + k .records))))) x
+        ∙ ap₂ (λ u v. ok (sofar (capped (a .place + length p + length rest)) (capped u) (capped v))) y z
+        ∙ sym (ap (λ w. fed w rest) first ∙ fed-more (sofar (capped (a .place + length p)) (capped (a .blocks + 1)) (capped (a .records + f .records))) rest k r
+        ∙ ap (λ u. ok (sofar u (capped (capped (a .blocks + 1) + k .blocks)) (capped (capped (a .records + f .records) + k .records)))) (capped-add (a .place + length p) (length rest))
+        ∙ ap₂ (λ u v. ok (sofar (capped (a .place + length p + length rest)) u v)) (capped-add (a .blocks + 1) (k .blocks)) (capped-add (a .records + f .records) (k .records))))
+        (λ m q r.
+        let x : a .place + (0 + f .len + q) ≡ a .place + length p + q = omega (arith, n) in
+        fed-bad a (p ++ rest) m (0 + f .len + q) (both ∙ bind-out _ (later-out (0 + f .len) r))
+        ∙ ap (λ u. refused m (capped u)) x
+        ∙ sym (ap (λ w. fed w rest) first ∙ fed-bad (sofar (capped (a .place + length p)) (capped (a .blocks + 1)) (capped (a .records + f .records))) rest m q r ∙ ap (refused m) (capped-add (a .place + length p) q)))
+
+  fed-block : fed (ok a) (p ++ rest) ≡ fed (fed (ok a) p) rest
+  unfolding Alike
+  fed-block = by-answer (checkFront p) (fed (ok a) (p ++ rest) ≡ fed (fed (ok a) p) rest) block-accepted block-refused
+
+fed-join : (s : Answer SoFar) (p rest : List ℕ) → Whole p → Octets (p ++ rest) → fed s (p ++ rest) ≡ fed (fed s p) rest
+fed-join (ok a) p rest w o = fed-block a p rest w o
+fed-join (refused n q) p rest w o = fed-stop n q (p ++ rest) ∙ sym (ap (λ z. fed z rest) (fed-stop n q p) ∙ fed-stop n q rest)
+
+-- ---- numbers that fit stay as they are where nothing is fed
+
+abbrev Fit : Answer SoFar → Type 0
+Fit (ok a) = (a .place < 2 ^ 64) × (a .blocks < 2 ^ 64) × (a .records < 2 ^ 64)
+Fit (refused n p) = Unit {0}
+
+fed-fits : (s : Answer SoFar) (p : List ℕ) → Fit (fed s p)
+fed-fits (refused n q) p = subst Fit (sym (fed-stop n q p)) tt
+fed-fits (ok a) p =
+    by-answer (checkRecording p) (Fit (fed (ok a) p))
+    (λ k e. subst Fit (sym (fed-more a p k e)) (capped-fits (a .place + length p), capped-fits (a .blocks + k .blocks), capped-fits (a .records + k .records)))
+    (λ n q e. subst Fit (sym (fed-bad a p n q e)) tt)
+
+fed-none : (s : Answer SoFar) → Fit s → fed s [] ≡ s
+fed-none (refused n q) w = fed-stop n q []
+fed-none (ok a) w =
+    let x : a .place + 0 ≡ a .place = omega arith in
+    let y : a .blocks + 0 ≡ a .blocks = omega arith in
+    let z : a .records + 0 ≡ a .records = omega arith in
+    fed-more a [] (counts 0 0) (sym (counts-start []) ∙ counts-end 0 0 0 [] refl)
+    ∙ ap (λ u. ok (sofar u (capped (a .blocks + 0)) (capped (a .records + 0)))) (ap capped x ∙ capped-is (a .place) (w .0))
+    ∙ ap₂ (λ u v. ok (sofar (a .place) u v)) (ap capped y ∙ capped-is (a .blocks) (w .1)) (ap capped z ∙ capped-is (a .records) (w .2))
+
+-- ---- pieces of whole blocks, one, more or none
+
+abbrev pub AllWhole : List (List ℕ) → Type 0
+AllWhole [] = Unit {0}
+AllWhole (p ∷ ps) = Whole p × AllWhole ps
+
+-- blocks end to end, each as long as its head says
+pub record Blocks (p : List ℕ) : Type 0 where
+  pub blocks : List (List ℕ)
+  pub whole : AllWhole blocks
+  pub are : concat blocks ≡ p
+
+-- a block alone
+pub one-block : (p : List ℕ) → Whole p → Blocks p
+one-block p w = record { blocks = p ∷ []; whole = (w, tt); are = append-nil p }
+
+-- each piece but the last is whole blocks; the last is what is left over
+abbrev pub Pieces : List (List ℕ) → Type 0
+Pieces [] = Unit {0}
+Pieces (p ∷ []) = Unit {0}
+Pieces (p ∷ (q ∷ ps)) = Blocks p × Pieces (q ∷ ps)
+
+fed-blocks : (s : Answer SoFar) (bs : List (List ℕ)) (rest : List ℕ) → Fit s → AllWhole bs → Octets (concat bs ++ rest) → fed s (concat bs ++ rest) ≡ fed (fed s (concat bs)) rest
+fed-blocks s [] rest f w o = ap (λ z. fed z rest) (sym (fed-none s f))
+fed-blocks s (p ∷ bs) rest f w o =
+    let e : (p ++ concat bs) ++ rest ≡ p ++ (concat bs ++ rest) = append-assoc p (concat bs) rest in
+    let o₁ : Octets (p ++ (concat bs ++ rest)) = subst Octets e o in
+    ap (fed s) e
+    ∙ fed-join s p (concat bs ++ rest) (w .0) o₁
+    ∙ fed-blocks (fed s p) bs rest (fed-fits s p) (w .1) (octets-right p (concat bs ++ rest) o₁)
+    ∙ ap (λ z. fed z rest) (sym (fed-join s p (concat bs) (w .0) (octets-left (p ++ concat bs) rest o)))
+
+-- fed one after the other or all at once
+fed-all : (s : Answer SoFar) (p : List ℕ) (ps : List (List ℕ)) → Fit s → Pieces (p ∷ ps) → Octets (concat (p ∷ ps)) → feedAll s (p ∷ ps) ≡ fed s (concat (p ∷ ps))
+fed-all s p [] f w o = ap (fed s) (sym (append-nil p))
+fed-all s p (q ∷ ps) f w o =
+    let later-on : List ℕ = concat (q ∷ ps) in
+    let b : Blocks p = w .0 in
+    fed-all (fed s p) q ps (fed-fits s p) (w .1) (octets-right p later-on o)
+    ∙ ap (λ z. fed (fed s z) later-on) (sym (b .are))
+    ∙ sym (fed-blocks s (b .blocks) later-on f (b .whole) (subst (λ z. Octets (z ++ later-on)) (sym (b .are)) o))
+    ∙ ap (λ z. fed s (z ++ later-on)) (b .are)
+
+-- a recording that is fed at once
+fed-whole : (p : List ℕ) → Octets p → length p < 2 ^ 64 → finished (fed (ok (sofar 0 0 0)) p) ≡ checkRecording p
+fed-whole p o l =
+    by-answer (checkRecording p) (finished (fed (ok (sofar 0 0 0)) p) ≡ checkRecording p)
+    (λ k e.
+    let (u, v) = counts-few p k o e in
+    ap finished (fed-more (sofar 0 0 0) p k e) ∙ finish-ok _
+    ∙ ap₂ (λ x y. ok (counts x y)) (ap capped (zero-add (k .blocks)) ∙ capped-is (k .blocks) (omega (arith, u, l))) (ap capped (zero-add (k .records)) ∙ capped-is (k .records) (omega (arith, v, l)))
+    ∙ sym e)
+    (λ n q e.
+    ap finished (fed-bad (sofar 0 0 0) p n q e) ∙ finish-refused n _
+    ∙ ap (refused n) (ap capped (zero-add q) ∙ capped-is q (omega (arith, place-few p o n q e, l))) ∙ sym e)
 
 -- FEEDING IS CHECKING: however a recording is cut at its blocks' ends, the last piece being what is left over, the answer is that of the whole
 pub feeding : (ps : List (List ℕ)) → Octets (concat ps) → length (concat ps) < 2 ^ 64 → Pieces ps → finished (feedAll (ok (sofar 0 0 0)) ps) ≡ checkRecording (concat ps)
-feeding ps o l w =
-    fed-all (sofar 0 0 0) ps o (record { place = omega arith; blocks = omega arith; records = omega arith }) w ∙ counts-start (concat ps)
+feeding [] o l w = finish-ok (sofar 0 0 0) ∙ sym (sym (counts-start []) ∙ counts-end 0 0 0 [] refl)
+feeding (p ∷ ps) o l w = ap finished (fed-all (ok (sofar 0 0 0)) p ps (omega arith, omega arith, omega arith) w o) ∙ fed-whole (concat (p ∷ ps)) o l
 
 -- ---- cut as it is read: a head, and then as many octets as it says, or what there is of them
 
@@ -327,7 +394,7 @@ cut-whole bs l =
 -- a piece more in front
 pieces-cons : (p : List ℕ) (ps : List (List ℕ)) → Whole p → Pieces ps → Pieces (p ∷ ps)
 pieces-cons p [] w h = tt
-pieces-cons p (q ∷ ps) w h = (w, h)
+pieces-cons p (q ∷ ps) w h = (one-block p w, h)
 
 cut-pieces : (f : ℕ) (bs : List ℕ) → Pieces (cutFrom f bs)
 cut-pieces zero bs = tt

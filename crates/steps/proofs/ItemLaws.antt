@@ -24,7 +24,7 @@ use Rattle.tables.specs.declared.tables.LayoutRow.{LayoutRow}
 use Rattle.tables.specs.declared.tables.PlaceRow.{PlaceRow}
 use Rattle.items.specs.Answers.{checkAt}
 use Rattle.tables.specs.FieldRules.{Rule, obeys, allObeyed, rules, firstRule, singleOf, singles}
-use Rattle.steps.specs.Item.{Plainly, firstThree, downOf, addedOf, upOf, limitOf, asks, sameRule, sameRules, soundRule, lowAt, highAt, asked, soundRow, soundFree, soundSingle, soundRuled, soundCounted, soundExtended, samePair, soundTwice, soundBy, soundWord, soundWords, soundSteps}
+use Rattle.steps.specs.Item.{Plainly, firstThree, downOf, addedOf, upOf, limitOf, asks, sameRule, sameRules, soundRule, lowAt, highAt, asked, soundRow, soundFree, soundSingle, soundCounted, soundExtended, samePair, soundTwice, soundBy, soundWord, soundWords, soundSteps}
 use Rattle.layouts.specs.Read.{rowsAt, partAt, legal, partSound, partsLegal, chain, listShape, shapeOf, wholeSize, rowSound}
 use Rattle.tables.specs.Tables.{groupAt, layoutAt, nowhere, profileRows, placeRowAt}
 use Rattle.items.proofs.CheckLaws.{Single, single-is, single-size, single-sound, single-legal, free-of, free-there, check-whole, check-place}

@@ -2,7 +2,6 @@ use lib.ListN.{take, drop}
 use Prim.Native.Nat.{ℕ}
 use mathlib.Core.Path.{_≡_, subst}
 -- `input::shift` meets its contract: the octets before a place have moved, and those from there on are as they were. Assumes nothing.
-use borrow.Author.Needs.{needs}
 use native.Mathlib.Omega.{arith}
 use Prim.Native.Nat.{_-_, _≤_}
 use Rattle.input.proofs.ShiftLaws.{Shifting, shifting-first, shifting-next}

@@ -1,5 +1,4 @@
 -- `octet::lay_octets` meets its contract: the pairs that are left, laid on, give what all pairs give. Assumes nothing.
-use borrow.Author.Needs.{needs}
 use native.Mathlib.Omega.{arith}
 use lib.ListN.{length}
 use Prim.Native.Nat.{_-_}

@@ -4,7 +4,6 @@ use mathlib.Core.Path.{refl}
 use Rattle.lines.proofs.PageLaws.{Spelling, spelling-first, spelling-next, spelling-last}
 -- `page::put_text` meets its contract: what is left of the text, put on the page so far, gives what the whole text gives. Assumes nothing.
 use borrow.Author.Needs.{needs}
-use native.Mathlib.Omega.{arith}
 use Prim.Native.Nat.{_-_}
 use lib.ListN.{length}
 use Rattle.lines.proofs.page.put_text.Statement.{statement}

@@ -4,7 +4,7 @@ use borrow.Author.Tests.{not-true, not-false}
 use borrow.Author.Needs.{needs}
 use native.Mathlib.Omega.{arith}
 use lib.ListN.{length}
-use mathlib.Core.Path.{_≡_, refl, sym, _∙_}
+use mathlib.Core.Path.{_≡_, refl, _∙_}
 use Rattle.lines.specs.Word.{words, isSome, integersOf}
 use Rattle.lines.proofs.WordLaws.{shorter, not-all, all-last, all-later}
 use Rattle.lines.proofs.word.are_integers.Statement.{statement}

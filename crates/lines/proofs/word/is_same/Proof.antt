@@ -1,5 +1,4 @@
 -- `word::is_same` meets its contract: what is left of the words says what all says. Assumes nothing.
-use borrow.Author.Needs.{needs}
 use native.Mathlib.Omega.{arith}
 use lib.ListN.{length}
 use Prim.Native.Nat.{_-_}

@@ -4,7 +4,7 @@ use mir.Syntax.{w64}
 use lib.ListN.{set}
 use lib.IntN.{ℤ}
 use mathlib.Core.List.{[], _∷_}
-use mathlib.Core.Path.{ap, _∙_, sym}
+use mathlib.Core.Path.{ap, _∙_}
 use Rattle.lines.specs.Page.{page, puts}
 use Rattle.lines.proofs.PageLaws.{put-room, put-full}
 use borrow.Author.Needs.{needs}

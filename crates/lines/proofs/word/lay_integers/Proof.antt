@@ -6,7 +6,7 @@ use borrow.Author.Needs.{needs}
 use native.Mathlib.Omega.{arith}
 use lib.ListN.{length}
 use mathlib.Core.List.{map}
-use mathlib.Core.Path.{_≡_, refl, sym, _∙_}
+use mathlib.Core.Path.{_≡_, refl, _∙_}
 use Rattle.lines.specs.Word.{words, nearestIn}
 use Rattle.lines.specs.Page.{page, puts}
 use Rattle.lines.proofs.WordLaws.{shorter, laid-last, laid-later}

@@ -6,9 +6,9 @@ use native.Mathlib.Omega.{arith}
 use lib.Seq.{length-take-le, getD-take}
 use lib.ListN.{length, take, drop}
 use lib.IntN.{ℤ, pos}
-use Prim.Native.Nat.{_-_, _≤_}
+use Prim.Native.Nat.{_-_}
 use mathlib.Core.List.{_∷_}
-use mathlib.Core.Path.{_≡_, refl, sym, ap, _∙_}
+use mathlib.Core.Path.{sym, ap, _∙_}
 use Rattle.lines.specs.Word.{moreText}
 use Rattle.lines.specs.Number.{integerText}
 use Rattle.lines.specs.Page.{page, puts}

@@ -5,7 +5,6 @@ use native.Mathlib.Omega.{arith}
 use lib.ListN.{length}
 use borrow.Author.Needs.{needs}
 use Rattle.rules.specs.Answer.{ok}
-use Rattle.sets.specs.Sets.{setAt}
 use Rattle.sets.specs.Answers.{setOf}
 use Rattle.plain.specs.Record.{endAt}
 use Rattle.sets.proofs.UsableLaws.{set-bounds}

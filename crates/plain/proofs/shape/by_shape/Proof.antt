@@ -1,10 +1,8 @@
 -- `plain::shape::by_shape` meets its contract. Assumes nothing.
-use Prim.Native.Nat.{_+_, _-_, _<_, _≤_}
-use mathlib.Core.Path.{_≡_, refl, sym, subst}
+use Prim.Native.Nat.{_+_, _-_, _≤_}
+use mathlib.Core.Path.{refl}
 use native.Mathlib.Omega.{arith}
 use lib.ListN.{length, getD}
-use Rattle.rules.specs.Answer.{ok}
-use Rattle.plain.specs.Record.{endAt}
 use Rattle.plain.specs.Shape.{usedOf, wordOf, typesOf, Front, Listed}
 use Rattle.plain.proofs.RecordLaws.{tell, later-within}
 use Rattle.plain.proofs.ShapeLaws.{front-of, listed-right, shape-known, shape-some, shape-few, shape-left, shape-long, shape-whole, shape-only}

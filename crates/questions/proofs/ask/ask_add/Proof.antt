@@ -4,7 +4,7 @@ use mathlib.Core.Path.{sym}
 use Prim.Native.Nat.{_+_}
 use Rattle.lines.specs.Octet.{octetsOf}
 use Rattle.questions.proofs.WordLaws.{value-is, value-not, value-few, count-is, count-not, count-few, set-is, set-not}
-use Rattle.questions.proofs.AskLaws.{at-front, at-back, four-words, not-four, four-within, add-not, add-no-block, add-no-room, add-no-set, add-no-items, add-is, room-front, room-back}
+use Rattle.questions.proofs.AskLaws.{at-front, at-back, four-words, not-four, four-within, add-not, add-no-block, add-no-room, add-no-set, add-no-items, add-is, room-front}
 use borrow.Author.Needs.{needs}
 use Rattle.questions.proofs.ask.ask_add.Statement.{statement}
 use Rattle.questions.proofs.ask.ask_add.Tie as tie

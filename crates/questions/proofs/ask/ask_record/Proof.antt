@@ -1,6 +1,5 @@
 -- `ask::ask_record` meets its contract: word by word. Assumes nothing.
 use native.Mathlib.Omega.{arith}
-use mathlib.Core.Path.{sym}
 use Prim.Native.Nat.{_+_, _-_, _^_}
 use Rattle.lines.specs.Octet.{octetsOf}
 use Rattle.questions.specs.Word.{atMost}

@@ -3,7 +3,7 @@ use Rattle.questions.proofs.WordLaws.{Setting, setting-none, setting-fi
 use borrow.Author.Needs.{needs}
 use lib.ListN.{length}
 use native.Mathlib.Omega.{arith}
-use mathlib.Core.Path.{refl, sym, _∙_}
+use mathlib.Core.Path.{sym, _∙_}
 use Rattle.lines.proofs.WordLaws.{shorter}
 use Rattle.questions.proofs.word.read_items.Statement.{statement}
 use Rattle.questions.proofs.word.read_items.Tie as tie
