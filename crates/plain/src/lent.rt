@@ -271,7 +271,7 @@ const TYPES: Types = [
 
 // Rows of message types: what the type must have; what it must or may have. The first row is no type's.
 //
-// Then 64 shapes, each where `slot_of` looks for it: FSPECs that are legal for some message type, all but those of Aircraft_report, with what follows
+// Then 64 shapes, made and compared by docs/make/shapes.py, each where `slot_of` looks for it: FSPECs that are legal for some message type, all but those of Aircraft_report, with what follows
 // from them. A shape has four words, with columns, the right one first: the FSPEC, its first octet lowest; its octets; where in the record the item
 // stands that is looked into; how many octets the free items after it take; the category, less 17 _ the message types, bit n for row n; the item's word,
 // as in `steps::steps` _ the item's rule, as there _ the items that are left then. Where no item is looked into, the place is that of FRN 1, the word 0, the rule any bits.
