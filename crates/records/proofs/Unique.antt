@@ -15,7 +15,7 @@ use Rattle.records.specs.Answers.{endOf, Walked, recordAt, newOf, newAt}
 
 -- ---- `check_record`
 
-end-told : (a b : RecordChecked) → endOf a ≡ endOf b → a ≡ b
+pub end-told : (a b : RecordChecked) → endOf a ≡ endOf b → a ≡ b
 end-told (checked.Ends m) (checked.Ends n) e = cc
 end-told (checked.Ends m) (checked.Refused n p) e = let z : _≡_ {A = ℕ} 0 1 = cc in absurd (omega arith)
 end-told (checked.Refused m p) (checked.Ends n) e = let z : _≡_ {A = ℕ} 0 1 = cc in absurd (omega arith)
