@@ -1,12 +1,11 @@
 -- The record with a number, in octets that are records, as a loop comes to it.
 --
 -- In order: where it is, turn by turn; its map. Assumes nothing.
-use Prim.Native.Nat.{ℕ, suc, _+_, _-_, _≤_, _<_}
+use Prim.Native.Nat.{ℕ, suc, _+_, _-_, _<_}
 use mathlib.Core.Path.{_≡_, refl, sym, ap, ap₂, _∙_, subst}
 use mathlib.Core.List.{List, [], _∷_}
 use native.Mathlib.Omega.{arith}
 use lib.ListN.{length, drop, length-drop}
-use lib.Seq.{drop-drop}
 use Rattle.rules.specs.Answer.{ok, refused, _>>=_}
 use Rattle.rules.specs.Record.{Category}
 use Rattle.rules.specs.Block.{readUpTo, readAll}
@@ -20,7 +19,7 @@ use Rattle.blocks.specs.Read.{Records}
 use Rattle.blocks.proofs.LoopLaws.{octets-drop}
 use Rattle.blocks.proofs.RecordLaws.{record-is, Accepted, records-turn}
 use Rattle.finding.specs.declared.find.RecordPlace.the-variants.{At}
-use Rattle.finding.specs.Found.{seekAt, SkippedTo, recordLocated}
+use Rattle.finding.specs.Found.{seekAt, recordLocated}
 
 -- ---- where it is, turn by turn
 
@@ -73,46 +72,6 @@ seek-again c part from n bs rest k left e s a d z =
       same = sym (seek-turn c k bs rest left e (s .octets) (s .records) a d z) ∙ s .same;
     }
 
--- with the place of what is left in the whole
-pub record Skipping (c : Category) (part : List ℕ) (from n : ℕ) (rest : List ℕ) (at left : ℕ) : Type 0 where
-  pub seeking : Seeking c part from n rest at left
-  pub low : from ≤ at
-  pub whole : at + length rest ≡ from + length part
-  pub here : rest ≡ drop (at - from) part
-
-module _ (c : Category) (part : List ℕ) (from n : ℕ) where
-  pub skip-first : from + length part < 65_536 → Octets part → Records c part → Skipping c part from n part from n
-  skip-first l o r =
-      let z : from - from ≡ 0 = omega arith in
-      record { seeking = record { room = l; octets = o; records = r; same = refl }; low = omega arith; whole = refl; here = ap (λ x. drop x part) (sym z) }
-
-  pub skip-again : (bs rest : List ℕ) (k left e : ℕ) → Skipping c part from n bs k left → Accepted c k bs e → rest ≡ drop (e - k) bs → (left ≡ 0 → ⊥) → Skipping c part from n rest e (left - 1)
-  skip-again bs rest k left e s a d z =
-      let l : length rest ≡ length bs - (e - k) = ap length d ∙ length-drop (e - k) bs in
-      let m : k - from + (e - k) ≡ e - from = omega (arith, s .low, a .low) in
-      record {
-        seeking = seek-again c part from n bs rest k left e (s .seeking) a d z;
-        low = omega (arith, s .low, a .low);
-        whole = omega (arith, s .whole, l, a .low, a .high);
-        here = d ∙ ap (drop (e - k)) (s .here) ∙ drop-drop (e - k) (k - from) part ∙ ap (λ x. drop x part) m;
-      }
-
-  module _ (rest : List ℕ) (at left : ℕ) (s : Skipping c part from n rest at left) where
-    skipped : seekAt c at rest 0 ≡ seekAt c from part n → SkippedTo c from part n at
-    skipped e =
-        record {
-          low = s .low;
-          high = omega (arith, s .whole);
-          records = subst (Records c) (s .here) (s .seeking .records);
-          same = ap (λ x. seekAt c at x 0) (sym (s .here)) ∙ e;
-        }
-
-    pub skip-here : left ≡ 0 → SkippedTo c from part n at
-    skip-here z = skipped (ap (seekAt c at rest) (sym z) ∙ s .seeking .same)
-
-    pub skip-short : length rest ≡ 0 → SkippedTo c from part n at
-    skip-short z = skipped (seek-end c at rest 0 z ∙ sym (seek-end c at rest left z) ∙ s .seeking .same)
-
 -- ---- its map
 
 pub walked-map : (i k : ℕ) (bs : List ℕ) (w : RecordWalked) → Walked w (recordAt i k bs) → (e : ℕ) (a : Accepted (categoryAt i) k bs e)
@@ -124,25 +83,3 @@ pub located-at : {c : Category} {k : ℕ} {bs : List ℕ} {e : ℕ} (a : Accepte
     → record { answer = At k (e - k); map = m } ≡ recordLocated (ok (mapOf c (record { start = k; value = a .value })))
 unfolding mapOf
 located-at {k = k} a m h = ap₂ (λ x y. record { answer = At k (x - k); map = y }) (sym (a .ends)) h
-
--- ---- the record that is the first of what is left
-
-module _ (i from n at : ℕ) (part rest : List ℕ) (s : SkippedTo (categoryAt i) from part n at) (here : rest ≡ drop (at - from) part) where
-  pub left-records : Records (categoryAt i) rest
-  left-records = subst (Records (categoryAt i)) (sym here) (s .records)
-
-  pub left-octets : Octets part → Octets rest
-  left-octets o = subst Octets (sym here) (octets-drop (at - from) part o)
-
-  pub left-length : length rest ≡ length part - (at - from)
-  left-length = ap length here ∙ length-drop (at - from) part
-
-  same-here : seekAt (categoryAt i) at rest 0 ≡ seekAt (categoryAt i) from part n
-  same-here = ap (λ x. seekAt (categoryAt i) at x 0) here ∙ s .same
-
-  pub none-left : length rest ≡ 0 → recordLocated (refused 19 0) ≡ recordLocated (seekAt (categoryAt i) from part n)
-  none-left z = ap recordLocated (sym (seek-end (categoryAt i) at rest 0 z) ∙ same-here)
-
-  pub first-left : Octets part → (w : RecordWalked) → Walked w (recordAt i at rest) → (e : ℕ) → Accepted (categoryAt i) at rest e
-      → record { answer = At at (e - at); map = w .map } ≡ recordLocated (seekAt (categoryAt i) from part n)
-  first-left o w walked e a = located-at a (w .map) (walked-map i at rest w walked e a) ∙ ap recordLocated (sym (seek-here (categoryAt i) at rest 0 e (left-octets o) left-records a refl) ∙ same-here)

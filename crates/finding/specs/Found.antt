@@ -1,15 +1,12 @@
 -- What finding answers, by what the rules find: where it lies and its map, or a refusal's number and place (document 01, "Refusal numbers and their
 -- order"). Assumes nothing.
-use Prim.Native.Nat.{ℕ, _+_, _-_, _≤_}
-use mathlib.Core.Path.{_≡_}
+use Prim.Native.Nat.{ℕ, _-_}
 use mathlib.Core.List.{List}
-use lib.ListN.{length, drop}
 use Rattle.rules.specs.Answer.{Answer, ok, refused, _>>=_}
 use Rattle.rules.specs.Record.{Category, readRecord}
 use Rattle.rules.specs.Block.{readAll}
 use Rattle.rules.specs.Entry.{RecordMap, Laid, mapOf, numbered}
 use Rattle.records.specs.Answers.{mapIn}
-use Rattle.blocks.specs.Read.{Records}
 use Rattle.finding.specs.declared.find.RecordPlace.{RecordPlace}
 use Rattle.finding.specs.declared.find.RecordPlace.the-variants as recordPlace
 use Rattle.finding.specs.declared.find.RecordLocated.{RecordLocated}
@@ -49,10 +46,3 @@ seekAt c k bs n = do
   rs ← readAll (readRecord c) bs
   r ← numbered c k rs n
   ok (mapOf c r)
-
--- a place from which the first record is the one that was asked for, counted from the start; the end where there is none
-pub record SkippedTo (c : Category) (k : ℕ) (bs : List ℕ) (n r : ℕ) : Type 0 where
-  pub low : k ≤ r
-  pub high : r ≤ k + length bs
-  pub records : Records c (drop (r - k) bs)
-  pub same : seekAt c r (drop (r - k) bs) 0 ≡ seekAt c k bs n

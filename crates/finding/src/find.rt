@@ -15,7 +15,7 @@ ghost use Rattle.rules.specs.Entry.{findRecord, findItem};
 ghost use Rattle.sets.specs.Sets.{categoryAt};
 ghost use Rattle.blocks.specs.Read.{Records};
 ghost use Rattle.finding.specs.Part.{VeryPart};
-ghost use Rattle.finding.specs.Found.{seekAt, SkippedTo, recordLocated, recordSpan, locatedOf, itemSpan};
+ghost use Rattle.finding.specs.Found.{seekAt, recordLocated, recordSpan, locatedOf, itemSpan};
 
 // The bytes of a block from start on, so many: that very part.
 fn part_of(block: &[u8], start: usize, count: usize) -> &[u8]
@@ -53,62 +53,37 @@ fn record_lost(number: u8, place: usize) -> RecordLocated
     }
 }
 
-// Where the record with a number starts, counted from 0, among those that fill a part, which starts at a place of its block; the part's end where there
-// are fewer.
-fn skip_records(profile: usize, part: &[u8], from: usize, n: usize) -> usize
-    requires { ⌜ from + length (now part) < 65536 ⌝ }
-    requires { ⌜ Records (categoryAt profile) (now part) ⌝ }
-    ensures { λ r. ⌜ SkippedTo (categoryAt profile) from (now (part .entry)) n r ⌝ }
-{
-    if n == 0 {
-        return from;
-    }
-    let steps = steps::steps();
-    let types = plain::type_table();
-    let sets = plain::set_table();
-    let mut rest = part;
-    let mut at = from;
-    let mut left = n;
-    while 0 < left {
-        if rest.len() == 0 {
-            return at;
-        }
-        let checked = plain::record_end(&steps, &types, &sets, profile, rest, at);
-        let RecordChecked::Ends { end } = checked else {
-            return at;
-        };
-        let used = end - at;
-        rest = &rest[used..];
-        at = end;
-        left = left - 1;
-    }
-    at
-}
-
-// The record with a number, with its map.
+// The record with a number, counted from 0, among those that fill a part, which starts at a place of its block.
 fn seek_record(profile: usize, part: &[u8], from: usize, n: usize) -> RecordLocated
     requires { ⌜ from + length (now part) < 65536 ⌝ }
     requires { ⌜ Records (categoryAt profile) (now part) ⌝ }
     ensures { λ r. ⌜ r ≡ recordLocated (seekAt (categoryAt profile) from (now (part .entry)) n) ⌝ }
 {
-    let at = skip_records(profile, part, from, n);
-    let rest = &part[at - from..];
-    if rest.len() == 0 {
-        return record_lost(19, 0);
+    let mut rest = part;
+    let mut at = from;
+    let mut left = n;
+    while 0 < rest.len() {
+        let walked = records::check_record(profile, rest, at);
+        let checked = walked.checked;
+        let RecordChecked::Ends { end } = checked else {
+            return record_lost(19, 0);
+        };
+        let used = end - at;
+        if left == 0 {
+            let map = walked.map;
+            return RecordLocated {
+                answer: RecordPlace::At {
+                    start: at,
+                    length: used,
+                },
+                map,
+            };
+        }
+        rest = &rest[used..];
+        at = end;
+        left = left - 1;
     }
-    let walked = records::check_record(profile, rest, at);
-    let checked = walked.checked;
-    let RecordChecked::Ends { end } = checked else {
-        return record_lost(19, 0);
-    };
-    let map = walked.map;
-    RecordLocated {
-        answer: RecordPlace::At {
-            start: at,
-            length: end - at,
-        },
-        map,
-    }
+    record_lost(19, 0)
 }
 
 // The record with a number: where it lies, and its map.

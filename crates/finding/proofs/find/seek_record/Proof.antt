@@ -1,83 +1,104 @@
--- `finding::find::seek_record` meets its contract: the record that was asked for is the first of what is left. Assumes nothing.
+-- `find::seek_record` meets its contract. The loop's invariant: the rule on what is left, with as many fewer to pass, is the rule on the whole. The measure is
+-- the length of what is left. Assumes nothing.
 use Prim.Native.Nat.{_-_}
-use mathlib.Core.Path.{_∙_}
-use native.Mathlib.Omega.{arith}
+use mathlib.Core.Path.{refl, sym, ap, _∙_}
 use borrow.Author.Needs.{needs}
-use lib.ListN.{take, drop, length}
-use Rattle.rules.proofs.AnswerLaws.{Octets}
+use native.Mathlib.Omega.{arith}
+use lib.ListN.{length}
 use Rattle.sets.specs.Sets.{categoryAt}
 use Rattle.blocks.proofs.LoopLaws.{octets-each, to-end}
 use Rattle.blocks.proofs.RecordLaws.{Accepted, ended-accepted, ended-refused, seek-stop}
-use Rattle.finding.proofs.SeekLaws.{left-records, left-octets, left-length, none-left, first-left}
+use Rattle.finding.specs.Found.{recordLocated}
+use Rattle.finding.proofs.SeekLaws.{seek-end, seek-here, Seeking, seek-again, walked-map, located-at}
 use Rattle.finding.proofs.find.seek_record.Statement.{statement}
 use Rattle.finding.proofs.find.seek_record.Tie as tie
 
-skip-records-requires : tie.Need-skip-records-requires
-skip-records-requires c κs = search needs
+abbrev Inv-loop : tie.InvT-loop
+Inv-loop profile part from n rest₀ at₀ left₀ rest at left = Seeking (categoryAt profile) part from n rest at left
 
-sub-rest : tie.Need-sub-rest
-sub-rest c = c .skip-records .ensures .low
+abbrev μ-loop : tie.MeasureT-loop
+μ-loop profile part from n rest₀ at₀ left₀ rest at left = length rest
 
-sub-rest-2 : tie.Need-sub-rest-2
-sub-rest-2 c = omega (arith, c .skip-records .ensures .low, c .skip-records .ensures .high)
+-- the record of this turn
+accepted : (c : tie.After-known-told Inv-loop μ-loop)
+    → Accepted (categoryAt (c .before .before .before .before .before .before .before .args .profile)) (c .before .before .before .before .before .loop .at)
+    (c .before .before .before .before .before .loop .rest .now) (c .before .checked .given .0 .0)
+accepted c =
+    ended-accepted _ _ (c .before .before .before .before .before .loop .rest .now) (c .before .before .before .check-record .result .checked) (c .before .before .before .check-record .ensures .answer) _
+    (c .before .before .before .before .before .loop .inv .octets) (c .before .checked .given .1)
 
-part-rest-start : tie.Need-part-rest-start
-part-rest-start c = omega (arith, c .skip-records .ensures .low, c .skip-records .ensures .high)
+loop-holds : tie.Need-loop-holds Inv-loop μ-loop
+loop-holds c = record { room = c .before .pre .0; octets = octets-each (c .before .args .part .now) (c .shared-slice-known .given); records = c .before .pre .1; same = refl }
 
-part-rest-end : tie.Need-part-rest-end
-part-rest-end c = omega (arith, c .skip-records .ensures .low, c .skip-records .ensures .high)
+check-record-requires : tie.Need-check-record-requires Inv-loop μ-loop
+check-record-requires c κs = omega arith
 
-record-lost-requires : tie.Need-record-lost-requires
-record-lost-requires c κs = search needs
-
-returns : tie.Need-returns
-returns c = c .record-lost .ensures ∙ none-left _ _ _ _ _ _ (c .before .before .before .skip-records .ensures) (to-end (c .before .before .before .before .before .args .part .now) _) (c .before .if1 .taken)
-
-check-record-requires : tie.Need-check-record-requires
-check-record-requires c κs = omega (arith, left-length _ _ _ _ (c .before .before .before .before .args .part .now) _ (c .before .before .skip-records .ensures) (to-end (c .before .before .before .before .args .part .now) (c .before .before .skip-records .result - c .before .before .before .before .args .from)), c .before .before .skip-records .ensures .low, c .before .before .skip-records .ensures .high, c .before .before .before .before .pre .0)
-
-enum-known-checked : tie.Need-enum-known-checked
+enum-known-checked : tie.Need-enum-known-checked Inv-loop μ-loop
 enum-known-checked c = search needs
 
-enum-told : tie.Need-enum-told
+enum-told : tie.Need-enum-told Inv-loop μ-loop
 enum-told c = search needs
 
-record-lost-requires-2 : tie.Need-record-lost-requires-2
-record-lost-requires-2 c κs = search needs
+record-lost-requires : tie.Need-record-lost-requires Inv-loop μ-loop
+record-lost-requires c κs = search needs
 
--- none of the records is refused
-returns-2 : tie.Need-returns-2
-returns-2 c =
-    seek-stop _ _ _ _ _ (left-records _ _ _ _ _ _ (c .before .before .before .before .before .before .skip-records .ensures) (to-end (c .before .before .before .before .before .before .before .before .args .part .now) _)) (omega (arith, c .before .before .before .before .if1 .left))
+returns : tie.Need-returns Inv-loop μ-loop
+returns c =
+    seek-stop _ _ (c .before .before .before .before .before .loop .rest .now) _ _ (c .before .before .before .before .before .loop .inv .records) (c .before .before .before .before .loop-test .taken)
     (ended-refused _ _ _ (c .before .before .before .check-record .result .checked) (c .before .before .before .check-record .ensures .answer) _ _ (c .before .enum-told .given .1))
 
-octets-of : (c : tie.After-map) → Octets (c .before .before .before .before .before .before .before .before .before .args .part .now)
-octets-of c = octets-each (c .before .before .before .before .before .before .before .before .before .args .part .now) (c .before .before .before .before .before .before .before .before .shared-slice-known .given)
+sub-used : tie.Need-sub-used Inv-loop μ-loop
+sub-used c = omega (arith, accepted c .low)
 
-accepted : (c : tie.After-map) → Accepted (categoryAt (c .before .before .before .before .before .before .before .before .before .args .profile)) (c .before .before .before .before .before .before .before .skip-records .result) (take (length (c .before .before .before .before .before .before .before .before .before .args .part .now) - (c .before .before .before .before .before .before .before .skip-records .result - c .before .before .before .before .before .before .before .before .before .args .from)) (drop (c .before .before .before .before .before .before .before .skip-records .result - c .before .before .before .before .before .before .before .before .before .args .from) (c .before .before .before .before .before .before .before .before .before .args .part .now))) (c .before .before .checked .given .0 .0)
-accepted c = ended-accepted _ _ _ (c .before .before .before .before .check-record .result .checked) (c .before .before .before .before .check-record .ensures .answer) _ (left-octets _ _ _ _ _ _ (c .before .before .before .before .before .before .before .skip-records .ensures) (to-end (c .before .before .before .before .before .before .before .before .before .args .part .now) _) (octets-of c)) (c .before .before .checked .given .1)
+returns-2 : tie.Need-returns-2 Inv-loop μ-loop
+returns-2 c =
+    located-at (accepted (c .before .before)) (c .before .before .before .before .before .check-record .result .map) (walked-map _ _ _ (c .before .before .before .before .before .check-record .result) (c .before .before .before .before .before .check-record .ensures) _ (accepted (c .before .before)))
+    ∙ ap recordLocated (sym (seek-here _ _ (c .before .before .before .before .before .before .before .loop .rest .now) _ _ (c .before .before .before .before .before .before .before .loop .inv .octets) (c .before .before .before .before .before .before .before .loop .inv .records) (accepted (c .before .before)) (c .before .if1 .taken)) ∙ c .before .before .before .before .before .before .before .loop .inv .same)
 
-sub-t13 : tie.Need-sub-t13
-sub-t13 c = omega (arith, accepted c .low)
+sub-rest : tie.Need-sub-rest Inv-loop μ-loop
+sub-rest c = omega (arith, accepted (c .before) .low, accepted (c .before) .high)
 
-returns-3 : tie.Need-returns-3
-returns-3 c = first-left _ _ _ _ _ _ (c .before .before .before .before .before .before .before .skip-records .ensures) (to-end (c .before .before .before .before .before .before .before .before .before .args .part .now) _) (octets-of c) (c .before .before .before .before .check-record .result) (c .before .before .before .before .check-record .ensures) _ (accepted c)
+part-rest-start : tie.Need-part-rest-start Inv-loop μ-loop
+part-rest-start c = omega (arith, accepted (c .before) .low, accepted (c .before) .high)
+
+part-rest-end : tie.Need-part-rest-end Inv-loop μ-loop
+part-rest-end c = omega (arith, accepted (c .before) .low, accepted (c .before) .high)
+
+sub-left : tie.Need-sub-left Inv-loop μ-loop
+sub-left c = omega arith
+
+loop-less : tie.Need-loop-less Inv-loop μ-loop
+loop-less c = omega (arith, accepted (c .before .before) .low, accepted (c .before .before) .high, c .rest .given .2)
+
+loop-again : tie.Need-loop-again Inv-loop μ-loop
+loop-again c =
+    seek-again _ _ _ _ (c .before .before .before .before .before .before .before .loop .rest .now) _ _ _ _ (c .before .before .before .before .before .before .before .loop .inv) (accepted (c .before .before)) (to-end (c .before .before .before .before .before .before .before .loop .rest .now) (c .before .before .before .checked .given .0 .0 - c .before .before .before .before .before .before .before .loop .at)) (c .before .if1 .left)
+
+record-lost-requires-2 : tie.Need-record-lost-requires-2 Inv-loop μ-loop
+record-lost-requires-2 c κs = search needs
+
+returns-3 : tie.Need-returns-3 Inv-loop μ-loop
+returns-3 c = c .record-lost2 .ensures ∙ ap recordLocated (sym (seek-end _ _ _ _ (omega arith)) ∙ c .before .before .loop .inv .same)
 
 pub seek-record-spec : {M : Type 1} → statement M
 seek-record-spec =
     tie.close
     (tie.spec
-    skip-records-requires
-    sub-rest
-    sub-rest-2
-    part-rest-start
-    part-rest-end
-    record-lost-requires
-    returns
+    Inv-loop
+    μ-loop
+    loop-holds
     check-record-requires
     enum-known-checked
     enum-told
-    record-lost-requires-2
+    record-lost-requires
+    returns
+    sub-used
     returns-2
-    sub-t13
+    sub-rest
+    part-rest-start
+    part-rest-end
+    sub-left
+    loop-less
+    loop-again
+    record-lost-requires-2
     returns-3)
