@@ -15,9 +15,8 @@ ghost use Rattle.records.specs.Answers.{endOf};
 ghost use Rattle.plain.specs.Record.{soundTypes, endAt};
 ghost use Rattle.plain.specs.Shape.{soundSets};
 
-// The library has one caller of it, so that it is compiled into that loop (docs/PERFORMANCE.md).
-//
-// Where the record ends that starts a part, which stands at a place, or its refusal.
+// Where the record ends that starts a part, which stands at a place, or its refusal. The library has one caller of this, so that it is compiled into that
+// loop (docs/PERFORMANCE.md).
 pub fn record_end(
     steps: &Steps,
     types: &Types,
