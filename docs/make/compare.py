@@ -3,8 +3,8 @@
     python3 docs/make/compare.py [QUESTIONS ANSWERS]..
 
 From Category017.antt and Category018.antt it takes every layout, every row of the profile, every
-message type, and the section, title and FRN in the comment beside each; from Entry.antt the list of
-categories. Then reading.py answers every question of tests/vectors, and of the pairs of files named,
+message type, and the section, title, FRN and name of a field in the comment beside each (so that two
+fields of one width, exchanged, show); from Entry.antt the list of categories. Then reading.py answers every question of tests/vectors, and of the pairs of files named,
 and its answers are held to those written there. Each difference is a line; with one or more the
 exit status is 1.
 """
@@ -116,6 +116,14 @@ def ours(item):
     return item.form, item.octets, item.least, item.greatest, parts
 
 
+def named(item):
+    """What stands beside each field of an item that has more than one: its name, of spare bits which they are."""
+    fields = [f for part in item.parts for f in part if f.kind != FX]
+    if len(fields) == 1:
+        return []
+    return [("bit %s" if f.width == 1 else "bits %s") % f.bits if f.kind == SPARE else f.name for f in fields]
+
+
 # ---- one category
 
 def compare(category):
@@ -131,7 +139,11 @@ def compare(category):
     for reference in sorted(set(layouts) & set(known)):
         same(prefix + reference, layouts[reference], ours(known[reference]))
 
-    comments = re.findall(r"^-- (5\.2\.\d+) +I(\d{3})/(\d{3}), (.*)\nabbrev pub i(\d{3}) : Layout$", text, re.M)
+    for reference, term in re.findall(r"^i(\d{3}) =(.*?)(?=^\S|\Z)", re.sub(r"(?m)^--.*", "", text), re.M | re.S):
+        if reference in known:
+            same("%s%s, the names of its fields" % (prefix, reference), re.findall(r"(?:any|within|twos|spare)[ 0-9_]+?  -- (.*)", term), named(known[reference]))
+
+    comments = re.findall(r"^-- (5\.2\.\d+) +I(\d{3})/(\d{3}), (.*)\n(?:--.*\n)*abbrev pub i(\d{3}) : Layout$", text, re.M)
     same("%s, the comments on items" % name, len(comments), len(known))
     for section, number, reference, title, defined in comments:
         item = known.get(reference)

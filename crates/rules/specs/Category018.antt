@@ -1,6 +1,10 @@
 -- Category 018, Mode S Datalink Function Messages, edition 1.6: the layout of each item (section 5.2), the User Application Profile (5.3.1,
 -- Table 9) and the items of each message type (5.3.2). An item is named by the number after the slash of its reference.
 -- Where the document contradicts itself, docs/DECISIONS.md has the reading. Assumes nothing.
+--
+-- References are decimal, with leading zeros: `010` is ten, I018/010. Message types are hexadecimal, as the document prints them: `0x10` is 10h, sixteen.
+-- `twos 16 32_768 32_767` is from minus the first number to the second. Fields run from the item's highest bit down, each with its name where there
+-- are several.
 use mathlib.Core.List.{[], _∷_}
 use Rattle.rules.specs.Field.{spare, any, within, twos}
 use Rattle.rules.specs.Layout.{Layout, led, extended, group, item, list}
@@ -12,17 +16,25 @@ use Rattle.rules.specs.Record.{Category, at, message}
 abbrev pub i000 : Layout
 i000 = item 1 (any 8 ∷ [])
 
--- 5.2.2   I018/001, Result (D_Result): CAUSE, DIAG
+-- 5.2.2   I018/001, Result (D_Result)
 abbrev pub i001 : Layout
-i001 = item 1 (any 4 ∷ any 4 ∷ [])
+i001 =
+    item 1
+    (any 4  -- CAUSE
+    ∷ any 4  -- DIAG
+    ∷ [])
 
 -- 5.2.3   I018/002, Time of Day (D_Time): under 24 hours, in 1/128 s
 abbrev pub i002 : Layout
 i002 = item 3 (within 24 0 11_059_199 ∷ [])
 
--- 5.2.4   I018/004, II Code (D_II_Code): former, current
+-- 5.2.4   I018/004, II Code (D_II_Code)
 abbrev pub i004 : Layout
-i004 = item 1 (any 4 ∷ any 4 ∷ [])
+i004 =
+    item 1
+    (any 4  -- former
+    ∷ any 4  -- current
+    ∷ [])
 
 -- 5.2.5   I018/005, Mode S Address (D_Mode_S_address)
 abbrev pub i005 : Layout
@@ -32,45 +44,97 @@ i005 = item 3 (any 24 ∷ [])
 abbrev pub i006 : Layout
 i006 = list 1 255 3 (any 24 ∷ [])
 
--- 5.2.7   I018/007, Aircraft Data Link Command (D_Data_link_command): UM, DM, UC, DC, and bits 4/1 spare
+-- 5.2.7   I018/007, Aircraft Data Link Command (D_Data_link_command)
 abbrev pub i007 : Layout
-i007 = item 1 (any 1 ∷ any 1 ∷ any 1 ∷ any 1 ∷ spare 4 ∷ [])
+i007 =
+    item 1
+    (any 1  -- UM
+    ∷ any 1  -- DM
+    ∷ any 1  -- UC
+    ∷ any 1  -- DC
+    ∷ spare 4  -- bits 4/1
+    ∷ [])
 
--- 5.2.8   I018/008, Aircraft Data Link Status (D_Data_link_status): UDS, DDS, UCS, DCS, two spare bits, EI, FX; one extent: IC, six spare bits, FX
+-- 5.2.8   I018/008, Aircraft Data Link Status (D_Data_link_status): a first octet and one extent, bit 1 of each FX
 abbrev pub i008 : Layout
-i008 = extended (group 1 (any 1 ∷ any 1 ∷ any 1 ∷ any 1 ∷ spare 2 ∷ any 1 ∷ []) ∷ group 1 (any 1 ∷ spare 6 ∷ []) ∷ [])
+i008 =
+    extended
+    (group 1
+    (any 1  -- UDS
+    ∷ any 1  -- DDS
+    ∷ any 1  -- UCS
+    ∷ any 1  -- DCS
+    ∷ spare 2  -- bits 4/3
+    ∷ any 1  -- EI
+    ∷ [])
+    ∷ group 1
+    (any 1  -- IC
+    ∷ spare 6  -- bits 7/2
+    ∷ [])
+    ∷ [])
 
--- 5.2.9   I018/009, Aircraft Data Link Report Request (D_Report_request): SR, AR, ER, FR, MR, PR, CR, FX; one extent: ID, MA, SP, HG, HD, two spare bits, FX
+-- 5.2.9   I018/009, Aircraft Data Link Report Request (D_Report_request): a first octet and one extent, bit 1 of each FX
 abbrev pub i009 : Layout
 i009 =
     extended
-    (group 1 (any 1 ∷ any 1 ∷ any 1 ∷ any 1 ∷ any 1 ∷ any 1 ∷ any 1 ∷ [])
-    ∷ group 1 (any 1 ∷ any 1 ∷ any 1 ∷ any 1 ∷ any 1 ∷ spare 2 ∷ [])
+    (group 1
+    (any 1  -- SR
+    ∷ any 1  -- AR
+    ∷ any 1  -- ER
+    ∷ any 1  -- FR
+    ∷ any 1  -- MR
+    ∷ any 1  -- PR
+    ∷ any 1  -- CR
+    ∷ [])
+    ∷ group 1
+    (any 1  -- ID
+    ∷ any 1  -- MA
+    ∷ any 1  -- SP
+    ∷ any 1  -- HG
+    ∷ any 1  -- HD
+    ∷ spare 2  -- bits 3/2
+    ∷ [])
     ∷ [])
 
--- 5.2.10  I018/010, Transponder Communications Capability (D_COM): bits 8/4 spare, COM
+-- 5.2.10  I018/010, Transponder Communications Capability (D_COM)
 abbrev pub i010 : Layout
-i010 = item 1 (spare 5 ∷ any 3 ∷ [])
+i010 =
+    item 1
+    (spare 5  -- bits 8/4
+    ∷ any 3  -- COM
+    ∷ [])
 
 -- 5.2.11  I018/011, Capability Report (D_ECA)
 abbrev pub i011 : Layout
 i011 = item 7 (any 56 ∷ [])
 
--- 5.2.12  I018/012, Aircraft Coverage Quality Factor (D_CQF): FS, CQF
+-- 5.2.12  I018/012, Aircraft Coverage Quality Factor (D_CQF)
 abbrev pub i012 : Layout
-i012 = item 1 (any 1 ∷ any 7 ∷ [])
+i012 =
+    item 1
+    (any 1  -- FS
+    ∷ any 7  -- CQF
+    ∷ [])
 
 -- 5.2.13  I018/013, Aircraft CQF Calculation Method (D_CQF_method)
 abbrev pub i013 : Layout
 i013 = item 1 (any 8 ∷ [])
 
--- 5.2.14  I018/014, Aircraft Position in Polar Co-ordinates (D_Polar_position): RHO in 1/256 NM, THETA in 360/2^16 degree
+-- 5.2.14  I018/014, Aircraft Position in Polar Co-ordinates (D_Polar_position): in 1/256 NM and 360/2^16 degree
 abbrev pub i014 : Layout
-i014 = item 4 (any 16 ∷ any 16 ∷ [])
+i014 =
+    item 4
+    (any 16  -- RHO
+    ∷ any 16  -- THETA
+    ∷ [])
 
--- 5.2.15  I018/015, Aircraft Position in Cartesian Co-ordinates (D_Cartesian_position): X, Y in 1/128 NM, two's complement
+-- 5.2.15  I018/015, Aircraft Position in Cartesian Co-ordinates (D_Cartesian_position): in 1/128 NM
 abbrev pub i015 : Layout
-i015 = item 4 (twos 16 32_768 32_767 ∷ twos 16 32_768 32_767 ∷ [])
+i015 =
+    item 4
+    (twos 16 32_768 32_767  -- X
+    ∷ twos 16 32_768 32_767  -- Y
+    ∷ [])
 
 -- 5.2.16  I018/016, Packet Number (D_Packet_number)
 abbrev pub i016 : Layout
@@ -80,11 +144,17 @@ i016 = item 4 (any 32 ∷ [])
 abbrev pub i017 : Layout
 i017 = list 1 255 4 (any 32 ∷ [])
 
--- 5.2.18  I018/018, Mode S Packet Properties (D_Packet_properties): a spare bit, PR, PT
+-- 5.2.18  I018/018, Mode S Packet Properties (D_Packet_properties)
 abbrev pub i018 : Layout
-i018 = item 1 (spare 1 ∷ any 5 ∷ any 2 ∷ [])
+i018 =
+    item 1
+    (spare 1  -- bit 8
+    ∷ any 5  -- PR
+    ∷ any 2  -- PT
+    ∷ [])
 
--- 5.2.19  I018/019, Mode S Packet (D_Mode_S_packet): the section is missing; Table 9 has "3+". A length octet that counts itself, and two octets of contents or more
+-- 5.2.19  I018/019, Mode S Packet (D_Mode_S_packet): the section is missing; Table 9 has "3+", three octets or more with the length octet, which counts
+-- itself: `led 2`, two octets of contents or more
 abbrev pub i019 : Layout
 i019 = led 2
 
@@ -92,13 +162,23 @@ i019 = led 2
 abbrev pub i020 : Layout
 i020 = item 4 (any 32 ∷ [])
 
--- 5.2.21  I018/021, Broadcast Properties (D_Broadcast_properties): priority, power, duration in seconds, coverage
+-- 5.2.21  I018/021, Broadcast Properties (D_Broadcast_properties): the duration in seconds
 abbrev pub i021 : Layout
-i021 = item 6 (any 4 ∷ any 4 ∷ any 8 ∷ any 32 ∷ [])
+i021 =
+    item 6
+    (any 4  -- priority
+    ∷ any 4  -- power
+    ∷ any 8  -- duration
+    ∷ any 32  -- coverage
+    ∷ [])
 
--- 5.2.22  I018/022, Broadcast Prefix (D_Broadcast_prefix): bits 32/28 spare, the prefix
+-- 5.2.22  I018/022, Broadcast Prefix (D_Broadcast_prefix)
 abbrev pub i022 : Layout
-i022 = item 4 (spare 5 ∷ any 27 ∷ [])
+i022 =
+    item 4
+    (spare 5  -- bits 32/28
+    ∷ any 27  -- prefix
+    ∷ [])
 
 -- 5.2.23  I018/023, Uplink or Downlink Broadcast (D_Broadcast)
 abbrev pub i023 : Layout
@@ -120,21 +200,42 @@ i028 = item 2 (any 16 ∷ [])
 abbrev pub i029 : Layout
 i029 = item 7 (any 56 ∷ [])
 
--- 5.2.28  I018/030, GICB Properties (D_GICB_properties): priority, bits 11/9 spare, PC, AU, NE, RD, bits 3/1 spare
+-- 5.2.28  I018/030, GICB Properties (D_GICB_properties)
 abbrev pub i030 : Layout
-i030 = item 2 (any 5 ∷ spare 3 ∷ any 1 ∷ any 1 ∷ any 1 ∷ any 2 ∷ spare 3 ∷ [])
+i030 =
+    item 2
+    (any 5  -- priority
+    ∷ spare 3  -- bits 11/9
+    ∷ any 1  -- PC
+    ∷ any 1  -- AU
+    ∷ any 1  -- NE
+    ∷ any 2  -- RD
+    ∷ spare 3  -- bits 3/1
+    ∷ [])
 
 -- 5.2.29  I018/031, Aircraft Identity (D_Identity)
 abbrev pub i031 : Layout
 i031 = item 6 (any 48 ∷ [])
 
--- 5.2.30  I018/032, Aircraft Mode A (D_Mode_A): V, G, L, a spare bit, the code
+-- 5.2.30  I018/032, Aircraft Mode A (D_Mode_A)
 abbrev pub i032 : Layout
-i032 = item 2 (any 1 ∷ any 1 ∷ any 1 ∷ spare 1 ∷ any 12 ∷ [])
+i032 =
+    item 2
+    (any 1  -- V
+    ∷ any 1  -- G
+    ∷ any 1  -- L
+    ∷ spare 1  -- bit 13
+    ∷ any 12  -- code
+    ∷ [])
 
--- 5.2.31  I018/033, Aircraft Height (D_Height): V, G, flight level in 25 ft
+-- 5.2.31  I018/033, Aircraft Height (D_Height): the flight level in 25 ft
 abbrev pub i033 : Layout
-i033 = item 2 (any 1 ∷ any 1 ∷ twos 14 8_192 8_191 ∷ [])
+i033 =
+    item 2
+    (any 1  -- V
+    ∷ any 1  -- G
+    ∷ twos 14 8_192 8_191  -- level
+    ∷ [])
 
 -- 5.2.32  I018/034, Aircraft Speed (D_Speed): in 2^-14 NM/s, at most 2 NM/s
 abbrev pub i034 : Layout
@@ -144,13 +245,21 @@ i034 = item 2 (within 16 0 32_768 ∷ [])
 abbrev pub i035 : Layout
 i035 = item 2 (any 16 ∷ [])
 
--- 5.2.34  I018/036, Data Source Identifier (D_Source): SAC, SIC
+-- 5.2.34  I018/036, Data Source Identifier (D_Source)
 abbrev pub i036 : Layout
-i036 = item 2 (any 8 ∷ any 8 ∷ [])
+i036 =
+    item 2
+    (any 8  -- SAC
+    ∷ any 8  -- SIC
+    ∷ [])
 
--- 5.2.35  I018/037, Data Destination Identifier (D_Destination): SAC, SIC
+-- 5.2.35  I018/037, Data Destination Identifier (D_Destination)
 abbrev pub i037 : Layout
-i037 = item 2 (any 8 ∷ any 8 ∷ [])
+i037 =
+    item 2
+    (any 8  -- SAC
+    ∷ any 8  -- SIC
+    ∷ [])
 
 -- ---- 5.3, Transmission of Data Link Function Messages
 
