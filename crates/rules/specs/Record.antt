@@ -83,7 +83,8 @@ unfoldable pub messageOf : ℕ → List Message → Answer Message
 messageOf t [] = refused 13 0
 messageOf t (m ∷ ms) = if eqb t (m .type) then ok m else messageOf t ms
 
--- the record itself where its items are those that its message type asks for: 12, 13, 14, 15, at the record's start
+-- the record itself where its items are those that its message type asks for: 12, 13, 14, 15, at the record's start. It answers its argument so
+-- that it can stand as a line of a rule: writing goes on with what was judged, and reading answers it. What it lets through is `Legal.LegalRecord`
 unfoldable pub judge : Category → Record → Answer Record
 judge c r = do
   t ← typeOf (valueOf 0 (items c r))
