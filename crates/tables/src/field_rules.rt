@@ -352,12 +352,12 @@ fn is_obeyed(rule: usize, n: u64) -> bool
 }
 
 // Whether a number obeys each rule from a place to before a place.
-pub fn are_obeyed(n: u64, a: usize, e: usize) -> bool
-    requires { ⌜ (e ≤ 17) × (n < 2 ^ 56) ⌝ }
-    ensures { λ r. ⌜ r ≡ allObeyed (slice a e rules) n ⌝ }
+pub fn are_obeyed(n: u64, first: usize, end: usize) -> bool
+    requires { ⌜ (end ≤ 17) × (n < 2 ^ 56) ⌝ }
+    ensures { λ r. ⌜ r ≡ allObeyed (slice first end rules) n ⌝ }
 {
-    let mut i = a;
-    while i < e {
+    let mut i = first;
+    while i < end {
         if !is_obeyed(i, n) {
             return false;
         }

@@ -8,10 +8,10 @@ use Rattle.tables.proofs.field_rules.are_obeyed.Statement.{statement}
 use Rattle.tables.proofs.field_rules.are_obeyed.Tie as tie
 
 abbrev Inv-loop : tie.InvT-loop
-Inv-loop n a e i₀ i = Asking a e n i
+Inv-loop n first end i₀ i = Asking first end n i
 
 abbrev μ-loop : tie.MeasureT-loop
-μ-loop n a e i₀ i = e - i
+μ-loop n first end i₀ i = end - i
 
 loop-holds : tie.Need-loop-holds Inv-loop μ-loop
 loop-holds c = record { same = refl }
