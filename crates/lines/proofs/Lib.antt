@@ -5,3 +5,4 @@ pub mod SignLaws
 pub mod NumberLaws
 pub mod OctetLaws
 pub mod WordLaws
+pub mod Unique

@@ -20,15 +20,15 @@ pub fn end_of(line: &[u8], separator: u8) -> usize
 }
 
 // Whether two words have the same characters.
-pub fn is_same(a: &[u8], b: &[u8]) -> bool
-    ensures { λ r. ⌜ r ≡ same (now (a .entry)) (now (b .entry)) ⌝ }
+pub fn is_same(word: &[u8], other: &[u8]) -> bool
+    ensures { λ r. ⌜ r ≡ same (now (word .entry)) (now (other .entry)) ⌝ }
 {
-    if a.len() != b.len() {
+    if word.len() != other.len() {
         return false;
     }
     let mut i = 0;
-    while i < a.len() {
-        if a[i] != b[i] {
+    while i < word.len() {
+        if word[i] != other[i] {
             return false;
         }
         i += 1;

@@ -9,10 +9,10 @@ use Rattle.lines.proofs.word.is_same.Reads as reads
 use Rattle.lines.proofs.word.is_same.Lts as lts
 
 abbrev Inv-loop : tie.InvT-loop
-Inv-loop a b i₀ i = Comparing a b i
+Inv-loop word other i₀ i = Comparing word other i
 
 abbrev μ-loop : tie.MeasureT-loop
-μ-loop a b i₀ i = length a - i
+μ-loop word other i₀ i = length word - i
 
 -- src/word.rt:28:9
 returns : tie.Need-returns Inv-loop μ-loop
