@@ -9,3 +9,4 @@ pub mod ReadLaws
 pub mod WholeLaws
 pub mod StoreLaws
 pub mod LegalLaws
+pub mod Unique
