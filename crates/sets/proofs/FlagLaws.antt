@@ -224,6 +224,14 @@ flag-same k n f e = sym (ap (set (flags k n) f) (sym e) ∙ set-getD (flags k n)
 pub flags-same : (k a b : ℕ) → a < 2 ^ k → b < 2 ^ k → flags k a ≡ flags k b → a ≡ b
 flags-same k a b h j e = sym (number-flags k a h) ∙ ap number e ∙ number-flags k b j
 
+-- the set that no FRN is in
+pub flags-none : flags 64 0 ≡ replicate 64 false
+unfolding flags
+flags-none = refl
+
+pub none-set : (bits : ℕ) → bits < 2 ^ 64 → flags 64 bits ≡ replicate 64 false → bits ≡ 0
+none-set bits h e = flags-same 64 bits 0 h (omega arith) (e ∙ sym flags-none)
+
 -- ---- a set with one FRN more: f is the FRN as it is held, t whether it is there already, w its bit
 
 pub with-same : (bits frn f : ℕ) {t : Bool} → f ≡ min frn 63 → t ≡ getD (flags 64 bits) f false → t ≡ true → flags 64 bits ≡ set (flags 64 bits) (min frn 63) true

@@ -7,7 +7,7 @@ use messages::row_of;
 ghost use mathlib.Core.Path.{_≡_};
 ghost use mathlib.Core.Bool.{true, false};
 ghost use Prim.Native.Nat.{_+_, _-_, _*_, _/_, _^_, _<_, _≤_, min};
-ghost use lib.ListN.{length, getD, set};
+ghost use lib.ListN.{length, getD, set, replicate};
 ghost use Rattle.rules.specs.Presence.{flags};
 ghost use Rattle.sets.specs.Sets.{categoryAt, within, setAt, fspecAt};
 ghost use Rattle.sets.specs.Steps.{usableBits, ended, typeFrn, judgeSet, rowsLeft};
@@ -48,7 +48,7 @@ pub fn usable(profile: usize) -> ItemSet
         1 => ItemSet {
             bits: 0x7FFF_FFFF_F000_0000,
         },
-        _ => ItemSet::EMPTY,
+        _ => ItemSet::empty(),
     }
 }
 
@@ -85,6 +85,13 @@ fn weight(frn: usize) -> u64
 impl ItemSet {
     // The set of no item.
     pub const EMPTY: ItemSet = ItemSet { bits: 0 };
+
+    // The same by a contract: no FRN is in it.
+    pub fn empty() -> ItemSet
+        ensures { λ r. ⌜ flags 64 (r .bits) ≡ replicate 64 false ⌝ }
+    {
+        ItemSet::EMPTY
+    }
 
     pub fn has(self, frn: usize) -> bool
         ensures { λ r. ⌜ r ≡ getD (flags 64 (self .bits)) frn false ⌝ }
