@@ -1,13 +1,15 @@
--- For each public function, no two distinct results meet its statement: what an answer means says which answer it is. Assumes nothing.
+-- For each function that another crate can call, no two distinct results meet its statement: what an answer means says which answer it is. Assumes
+-- nothing.
 use Prim.Native.Nat.{ℕ}
 use mathlib.Core.Path.{_≡_, sym, _∙_}
 use mathlib.Core.Bool.{Bool}
 use mathlib.Core.List.{List}
 use native.Mathlib.Omega.{arith}
 use lib.IntN.{ℤ}
+use lib.ListN.{length}
 use Rattle.rules.specs.Layout.{concat}
 use Rattle.rules.specs.Presence.{present, placeAt}
-use Rattle.rules.specs.Entry.{categories, profileAt, readOne, leaves}
+use Rattle.rules.specs.Entry.{categories, profileAt, readOne, writeOne, leaves}
 use Rattle.tables.specs.Places.{frnAs}
 use Rattle.items.specs.declared.FrnFound.{FrnFound}
 use Rattle.items.specs.declared.FrnFound.the-variants.{Frn, NoItem}
@@ -15,7 +17,10 @@ use Rattle.items.specs.declared.ItemCheck.{ItemCheck}
 use Rattle.items.specs.declared.ItemCheck.the-variants as check
 use Rattle.items.specs.declared.ItemRead.{ItemRead}
 use Rattle.items.specs.declared.ItemRead.the-variants as read
-use Rattle.items.specs.Answers.{frnOf, profileIn, checkedOf, checkAt, readOf, countOf}
+use Rattle.items.specs.declared.write.ItemWritten.{ItemWritten}
+use Rattle.items.specs.declared.write.ItemWritten.the-variants as written
+use Rattle.items.specs.Answers.{referenceIn, frnOf, profileIn, checkedOf, checkAt, readOf, countOf}
+use Rattle.items.specs.Write.{writtenAs}
 
 same-frn : (a b : FrnFound) → frnOf a ≡ frnOf b → a ≡ b
 same-frn (Frn m) (Frn n) e = cc
@@ -35,21 +40,40 @@ same-read (read.Fields m) (read.Refused n p) e = let z : _≡_ {A = ℕ} 0 1 = c
 same-read (read.Refused m p) (read.Fields n) e = let z : _≡_ {A = ℕ} 0 1 = cc in absurd (omega arith)
 same-read (read.Refused m p) (read.Refused n q) e = cc
 
-pub one-is-usable : (profile frn : ℕ) (a b : Bool) → a ≡ present (placeAt (profileAt categories profile) frn) → b ≡ present (placeAt (profileAt categories profile) frn) → a ≡ b
+same-written : (a b : ItemWritten) → writtenAs a ≡ writtenAs b → a ≡ b
+same-written (written.Length m) (written.Length n) e = cc
+same-written (written.Length m) (written.Refused n p) e = let z : _≡_ {A = ℕ} 0 1 = cc in absurd (omega arith)
+same-written (written.Refused m p) (written.Length n) e = let z : _≡_ {A = ℕ} 0 1 = cc in absurd (omega arith)
+same-written (written.Refused m p) (written.Refused n q) e = cc
+
+pub one-is-usable : (profile frn : ℕ) (a b : Bool)
+    → a ≡ present (placeAt (profileAt categories profile) frn) → b ≡ present (placeAt (profileAt categories profile) frn) → a ≡ b
 one-is-usable profile frn a b p q = p ∙ sym q
+
+pub one-reference-of : (profile frn a b : ℕ)
+    → a ≡ referenceIn (placeAt (profileAt categories profile) frn) → b ≡ referenceIn (placeAt (profileAt categories profile) frn) → a ≡ b
+one-reference-of profile frn a b p q = p ∙ sym q
 
 pub one-profile-of : (category a b : ℕ) → a ≡ profileIn category categories → b ≡ profileIn category categories → a ≡ b
 one-profile-of category a b p q = p ∙ sym q
 
 pub one-frn-of : (profile reference : ℕ) (a b : FrnFound)
-    → frnOf a ≡ frnAs reference 1 (concat (profileAt categories profile)) → frnOf b ≡ frnAs reference 1 (concat (profileAt categories profile)) → a ≡ b
+    → frnOf a ≡ frnAs reference 1 (concat (profileAt categories profile)) → frnOf b ≡ frnAs reference 1 (concat (profileAt categories profile))
+    → a ≡ b
 one-frn-of profile reference a b p q = same-frn a b (p ∙ sym q)
 
-pub one-check-item : (profile frn : ℕ) (part : List ℕ) (a b : ItemCheck) → checkedOf a ≡ checkAt profile frn part → checkedOf b ≡ checkAt profile frn part → a ≡ b
+pub one-check-item : (profile frn : ℕ) (part : List ℕ) (a b : ItemCheck)
+    → checkedOf a ≡ checkAt profile frn part → checkedOf b ≡ checkAt profile frn part → a ≡ b
 one-check-item profile frn part a b p q = same-check a b (p ∙ sym q)
 
 -- the answer, and what the output then holds
-pub one-read-item : (category reference : ℕ) (item : List ℕ) (old : List ℤ) (a b : ItemRead) (left right : List ℤ)
-    → readOf a ≡ countOf (readOne category reference item) → left ≡ leaves (readOne category reference item) old
-    → readOf b ≡ countOf (readOne category reference item) → right ≡ leaves (readOne category reference item) old → (a ≡ b) × (left ≡ right)
-one-read-item category reference item old a b left right p l q r = (same-read a b (p ∙ sym q), l ∙ sym r)
+pub one-read-item : (category reference : ℕ) (item : List ℕ) (fields : List ℤ) (a b : ItemRead) (left right : List ℤ)
+    → readOf a ≡ countOf (readOne category reference item) → left ≡ leaves (readOne category reference item) fields
+    → readOf b ≡ countOf (readOne category reference item) → right ≡ leaves (readOne category reference item) fields → (a ≡ b) × (left ≡ right)
+one-read-item category reference item fields a b left right p l q r = (same-read a b (p ∙ sym q), l ∙ sym r)
+
+pub one-write-item : (category reference : ℕ) (fields : List ℤ) (out : List ℕ) (a b : ItemWritten) (left right : List ℕ)
+    → writtenAs a ≡ countOf (writeOne category reference fields (length out)) → left ≡ leaves (writeOne category reference fields (length out)) out
+    → writtenAs b ≡ countOf (writeOne category reference fields (length out)) → right ≡ leaves (writeOne category reference fields (length out)) out
+    → (a ≡ b) × (left ≡ right)
+one-write-item category reference fields out a b left right p l q r = (same-written a b (p ∙ sym q), l ∙ sym r)
