@@ -55,6 +55,13 @@ impl RecordMap {
         end: 0,
         count: 0,
     };
+
+    // The same by a contract.
+    pub fn absent() -> RecordMap
+        ensures { λ r. ⌜ r ≡ absent ⌝ }
+    {
+        RecordMap::ABSENT
+    }
 }
 
 // What checking a record answers.
@@ -65,7 +72,7 @@ pub enum RecordChecked {
     Refused { number: u8, place: usize },
 }
 
-// The answer, and the map beside it: ABSENT on refusal.
+// The answer, and the map beside it: every place absent on refusal.
 pub struct RecordWalked {
     pub checked: RecordChecked,
     pub map: RecordMap,
@@ -154,7 +161,7 @@ fn refused(number: u8, place: usize) -> RecordWalked
 {
     RecordWalked {
         checked: RecordChecked::Refused { number, place },
-        map: RecordMap::ABSENT,
+        map: RecordMap::absent(),
     }
 }
 
