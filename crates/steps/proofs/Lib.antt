@@ -1,1 +1,2 @@
 pub mod ItemLaws
+pub mod Unique
