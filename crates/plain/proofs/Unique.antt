@@ -1,5 +1,7 @@
--- No two distinct results satisfy the statement of `record_end`. Those of the other functions tell less, so that more than one result satisfies each; what
--- they tell is true (`Plainly`, `Content`, `Later`, `Passed`, `Fronts`, `OfType`). Assumes nothing.
+-- No two distinct results meet the statement of `record_end`, whichever sound tables it goes by.
+--
+-- Not `type_table` and `set_table`, which state less by design: a table may say less than the rules do, which is only slow, and none may say more
+-- (`soundTypes`, `soundSets`). No other crate can call what else is here. Assumes nothing.
 use Prim.Native.Nat.{ℕ}
 use mathlib.Core.Path.{_≡_, sym, _∙_}
 use mathlib.Core.List.{List}
@@ -8,5 +10,6 @@ use Rattle.records.specs.Answers.{endOf}
 use Rattle.records.proofs.Unique.{end-told}
 use Rattle.plain.specs.Record.{endAt}
 
-pub one-end : (profile at : ℕ) (part : List ℕ) (a b : RecordChecked) → endOf a ≡ endAt profile at part → endOf b ≡ endAt profile at part → a ≡ b
-one-end profile at part a b p q = end-told a b (p ∙ sym q)
+pub one-record-end : (profile : ℕ) (part : List ℕ) (at : ℕ) (a b : RecordChecked)
+    → endOf a ≡ endAt profile at part → endOf b ≡ endAt profile at part → a ≡ b
+one-record-end profile part at a b p q = end-told a b (p ∙ sym q)
