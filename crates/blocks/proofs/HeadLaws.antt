@@ -1,7 +1,7 @@
 -- A block by octets: its head, then the records in the octets that LEN leaves.
 --
 -- In order: the head; a block; a single block and the front of a recording, answer by answer. Assumes nothing.
-use Prim.Native.Nat.{ℕ, suc, _+_, _-_, _*_, _≤_, _<_}
+use Prim.Native.Nat.{ℕ, zero, suc, _+_, _-_, _*_, _≤_, _<_}
 use mathlib.Core.Path.{_≡_, refl, sym, ap, ap₂, _∙_, subst}
 use mathlib.Core.Bool.{Bool, true, false}
 use mathlib.Core.Option.{Option, none, some}
@@ -21,10 +21,11 @@ use Rattle.rules.specs.Category017.{category017}
 use Rattle.rules.specs.Category018.{category018}
 use Rattle.rules.proofs.BlockLaws.{category-cat}
 use Rattle.rules.proofs.AnswerLaws.{refused-ok, ok-inj, later-inv, bind-elim, need-elim, expect-elim, expect-in, expect-out, if-false, bind-in, bind-out, bind-assoc, bind-cong, need-bind, need-in, need-out, T-true, Octets}
+use Rattle.items.specs.Answers.{profileIn}
 use Rattle.sets.specs.Sets.{categoryAt}
 use Rattle.blocks.specs.declared.check.BlockChecked.{BlockChecked}
 use Rattle.blocks.specs.declared.check.BlockChecked.the-variants as blockChecked
-use Rattle.blocks.specs.Answers.{checkedOf, openedBy}
+use Rattle.blocks.specs.Answers.{checkedOf, openedBy, openProfile}
 use Rattle.blocks.proofs.LoopLaws.{octets-at}
 use Rattle.blocks.specs.Read.{lenAt, headAt, headBy, countFrom, opening, openFrom, bodyAt, checkFront}
 
@@ -208,6 +209,17 @@ unfolding _>>=_
 opened-by i (blockChecked.Accepted n) = refl
 opened-by i (blockChecked.Refused n p) = refl
 
+-- a refusal says the same whatever the profile beside it
+pub opened-any : (i j n p : ℕ) (x : BlockChecked) → x ≡ blockChecked.Refused n p → openedBy i x ≡ openedBy j x
+opened-any i j n p x e = ap (openedBy i) e ∙ sym (ap (openedBy j) e)
+
+-- the index of a category that is found is the profile by which it was found
+pub index-is : (i : ℕ) → categoryOf (categoryAt i .cat) categories ≡ some (categoryAt i) → profileIn (categoryAt i .cat) categories ≡ i
+unfolding categoryAt categories category017 category018 categoryOf profileIn if_then_else_
+index-is zero e = refl
+index-is (suc zero) e = refl
+index-is (suc (suc i)) e = let z : _≡_ {A = ℕ} 0 1 = cc in absurd (omega arith)
+
 module _ (bs : List ℕ) where
   -- LEN leaves all that is after the head
   pub body-all : (h : Head) → headBy eqb bs ≡ ok h → bodyAt h bs ≡ drop 3 bs
@@ -269,6 +281,14 @@ module _ (bs : List ℕ) where
   unfolding openFrom
   opened-body least h part e l q =
       bind-in _ e (need-in _ 4 (le→leb least (h .len) l) (ap (λ z. countFrom (h .category) 0 3 z >>= λ n. ok (opening (h .category) n)) (sym q)))
+
+  -- the profile beside the answer
+  pub profile-refused : (least n p : ℕ) → openFrom least bs ≡ refused n p → 0 ≡ openProfile (openFrom least bs)
+  profile-refused least n p e = sym (ap openProfile e)
+
+  pub profile-opened : (least i n m : ℕ) → headBy eqb bs ≡ ok (record { category = categoryAt i; len = m }) → openFrom least bs ≡ ok (opening (categoryAt i) n)
+      → i ≡ openProfile (openFrom least bs)
+  profile-opened least i n m h e = sym (ap openProfile e ∙ index-is i (headed eqb bs _ h .named))
 
   -- a single block as the rules open it
   pub opened-is : openFrom 4 bs ≡ (openBlock bs >>= λ b. ok (opening (b .category) (length (b .records))))

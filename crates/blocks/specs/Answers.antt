@@ -5,6 +5,8 @@ use mathlib.Core.Option.{Option, none, some}
 use Rattle.rules.specs.Answer.{Answer, ok, refused}
 use Rattle.rules.specs.Record.{Category}
 use Rattle.rules.specs.Block as rules
+use Rattle.rules.specs.Entry.{categories}
+use Rattle.items.specs.Answers.{profileIn}
 use Rattle.sets.specs.Sets.{categoryAt}
 use Rattle.records.specs.declared.RecordChecked.{RecordChecked}
 use Rattle.records.specs.declared.RecordChecked.the-variants as recordChecked
@@ -58,6 +60,11 @@ openedBy i (blockChecked.Refused n p) = refused n p
 
 abbrev pub openedOf : BlockOpened → Answer Opening
 openedOf o = openedBy (o .profile) (o .checked)
+
+-- the profile beside it: the index of the category of a block that is opened, 0 where it is refused
+abbrev pub openProfile : Answer Opening → ℕ
+openProfile (ok o) = profileIn (o .category .cat) categories
+openProfile (refused n p) = 0
 
 abbrev pub frontOf : FrontChecked → Answer Front
 frontOf (frontChecked.Block l n) = ok (record { len = l; records = n })

@@ -18,7 +18,7 @@ ghost use Rattle.sets.specs.Sets.{categoryAt};
 ghost use Rattle.plain.specs.Record.{soundTypes};
 ghost use Rattle.plain.specs.Shape.{soundSets};
 ghost use Rattle.blocks.specs.Read.{countFrom, openFrom, checkFront};
-ghost use Rattle.blocks.specs.Answers.{checkedOf, checkedBy, checkedNumber, checkedPlace, openedOf, frontOf};
+ghost use Rattle.blocks.specs.Answers.{checkedOf, checkedBy, checkedNumber, checkedPlace, openedOf, openProfile, frontOf};
 
 // A block's count of records, or a refusal's number and place, counted from the block's start.
 pub enum BlockChecked {
@@ -105,7 +105,8 @@ pub struct BlockOpened {
 
 // LEN is least at least: 4 where a record is asked for, 3 where a record is to be added.
 pub fn open_block(block: &[u8], least: usize) -> BlockOpened
-    ensures { λ r. ⌜ openedOf r ≡ openFrom least (now (block .entry)) ⌝ }
+    ensures answer { λ r. ⌜ openedOf r ≡ openFrom least (now (block .entry)) ⌝ }
+    ensures profile { λ r. ⌜ r .profile ≡ openProfile (openFrom least (now (block .entry))) ⌝ }
 {
     let head = single_head(block);
     let HeadRead::Head { profile, len } = head else {
@@ -127,6 +128,12 @@ pub fn open_block(block: &[u8], least: usize) -> BlockOpened
         };
     }
     let checked = check_records(profile, &block[HEAD..], HEAD);
+    let BlockChecked::Accepted { records: _ } = checked else {
+        return BlockOpened {
+            profile: 0,
+            checked,
+        };
+    };
     BlockOpened { profile, checked }
 }
 

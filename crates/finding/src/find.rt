@@ -49,7 +49,7 @@ fn record_lost(number: u8, place: usize) -> RecordLocated
 {
     RecordLocated {
         answer: RecordPlace::Refused { number, place },
-        map: RecordMap::ABSENT,
+        map: RecordMap::absent(),
     }
 }
 

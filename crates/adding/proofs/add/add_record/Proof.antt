@@ -26,7 +26,7 @@ opening c = record { category = categoryAt (c .before .before .open-block .resul
 is-open : (c : tie.After-enum-told) → openFrom 3 (take (c .before .before .before .before .before .before .before .before .args .used) (c .before .before .before .before .before .before .before .before .args .out .now)) ≡ ok (opening c)
 is-open c =
     ap (λ k. openFrom 3 (take k (c .before .before .before .before .before .before .before .before .args .out .now))) (sym (sub-zero (c .before .before .before .before .before .before .before .before .args .used)))
-    ∙ sym (c .before .before .open-block .ensures)
+    ∙ sym (c .before .before .open-block .ensures .0)
     ∙ ap (openedBy (c .before .before .open-block .result .profile)) (c .enum-told .given .1)
 
 -- how much is in use
@@ -77,7 +77,7 @@ returns-2 c =
     old-both _
     (add-old _ _ _ _ (c .before .before .before .before .before .before .before .if1 .left) _ _
     (ap (λ k. openFrom 3 (take k (c .before .before .before .before .before .before .before .before .before .before .args .out .now))) (sym (sub-zero (c .before .before .before .before .before .before .before .before .before .before .args .used)))
-    ∙ sym (c .before .before .before .before .open-block .ensures)
+    ∙ sym (c .before .before .before .before .open-block .ensures .0)
     ∙ ap (openedBy (c .before .before .before .before .open-block .result .profile)) (c .before .before .enum-told2 .given .1)
     ∙ ap₂ refused (sym (c .before .number .ensures ∙ ap checkedNumber (c .before .before .enum-told2 .given .1))) (sym (c .place .ensures ∙ ap checkedPlace (c .before .before .enum-told2 .given .1)))))
 

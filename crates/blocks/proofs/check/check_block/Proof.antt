@@ -8,7 +8,7 @@ open-block-requires : tie.Need-open-block-requires
 open-block-requires c κs = search needs
 
 returns : tie.Need-returns
-returns c = check-is _ (c .open-block .result .profile) (c .open-block .result .checked) (c .open-block .ensures)
+returns c = check-is _ (c .open-block .result .profile) (c .open-block .result .checked) (c .open-block .ensures .0)
 
 pub check-block-spec : {M : Type 1} → statement M
 check-block-spec = tie.close (tie.spec open-block-requires returns)

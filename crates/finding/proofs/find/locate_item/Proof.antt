@@ -29,7 +29,7 @@ opening c = record { category = categoryAt (c .before .before .open-block .resul
 is-open : (c : tie.After-enum-told) → Opens (c .before .before .before .before .args .block .now) (opening c)
 is-open c =
     opens (c .before .before .before .before .args .block .now) (opening c) (octets-each (c .before .before .before .before .args .block .now) (c .before .before .before .shared-slice-known .given))
-    (sym (c .before .before .open-block .ensures) ∙ ap (openedBy (c .before .before .open-block .result .profile)) (c .enum-told .given .1))
+    (sym (c .before .before .open-block .ensures .0) ∙ ap (openedBy (c .before .before .open-block .result .profile)) (c .enum-told .given .1))
 
 -- the FRN of the reference
 named : (c : tie.After-known-told) → NamedAt (c .before .before .before .before .before .before .before .before .args .reference) 1 (places (opening (c .before .before .before .before) .category)) (c .before .named .given .0 .0)
@@ -74,7 +74,7 @@ returns : tie.Need-returns
 returns c =
     ap locatedOf
     (ap₂ refused (c .before .number .ensures ∙ ap checkedNumber (c .before .before .enum-told2 .given .1)) (c .place .ensures ∙ ap checkedPlace (c .before .before .enum-told2 .given .1))
-    ∙ sym (item-refused _ _ _ _ _ (sym (c .before .before .before .before .open-block .ensures) ∙ ap (openedBy (c .before .before .before .before .open-block .result .profile)) (c .before .before .enum-told2 .given .1))))
+    ∙ sym (item-refused _ _ _ _ _ (sym (c .before .before .before .before .open-block .ensures .0) ∙ ap (openedBy (c .before .before .before .before .open-block .result .profile)) (c .before .before .enum-told2 .given .1))))
 
 frn-of-requires : tie.Need-frn-of-requires
 frn-of-requires c κs = search needs

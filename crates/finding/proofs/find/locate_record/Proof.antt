@@ -21,7 +21,7 @@ opening c = record { category = categoryAt (c .before .before .open-block .resul
 is-open : (c : tie.After-enum-told) → Opens (c .before .before .before .before .args .block .now) (opening c)
 is-open c =
     opens (c .before .before .before .before .args .block .now) (opening c) (octets-each (c .before .before .before .before .args .block .now) (c .before .before .before .shared-slice-known .given))
-    (sym (c .before .before .open-block .ensures) ∙ ap (openedBy (c .before .before .open-block .result .profile)) (c .enum-told .given .1))
+    (sym (c .before .before .open-block .ensures .0) ∙ ap (openedBy (c .before .before .open-block .result .profile)) (c .enum-told .given .1))
 
 open-block-requires : tie.Need-open-block-requires
 open-block-requires c κs = search needs
@@ -46,7 +46,7 @@ returns c =
     c .record-lost .ensures
     ∙ ap recordLocated
     (ap₂ refused (c .before .before .number .ensures ∙ ap checkedNumber (c .before .before .before .enum-told2 .given .1)) (c .before .place .ensures ∙ ap checkedPlace (c .before .before .before .enum-told2 .given .1))
-    ∙ sym (find-refused _ _ _ _ (sym (c .before .before .before .before .before .open-block .ensures) ∙ ap (openedBy (c .before .before .before .before .before .open-block .result .profile)) (c .before .before .before .enum-told2 .given .1))))
+    ∙ sym (find-refused _ _ _ _ (sym (c .before .before .before .before .before .open-block .ensures .0) ∙ ap (openedBy (c .before .before .before .before .before .open-block .result .profile)) (c .before .before .before .enum-told2 .given .1))))
 
 sub-seek-record : tie.Need-sub-seek-record
 sub-seek-record c = omega (arith, is-open c .room)

@@ -1,0 +1,13 @@
+-- `find::record_lost` meets its contract: the map beside a refusal is the absent one. Assumes nothing.
+use borrow.Author.Needs.{needs}
+use Rattle.finding.proofs.find.record_lost.Statement.{statement}
+use Rattle.finding.proofs.find.record_lost.Tie as tie
+
+absent-requires : tie.Need-absent-requires
+absent-requires c κs = search needs
+
+returns : tie.Need-returns
+returns c = rw (c .absent .ensures)
+
+pub record-lost-spec : {M : Type 1} → statement M
+record-lost-spec = tie.close (tie.spec absent-requires returns)
