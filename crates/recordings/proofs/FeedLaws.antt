@@ -20,7 +20,7 @@ use Rattle.rules.specs.Entry.{categories, Counts, checkRecording}
 use Rattle.rules.proofs.AnswerLaws.{refused-ok, ok-inj, bind-in, bind-out, bind-elim, need-in, later-in, later-out, if-inv, if-true, if-false, Octets, octets-left, octets-right}
 use Rattle.blocks.specs.Read.{lenAt, headAt, headBy, countFrom, bodyAt, Front, checkFront}
 use Rattle.blocks.proofs.HeadLaws.{by-no-head, by-head, Headed, headed, front-refused, front-empty, front-body}
-use Rattle.recordings.specs.Feed.{capped, SoFar, placed, fed, finished, blockLength}
+use Rattle.recordings.specs.Feed.{capped, SoFar, started, placed, fed, finished, blockLength}
 use Rattle.recordings.proofs.CountLaws.{FrontTaken, front-taken, counts, counts-start, counts-end, counts-stop, counts-turn, counts-on, counts-few, place-few}
 
 -- ---- the length of a piece
@@ -340,9 +340,9 @@ fed-all s p (q ∷ ps) f w o =
     ∙ ap (λ z. fed s (z ++ later-on)) (b .are)
 
 -- a recording that is fed at once
-fed-whole : (p : List ℕ) → Octets p → length p < 2 ^ 64 → finished (fed (ok (sofar 0 0 0)) p) ≡ checkRecording p
+fed-whole : (p : List ℕ) → Octets p → length p < 2 ^ 64 → finished (fed started p) ≡ checkRecording p
 fed-whole p o l =
-    by-answer (checkRecording p) (finished (fed (ok (sofar 0 0 0)) p) ≡ checkRecording p)
+    by-answer (checkRecording p) (finished (fed started p) ≡ checkRecording p)
     (λ k e.
     let (u, v) = counts-few p k o e in
     ap finished (fed-more (sofar 0 0 0) p k e) ∙ finish-ok _
@@ -353,9 +353,9 @@ fed-whole p o l =
     ∙ ap (refused n) (ap capped (zero-add q) ∙ capped-is q (omega (arith, place-few p o n q e, l))) ∙ sym e)
 
 -- FEEDING IS CHECKING: however a recording is cut at its blocks' ends, the last piece being what is left over, the answer is that of the whole
-pub feeding : (ps : List (List ℕ)) → Octets (concat ps) → length (concat ps) < 2 ^ 64 → Pieces ps → finished (feedAll (ok (sofar 0 0 0)) ps) ≡ checkRecording (concat ps)
+pub feeding : (ps : List (List ℕ)) → Octets (concat ps) → length (concat ps) < 2 ^ 64 → Pieces ps → finished (feedAll started ps) ≡ checkRecording (concat ps)
 feeding [] o l w = finish-ok (sofar 0 0 0) ∙ sym (sym (counts-start []) ∙ counts-end 0 0 0 [] refl)
-feeding (p ∷ ps) o l w = ap finished (fed-all (ok (sofar 0 0 0)) p ps (omega arith, omega arith, omega arith) w o) ∙ fed-whole (concat (p ∷ ps)) o l
+feeding (p ∷ ps) o l w = ap finished (fed-all started p ps (omega arith, omega arith, omega arith) w o) ∙ fed-whole (concat (p ∷ ps)) o l
 
 -- ---- cut as it is read: a head, and then as many octets as it says, or what there is of them
 
@@ -404,7 +404,7 @@ cut-pieces (suc f) bs =
     (λ (e, g). subst Pieces g tt)
     (if-inv (ltb (blockLength bs) (length bs)) (take (blockLength bs) bs ∷ cutFrom f (drop (blockLength bs) bs)) (bs ∷ []) refl)
 
-pub cutting : (bs : List ℕ) → Octets bs → length bs < 2 ^ 64 → finished (feedAll (ok (sofar 0 0 0)) (cutFrom (length bs) bs)) ≡ checkRecording bs
+pub cutting : (bs : List ℕ) → Octets bs → length bs < 2 ^ 64 → finished (feedAll started (cutFrom (length bs) bs)) ≡ checkRecording bs
 cutting bs o l =
     let e : concat (cutFrom (length bs) bs) ≡ bs = cut-joins (length bs) bs in
     feeding (cutFrom (length bs) bs) (subst Octets (sym e) o) (subst (λ z. length z < 2 ^ 64) (sym e) l) (cut-pieces (length bs) bs) ∙ ap checkRecording e

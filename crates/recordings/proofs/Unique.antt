@@ -1,6 +1,6 @@
--- No two distinct results satisfy the statement of a public function.
+-- For each function that another crate can call, no two distinct results meet its statement.
 --
--- In order: a recording's check, fed whole or block by block; the length of a piece. Assumes nothing.
+-- In order: a recording's check, fed whole or block by block; its state; the length of a piece. Assumes nothing.
 use Prim.Native.Nat.{ℕ}
 use mathlib.Core.Path.{_≡_, sym, ap, ap₂, _∙_}
 use mathlib.Core.List.{List}
@@ -11,7 +11,7 @@ use Rattle.recordings.specs.declared.RecordingChecked.{RecordingChecked}
 use Rattle.recordings.specs.declared.RecordingChecked.the-variants as recordingChecked
 use Rattle.recordings.specs.declared.RecordingState.{RecordingState}
 use Rattle.recordings.specs.declared.RecordingState.the-variants as recordingState
-use Rattle.recordings.specs.Feed.{SoFar, fed, finished, blockLength}
+use Rattle.recordings.specs.Feed.{started, fed, finished, blockLength}
 use Rattle.recordings.specs.Answers.{countsOf, stateOf}
 
 -- ---- `check_recording`, `RecordingState::finish`
@@ -23,13 +23,15 @@ counts-told (recordingChecked.Accepted k m) (recordingChecked.Refused n p) e = l
 counts-told (recordingChecked.Refused m q) (recordingChecked.Accepted l n) e = let z : _≡_ {A = ℕ} 0 1 = cc in absurd (omega arith)
 counts-told (recordingChecked.Refused m q) (recordingChecked.Refused n p) e = cc
 
-pub one-check : (recording : List ℕ) (a b : RecordingChecked) → countsOf a ≡ checkRecording recording → countsOf b ≡ checkRecording recording → a ≡ b
-one-check recording a b p q = counts-told a b (p ∙ sym q)
+pub one-check-recording : (recording : List ℕ) (a b : RecordingChecked)
+    → countsOf a ≡ checkRecording recording → countsOf b ≡ checkRecording recording → a ≡ b
+one-check-recording recording a b p q = counts-told a b (p ∙ sym q)
 
-pub one-finish : (s : RecordingState) (a b : RecordingChecked) → countsOf a ≡ finished (stateOf s) → countsOf b ≡ finished (stateOf s) → a ≡ b
-one-finish s a b p q = counts-told a b (p ∙ sym q)
+pub one-finish : (self : RecordingState) (a b : RecordingChecked)
+    → countsOf a ≡ finished (stateOf self) → countsOf b ≡ finished (stateOf self) → a ≡ b
+one-finish self a b p q = counts-told a b (p ∙ sym q)
 
--- ---- `RecordingState::feed`
+-- ---- `RecordingState::start`, `RecordingState::feed`
 
 state-told : (a b : RecordingState) → stateOf a ≡ stateOf b → a ≡ b
 state-told (recordingState.SoFar j k m) (recordingState.SoFar i l n) e =
@@ -39,10 +41,14 @@ state-told (recordingState.SoFar j k m) (recordingState.Refused n p) e = let z :
 state-told (recordingState.Refused m q) (recordingState.SoFar i l n) e = let z : _≡_ {A = ℕ} 0 1 = cc in absurd (omega arith)
 state-told (recordingState.Refused m q) (recordingState.Refused n p) e = cc
 
-pub one-state : (s : RecordingState) (piece : List ℕ) (a b : RecordingState) → stateOf a ≡ fed (stateOf s) piece → stateOf b ≡ fed (stateOf s) piece → a ≡ b
-one-state s piece a b p q = state-told a b (p ∙ sym q)
+pub one-start : (a b : RecordingState) → stateOf a ≡ started → stateOf b ≡ started → a ≡ b
+one-start a b p q = state-told a b (p ∙ sym q)
+
+pub one-feed : (self : RecordingState) (piece : List ℕ) (a b : RecordingState)
+    → stateOf a ≡ fed (stateOf self) piece → stateOf b ≡ fed (stateOf self) piece → a ≡ b
+one-feed self piece a b p q = state-told a b (p ∙ sym q)
 
 -- ---- `block_length`
 
-pub one-length : (head : List ℕ) (a b : ℕ) → a ≡ blockLength head → b ≡ blockLength head → a ≡ b
-one-length head a b p q = p ∙ sym q
+pub one-block-length : (head : List ℕ) (a b : ℕ) → a ≡ blockLength head → b ≡ blockLength head → a ≡ b
+one-block-length head a b p q = p ∙ sym q

@@ -19,6 +19,10 @@ pub record SoFar : Type 0 where
   pub blocks : ℕ
   pub records : ℕ
 
+-- before any piece has come
+abbrev pub started : Answer SoFar
+started = ok (record { place = 0; blocks = 0; records = 0 })
+
 -- what a piece that starts at a place answers
 abbrev pub placed : ℕ → Answer Counts → Answer Counts
 placed k (ok c) = ok c

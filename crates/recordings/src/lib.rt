@@ -10,7 +10,7 @@ ghost use Rattle.rules.specs.Entry.{checkRecording};
 ghost use Rattle.steps.specs.Item.{soundSteps};
 ghost use Rattle.plain.specs.Record.{soundTypes};
 ghost use Rattle.plain.specs.Shape.{soundSets};
-ghost use Rattle.recordings.specs.Feed.{capped, fed, finished, blockLength};
+ghost use Rattle.recordings.specs.Feed.{capped, started, fed, finished, blockLength};
 ghost use Rattle.recordings.specs.Answers.{countsOf, frontNumber, frontPlace, stateOf};
 
 // A recording's counts of blocks and records, or a refusal's number and place, counted from the recording's start.
@@ -120,11 +120,16 @@ pub enum RecordingState {
 }
 
 impl RecordingState {
-    pub const START: RecordingState = RecordingState::SoFar {
-        place: 0,
-        blocks: 0,
-        records: 0,
-    };
+    // Before any of it is fed.
+    pub fn start() -> RecordingState
+        ensures { λ r. ⌜ stateOf r ≡ started ⌝ }
+    {
+        RecordingState::SoFar {
+            place: 0,
+            blocks: 0,
+            records: 0,
+        }
+    }
 
     // More of the recording: whole blocks, or at its end what is left over.
     pub fn feed(self, piece: &[u8]) -> RecordingState
