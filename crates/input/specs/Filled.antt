@@ -1,4 +1,5 @@
--- What a read may bring, and what it keeps. Which octets come, no contract can say. Assumes nothing.
+-- What a read may bring, and what it keeps. Which octets come, and what a read leaves behind them, no contract can say: so more than one result of
+-- `refill`, and more than one buffer, meets its statement. Assumes nothing.
 use Prim.Native.Nat.{ℕ, _-_, _<_, _≤_}
 use mathlib.Core.Path.{_≡_}
 use mathlib.Core.List.{List}
