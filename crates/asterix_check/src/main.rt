@@ -124,7 +124,7 @@ fn verdict(checked: RecordingChecked, out: &mut [u8; 66]) -> usize
 fn main() {
     // A block has 65,535 octets at most, so that a full buffer always holds a whole one.
     let mut buffer = [0u8; 131072];
-    let mut state = RecordingState::START;
+    let mut state = RecordingState::start();
     let mut from: usize = 0;
     let mut to: usize = 0;
     let mut turns = u64::MAX;

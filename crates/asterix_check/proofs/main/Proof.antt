@@ -14,6 +14,9 @@ Inv-loop buffer₀ state₀ from₀ to₀ turns₀ t14 buffer state from to turn
 abbrev μ-loop : tie.MeasureT-loop
 μ-loop buffer₀ state₀ from₀ to₀ turns₀ t14 buffer state from to turns = turns
 
+start-requires : tie.Need-start-requires Inv-loop μ-loop
+start-requires c κs = search needs
+
 loop-holds : tie.Need-loop-holds Inv-loop μ-loop
 loop-holds c = search needs
 
@@ -86,6 +89,7 @@ main-spec =
     (tie.spec
     Inv-loop
     μ-loop
+    start-requires
     loop-holds
     sub-turns
     slice-aggregate-refill
