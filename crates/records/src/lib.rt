@@ -50,17 +50,14 @@ pub struct RecordMap {
 
 impl RecordMap {
     // Every place absent.
-    pub const ABSENT: RecordMap = RecordMap {
-        starts: [0; 35],
-        end: 0,
-        count: 0,
-    };
-
-    // The same by a contract.
     pub fn absent() -> RecordMap
         ensures { λ r. ⌜ r ≡ absent ⌝ }
     {
-        RecordMap::ABSENT
+        RecordMap {
+            starts: [0; 35],
+            end: 0,
+            count: 0,
+        }
     }
 }
 

@@ -229,8 +229,8 @@ pub flags-none : flags 64 0 ≡ replicate 64 false
 unfolding flags
 flags-none = refl
 
-pub none-set : (bits : ℕ) → bits < 2 ^ 64 → flags 64 bits ≡ replicate 64 false → bits ≡ 0
-none-set bits h e = flags-same 64 bits 0 h (omega arith) (e ∙ sym flags-none)
+pub bits-none : (bits : ℕ) → bits < 2 ^ 64 → flags 64 bits ≡ replicate 64 false → bits ≡ 0
+bits-none bits h e = flags-same 64 bits 0 h (omega arith) (e ∙ sym flags-none)
 
 -- ---- a set with one FRN more: f is the FRN as it is held, t whether it is there already, w its bit
 

@@ -6,7 +6,7 @@ use Rattle.rules.specs.Category018.{category018}
 use Rattle.rules.specs.Entry.{categories}
 use Rattle.sets.specs.Sets.{categoryAt, bitsOf}
 use Rattle.sets.specs.Steps.{usableBits}
-use Rattle.sets.proofs.FlagLaws.{none-set}
+use Rattle.sets.proofs.FlagLaws.{bits-none}
 use Rattle.sets.proofs.ProfileLaws.{category-none}
 use Rattle.sets.proofs.usable.Statement.{statement}
 use Rattle.sets.proofs.usable.Tie as tie
@@ -24,7 +24,7 @@ returns-2 c = rw (c .match .keys2)
 
 returns-3 : tie.Need-returns-3
 unfolding usableBits bitsOf number
-returns-3 c = rw (category-none _ (c .before .match .rest .0 .1) (c .before .match .rest .1)) (none-set _ (search needs) (c .empty .ensures))
+returns-3 c = rw (category-none _ (c .before .match .rest .0 .1) (c .before .match .rest .1)) (bits-none _ (search needs) (c .empty .ensures))
 
 pub usable-spec : {M : Type 1} → statement M
 usable-spec = tie.close (tie.spec empty-requires returns returns-2 returns-3)

@@ -1,4 +1,4 @@
--- `records::RecordMap::absent` meets its contract: the constant is the map with every place absent. Assumes nothing.
+-- `records::RecordMap::absent` meets its contract: every start, the end and the count are 0. Assumes nothing.
 use mathlib.Core.Path.{refl}
 use Rattle.records.proofs.RecordMap.absent.Statement.{statement}
 use Rattle.records.proofs.RecordMap.absent.Tie as tie
