@@ -1,8 +1,9 @@
 -- Adding a record: octets laid one by one, and what the output then holds.
 --
--- In order: a loop that lays octets; the whole of what is laid; the answers of adding. Assumes nothing.
+-- In order: a loop that lays octets; the whole of what is laid; the answers of adding; by what the code answers; what the answer says. Assumes nothing.
 use Prim.Native.Nat.{ℕ, zero, suc, _+_, _-_, _/_, _%_, _≤_, _<_}
 use mathlib.Core.Path.{_≡_, refl, sym, ap, ap₂, _∙_}
+use mathlib.Core.Bool.{Bool, true, false}
 use mathlib.Core.List.{List, [], _∷_, _++_, append-assoc}
 use native.Mathlib.Omega.{arith}
 use native.Mathlib.Nat.{div-one, le-refl}
@@ -11,10 +12,10 @@ use lib.ListN.{length, take, drop, getD, set, length-append, length-set, length-
 use lib.Seq.{paste, paste-zero, paste-suc, length-paste, take-paste, drop-paste, take-length, drop-drop, drop-set-lt, length-take-le}
 use lib.Dec.{eqb, le→leb, eqb→eq}
 use borrow.Author.Tests.{lt-leb}
-use Rattle.rules.specs.Answer.{ok, refused, _>>=_}
+use Rattle.rules.specs.Answer.{Answer, ok, refused, _>>=_}
 use Rattle.rules.specs.Layout.{octets}
 use Rattle.rules.specs.Entry.{over, newRecord, joinRecord, added, refusedOld, refusedNew, inNew, inOld, Added, addRecord, leavesAdded}
-use Rattle.rules.proofs.AnswerLaws.{ok-inj, bind-in, bind-out, bind-elim, need-in, need-out, Octets}
+use Rattle.rules.proofs.AnswerLaws.{refused-ok, ok-inj, bind-in, bind-out, bind-elim, need-in, need-out, Octets}
 use Rattle.rules.proofs.EntryLaws.{over-is}
 use Rattle.blocks.specs.Read.{Opening, openFrom}
 use Rattle.blocks.proofs.HeadLaws.{headed, len-few, old-none, old-is}
@@ -23,8 +24,9 @@ use Rattle.rules.proofs.LayoutLaws.{octets-take}
 use Rattle.sets.specs.Sets.{categoryAt, frnsOf, fspecAt}
 use Rattle.records.specs.Answers.{newAt}
 use Rattle.records.proofs.NewLaws.{new-octets}
+use Rattle.adding.specs.declared.add.RecordAdded.{RecordAdded}
 use Rattle.adding.specs.declared.add.RecordAdded.the-variants as recordAdded
-use Rattle.adding.specs.Added.{addedOf, laid}
+use Rattle.adding.specs.Added.{addedOf, addedAs, laid}
 
 -- ---- a loop that lays octets: so many of s stand in d, from a place on
 
@@ -165,11 +167,11 @@ module _ (out : List ℕ) (used : ℕ) (fs items : List ℕ) where
 
 -- ---- by what the code answers
 
-pub old-both : {x : Added} (out : List ℕ) {n p : ℕ} → x ≡ refusedOld n p → (recordAdded.RefusedOld n p ≡ addedOf x) × (out ≡ leavesAdded x out)
-old-both out e = (ap addedOf (sym e), sym (ap (λ z. leavesAdded z out) e))
+pub old-both : {x : Added} (out : List ℕ) {n p : ℕ} → x ≡ refusedOld n p → (addedOf (recordAdded.RefusedOld n p) ≡ addedAs x) × (out ≡ leavesAdded x out)
+old-both out e = (ap addedAs (sym e), sym (ap (λ z. leavesAdded z out) e))
 
-pub new-both : {x : Added} (out : List ℕ) {n p : ℕ} → x ≡ refusedNew n p → (recordAdded.RefusedNew n p ≡ addedOf x) × (out ≡ leavesAdded x out)
-new-both out e = (ap addedOf (sym e), sym (ap (λ z. leavesAdded z out) e))
+pub new-both : {x : Added} (out : List ℕ) {n p : ℕ} → x ≡ refusedNew n p → (addedOf (recordAdded.RefusedNew n p) ≡ addedAs x) × (out ≡ leavesAdded x out)
+new-both out e = (ap addedAs (sym e), sym (ap (λ z. leavesAdded z out) e))
 
 -- the octets in use are a block: LEN is how many they are
 pub old-len : (out : List ℕ) (used : ℕ) (o : Opening) → Octets out → used ≤ length out → openFrom 3 (take used out) ≡ ok o → (3 ≤ used) × (used < 65_536)
@@ -201,22 +203,46 @@ module _ (out : List ℕ) (used i bits n : ℕ) (items : List ℕ) (o : Opening)
   pub whole-length : used + length (fspecAt i bits ++ items) ≡ used + n
   whole-length = ap (λ k. used + k) (length-append (fspecAt i bits) items ∙ sym (new-whole i bits items n is-new .1))
 
-  pub long-both : 65_535 < used + n → (recordAdded.RefusedNew 17 0 ≡ addedOf (addRecord out used (frnsOf bits) items)) × (out ≡ leavesAdded (addRecord out used (frnsOf bits) items) out)
+  pub long-both : 65_535 < used + n → (addedOf (recordAdded.RefusedNew 17 0) ≡ addedAs (addRecord out used (frnsOf bits) items)) × (out ≡ leavesAdded (addRecord out used (frnsOf bits) items) out)
   long-both l = new-both out (add-long out used (frnsOf bits) items room o (fspecAt i bits ++ items) is-open new-record (rw whole-length l))
 
   pub full-both : used + n ≤ 65_535 → length out < used + n
-      → (recordAdded.RefusedNew 16 0 ≡ addedOf (addRecord out used (frnsOf bits) items)) × (out ≡ leavesAdded (addRecord out used (frnsOf bits) items) out)
+      → (addedOf (recordAdded.RefusedNew 16 0) ≡ addedAs (addRecord out used (frnsOf bits) items)) × (out ≡ leavesAdded (addRecord out used (frnsOf bits) items) out)
   full-both l m = new-both out (add-full out used (frnsOf bits) items room o (fspecAt i bits ++ items) is-open new-record (rw whole-length l) (rw whole-length m))
 
   -- the block with the record, and the output then
   pub added-both : (left : List ℕ) → 3 ≤ used → used + n ≤ 65_535 → used + n ≤ length out → left ≡ laid out used (used + n) (fspecAt i bits) items
-      → (recordAdded.Length (used + n) ≡ addedOf (addRecord out used (frnsOf bits) items)) × (left ≡ leavesAdded (addRecord out used (frnsOf bits) items) out)
+      → (addedOf (recordAdded.Length (used + n)) ≡ addedAs (addRecord out used (frnsOf bits) items)) × (left ≡ leavesAdded (addRecord out used (frnsOf bits) items) out)
   added-both left three l m z =
       let a : addRecord out used (frnsOf bits) items ≡ added (withRecord (take used out) (used + length (fspecAt i bits ++ items)) (fspecAt i bits ++ items)) =
       add-all out used (frnsOf bits) items room o (fspecAt i bits ++ items) is-open new-record (rw whole-length l) (rw whole-length m) in (
-        sym (ap addedOf a ∙ ap recordAdded.Length (with-length out used three room (used + length (fspecAt i bits ++ items)) (fspecAt i bits ++ items) ∙ whole-length)),
+        sym (ap addedAs a ∙ ap (λ k. (ok k, false)) (with-length out used three room (used + length (fspecAt i bits ++ items)) (fspecAt i bits ++ items) ∙ whole-length)),
         z
             ∙ laid-is out used three room (used + n) (fspecAt i bits) items m (ap (λ k. used + k) (new-whole i bits items n is-new .1))
             ∙ ap (λ k. over (withRecord (take used out) k (fspecAt i bits ++ items)) out) (sym whole-length)
             ∙ sym (ap (λ y. leavesAdded y out) a),
       )
+
+-- ---- what the answer says is what the rules answer
+
+pub told-length : (x : Added) {r : RecordAdded} (n : ℕ) → addedOf r ≡ addedAs x → r ≡ recordAdded.Length n → (bs : List ℕ) × (x ≡ added bs) × (length bs ≡ n)
+told-length (added bs) n h e = (bs, refl, ok-inj (ap (λ z. z .0) (sym h ∙ ap addedOf e)))
+told-length (refusedOld m q) n h e = refused-ok (ap (λ z. z .0) (sym h ∙ ap addedOf e))
+told-length (refusedNew m q) n h e = refused-ok (ap (λ z. z .0) (sym h ∙ ap addedOf e))
+
+-- the refusal of which this is said; of a length any
+abbrev refusedBy : Answer ℕ × Bool → Added
+refusedBy (ok n, t) = added []
+refusedBy (refused n p, false) = refusedOld n p
+refusedBy (refused n p, true) = refusedNew n p
+
+told-refused : (x : Added) (n p : ℕ) (t : Bool) → addedAs x ≡ (refused n p, t) → x ≡ refusedBy (refused n p, t)
+told-refused (added bs) n p t h = refused-ok (ap (λ z. z .0) (sym h))
+told-refused (refusedOld m q) n p t h = ap refusedBy h
+told-refused (refusedNew m q) n p t h = ap refusedBy h
+
+pub told-old : (x : Added) {r : RecordAdded} (n p : ℕ) → addedOf r ≡ addedAs x → r ≡ recordAdded.RefusedOld n p → x ≡ refusedOld n p
+told-old x n p h e = told-refused x n p false (sym h ∙ ap addedOf e)
+
+pub told-new : (x : Added) {r : RecordAdded} (n p : ℕ) → addedOf r ≡ addedAs x → r ≡ recordAdded.RefusedNew n p → x ≡ refusedNew n p
+told-new x n p h e = told-refused x n p true (sym h ∙ ap addedOf e)

@@ -1,23 +1,39 @@
--- No two distinct results satisfy the statement of a public function. Assumes nothing.
+-- No two distinct results satisfy the statement of a public function. Of an answer that is an enum: what it says determines it. Assumes nothing.
 use Prim.Native.Nat.{ℕ}
-use mathlib.Core.Path.{_≡_, sym, _∙_}
+use mathlib.Core.Path.{_≡_, refl, sym, ap, _∙_}
+use mathlib.Core.Bool.{Bool, true, false}
 use mathlib.Core.List.{List}
+use Rattle.rules.specs.Answer.{Answer, ok, refused}
 use Rattle.rules.specs.Entry.{addRecord, leavesAdded, leastLength}
+use Rattle.sets.specs.declared.ItemSet.{ItemSet}
 use Rattle.sets.specs.Sets.{frnsOf}
 use Rattle.adding.specs.declared.add.RecordAdded.{RecordAdded}
-use Rattle.adding.specs.Added.{addedOf}
+use Rattle.adding.specs.declared.add.RecordAdded.the-variants as recordAdded
+use Rattle.adding.specs.Added.{addedOf, addedAs}
 
 -- ---- `add_record`: its answer, and what the output then holds
 
-pub one-added : (out : List ℕ) (used bits : ℕ) (items : List ℕ) (a b : RecordAdded) → a ≡ addedOf (addRecord out used (frnsOf bits) items)
-    → b ≡ addedOf (addRecord out used (frnsOf bits) items) → a ≡ b
-one-added out used bits items a b p q = p ∙ sym q
+-- the answer that says so
+abbrev addedFrom : Answer ℕ × Bool → RecordAdded
+addedFrom (ok n, t) = recordAdded.Length n
+addedFrom (refused n p, false) = recordAdded.RefusedOld n p
+addedFrom (refused n p, true) = recordAdded.RefusedNew n p
 
-pub one-output : (out : List ℕ) (used bits : ℕ) (items a b : List ℕ) → a ≡ leavesAdded (addRecord out used (frnsOf bits) items) out
-    → b ≡ leavesAdded (addRecord out used (frnsOf bits) items) out → a ≡ b
-one-output out used bits items a b p q = p ∙ sym q
+added-back : (a : RecordAdded) → addedFrom (addedOf a) ≡ a
+added-back (recordAdded.Length n) = refl
+added-back (recordAdded.RefusedOld n p) = refl
+added-back (recordAdded.RefusedNew n p) = refl
+
+pub added-told : (a b : RecordAdded) → addedOf a ≡ addedOf b → a ≡ b
+added-told a b e = sym (added-back a) ∙ ap addedFrom e ∙ added-back b
+
+pub one-add-record : (out : List ℕ) (used : ℕ) (set : ItemSet) (items : List ℕ) (a b : RecordAdded) (left right : List ℕ)
+    → addedOf a ≡ addedAs (addRecord out used (frnsOf (set .bits)) items) → left ≡ leavesAdded (addRecord out used (frnsOf (set .bits)) items) out
+    → addedOf b ≡ addedAs (addRecord out used (frnsOf (set .bits)) items) → right ≡ leavesAdded (addRecord out used (frnsOf (set .bits)) items) out
+    → (a ≡ b) × (left ≡ right)
+one-add-record out used set items a b left right p l q r = (added-told a b (p ∙ sym q), l ∙ sym r)
 
 -- ---- `least_length`
 
-pub one-least : (profile place octet a b : ℕ) → a ≡ leastLength profile place octet → b ≡ leastLength profile place octet → a ≡ b
-one-least profile place octet a b p q = p ∙ sym q
+pub one-least-length : (profile place octet a b : ℕ) → a ≡ leastLength profile place octet → b ≡ leastLength profile place octet → a ≡ b
+one-least-length profile place octet a b p q = p ∙ sym q

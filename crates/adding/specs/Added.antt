@@ -1,19 +1,26 @@
--- What adding a record answers and leaves, by what the rules add. Assumes nothing.
+-- What the answer of adding says, case by case: the block's new length, or a refusal's number and place (document 01, "Refusal numbers and their order"); and
+-- whether that place lies in the new items, or else in the old block. Then what the rules add, told so. Assumes nothing.
 use Prim.Native.Nat.{ℕ, _+_, _/_, _%_}
+use mathlib.Core.Bool.{Bool, true, false}
 use mathlib.Core.List.{List}
 use lib.ListN.{length, set}
 use lib.Seq.{paste}
+use Rattle.rules.specs.Answer.{Answer, ok, refused}
 use Rattle.rules.specs.Entry.{Added, added, refusedOld, refusedNew}
 use Rattle.records.specs.declared.NewChecked.{NewChecked}
 use Rattle.records.specs.declared.NewChecked.the-variants as newChecked
 use Rattle.adding.specs.declared.add.RecordAdded.{RecordAdded}
 use Rattle.adding.specs.declared.add.RecordAdded.the-variants as recordAdded
 
--- the length of the block, or a refusal's number and place, in the old block or in the new items
-abbrev pub addedOf : Added → RecordAdded
-addedOf (added bs) = recordAdded.Length (length bs)
-addedOf (refusedOld n p) = recordAdded.RefusedOld n p
-addedOf (refusedNew n p) = recordAdded.RefusedNew n p
+abbrev pub addedOf : RecordAdded → Answer ℕ × Bool
+addedOf (recordAdded.Length n) = (ok n, false)
+addedOf (recordAdded.RefusedOld n p) = (refused n p, false)
+addedOf (recordAdded.RefusedNew n p) = (refused n p, true)
+
+abbrev pub addedAs : Added → Answer ℕ × Bool
+addedAs (added bs) = (ok (length bs), false)
+addedAs (refusedOld n p) = (refused n p, false)
+addedAs (refusedNew n p) = (refused n p, true)
 
 -- ---- as the code follows the rules
 

@@ -2,7 +2,8 @@
 --
 -- In order: a case of an answer; checking; finding; one item; adding a record. Assumes nothing.
 use Prim.Native.Nat.{ℕ}
-use mathlib.Core.Path.{_≡_, refl, sym, ap, _∙_}
+use mathlib.Core.Path.{_≡_, refl, sym, ap, ap₂, _∙_}
+use mathlib.Core.Bool.{Bool, true, false}
 use mathlib.Core.List.{List}
 use lib.IntN.{ℤ}
 use Rattle.rules.specs.Answer.{Answer, ok, refused, _>>=_}
@@ -14,16 +15,13 @@ use Rattle.items.specs.declared.write.ItemWritten as items-written
 use Rattle.records.specs.Answers.{mapIn}
 use Rattle.records.specs.declared.RecordMap as records
 use Rattle.blocks.specs.Answers.{checkedOf}
-use Rattle.finding.specs.Found.{placeOf, recordLocated, locatedOf}
-use Rattle.adding.specs.Added.{addedOf}
+use Rattle.finding.specs.Found.{placeOf, recordSpan, Located, itemPlaceOf, itemSpan}
+use Rattle.adding.specs.Added.{addedOf, addedAs}
 use Rattle.blocks.specs.declared.check.BlockChecked as blocks-checked
 use Rattle.finding.specs.declared.find.RecordPlace.{RecordPlace}
-use Rattle.finding.specs.declared.find.RecordPlace.the-variants as recordPlace
 use Rattle.finding.specs.declared.find.RecordLocated.{RecordLocated}
 use Rattle.finding.specs.declared.find.ItemLocated.{ItemLocated}
-use Rattle.finding.specs.declared.find.ItemLocated.the-variants as itemLocated
 use Rattle.adding.specs.declared.add.RecordAdded as adding-added
-use Rattle.adding.specs.declared.add.RecordAdded.the-variants as addingAdded
 use Rattle.recordings.specs.Answers.{countsOf}
 use Rattle.recordings.specs.declared.RecordingChecked as recordings-checked
 use Rattle.asterix.specs.declared.RecordFound.{RecordFound}
@@ -47,29 +45,29 @@ recording-checked a h e = in-case (λ x. recordingChecked (countsOf x)) (ap reco
 
 -- ---- finding
 
-abbrev pub recordBy : records.RecordMap → RecordPlace → RecordFound
-recordBy m (recordPlace.At s l) = record { number = 0; place = 0; start = s; length = l; end = m .end; count = m .count; starts = m .starts }
-recordBy m (recordPlace.Refused n p) = record { number = n; place = p; start = 0; length = 0; end = 0; count = 0; starts = m .starts }
+abbrev pub recordBy : records.RecordMap → Answer (ℕ × ℕ) → RecordFound
+recordBy m (ok s) = record { number = 0; place = 0; start = s .0; length = s .1; end = m .end; count = m .count; starts = m .starts }
+recordBy m (refused n p) = record { number = n; place = p; start = 0; length = 0; end = 0; count = 0; starts = m .starts }
 
-record-by : (a : Answer RecordMap) → recordBy (mapIn a) (placeOf a) ≡ recordFound a
+record-by : (a : Answer RecordMap) → recordBy (mapIn a) (recordSpan a) ≡ recordFound a
 unfolding recordFound
 record-by (ok m) = refl
 record-by (refused n p) = refl
 
-pub record-found : (r : RecordLocated) {y : RecordPlace} (a : Answer RecordMap) → r ≡ recordLocated a → r .answer ≡ y → recordBy (r .map) y ≡ recordFound a
-record-found r a h e = in-case (recordBy (r .map)) (ap (λ (l : RecordLocated). recordBy (l .map) (l .answer)) h ∙ record-by a) e
+pub record-found : (r : RecordLocated) {y : RecordPlace} (a : Answer RecordMap) → Located r a → r .answer ≡ y → recordBy (r .map) (placeOf y) ≡ recordFound a
+record-found r a h e = in-case (λ x. recordBy (r .map) (placeOf x)) (ap₂ recordBy (h .map) (h .answer) ∙ record-by a) e
 
-abbrev pub itemBy : ItemLocated → ItemFound
-itemBy (itemLocated.At s l) = record { number = 0; place = 0; start = s; length = l }
-itemBy (itemLocated.Refused n p) = record { number = n; place = p; start = 0; length = 0 }
+abbrev pub itemBy : Answer (ℕ × ℕ) → ItemFound
+itemBy (ok s) = record { number = 0; place = 0; start = s .0; length = s .1 }
+itemBy (refused n p) = record { number = n; place = p; start = 0; length = 0 }
 
-item-by : (a : Answer Laid) → itemBy (locatedOf a) ≡ itemFound a
+item-by : (a : Answer Laid) → itemBy (itemSpan a) ≡ itemFound a
 unfolding itemFound
 item-by (ok l) = refl
 item-by (refused n p) = refl
 
-pub item-found : {r y : ItemLocated} (a : Answer Laid) → r ≡ locatedOf a → r ≡ y → itemBy y ≡ itemFound a
-item-found a h e = in-case itemBy (ap itemBy h ∙ item-by a) e
+pub item-found : {r y : ItemLocated} (a : Answer Laid) → itemPlaceOf r ≡ itemSpan a → r ≡ y → itemBy (itemPlaceOf y) ≡ itemFound a
+item-found a h e = in-case (λ x. itemBy (itemPlaceOf x)) (ap itemBy h ∙ item-by a) e
 
 -- ---- one item
 
@@ -99,16 +97,20 @@ item-written a h e = in-case (λ x. writtenBy (writtenAs x)) (ap writtenBy h ∙
 
 -- ---- adding a record
 
-abbrev pub addedBy : adding-added.RecordAdded → RecordAdded
-addedBy (addingAdded.Length n) = record { number = 0; «in_new» = 0; place = 0; length = n }
-addedBy (addingAdded.RefusedOld n p) = record { number = n; «in_new» = 0; place = p; length = 0 }
-addedBy (addingAdded.RefusedNew n p) = record { number = n; «in_new» = 1; place = p; length = 0 }
+-- whether the place lies in the new items
+abbrev pub inNew : Bool → ℕ
+inNew false = 0
+inNew true = 1
 
-added-by : (a : Added) → addedBy (addedOf a) ≡ recordAdded a
+abbrev pub addedBy : Answer ℕ × Bool → RecordAdded
+addedBy (ok n, t) = record { number = 0; «in_new» = inNew t; place = 0; length = n }
+addedBy (refused n p, t) = record { number = n; «in_new» = inNew t; place = p; length = 0 }
+
+added-by : (a : Added) → addedBy (addedAs a) ≡ recordAdded a
 unfolding recordAdded
 added-by (added bs) = refl
 added-by (refusedOld n p) = refl
 added-by (refusedNew n p) = refl
 
-pub record-added : {r y : adding-added.RecordAdded} (a : Added) → r ≡ addedOf a → r ≡ y → addedBy y ≡ recordAdded a
-record-added a h e = in-case addedBy (ap addedBy h ∙ added-by a) e
+pub record-added : {r y : adding-added.RecordAdded} (a : Added) → addedOf r ≡ addedAs a → r ≡ y → addedBy (addedOf y) ≡ recordAdded a
+record-added a h e = in-case (λ x. addedBy (addedOf x)) (ap addedBy h ∙ added-by a) e

@@ -38,16 +38,16 @@ one-find-item block reference n a b p q = p ∙ sym q
 
 -- ---- `asterix_read_item`, `asterix_write_item`: the answer, and what the output then holds
 
-pub one-read-item : (category reference : ℕ) (item : List ℕ) (old : List ℤ) (a b : ItemRead) (left right : List ℤ)
-    → a ≡ itemRead (readOne category reference item) → left ≡ leaves (readOne category reference item) old
-    → b ≡ itemRead (readOne category reference item) → right ≡ leaves (readOne category reference item) old → (a ≡ b) × (left ≡ right)
-one-read-item category reference item old a b left right p l q r = (p ∙ sym q, l ∙ sym r)
+pub one-read-item : (category reference : ℕ) (item : List ℕ) (fields : List ℤ) (a b : ItemRead) (left right : List ℤ)
+    → a ≡ itemRead (readOne category reference item) → left ≡ leaves (readOne category reference item) fields
+    → b ≡ itemRead (readOne category reference item) → right ≡ leaves (readOne category reference item) fields → (a ≡ b) × (left ≡ right)
+one-read-item category reference item fields a b left right p l q r = (p ∙ sym q, l ∙ sym r)
 
-pub one-write-item : (category reference : ℕ) (fields : List ℤ) (old : List ℕ) (a b : ItemWritten) (left right : List ℕ)
-    → a ≡ itemWritten (writeOne category reference fields (length old)) → left ≡ leaves (writeOne category reference fields (length old)) old
-    → b ≡ itemWritten (writeOne category reference fields (length old)) → right ≡ leaves (writeOne category reference fields (length old)) old
+pub one-write-item : (category reference : ℕ) (fields : List ℤ) (out : List ℕ) (a b : ItemWritten) (left right : List ℕ)
+    → a ≡ itemWritten (writeOne category reference fields (length out)) → left ≡ leaves (writeOne category reference fields (length out)) out
+    → b ≡ itemWritten (writeOne category reference fields (length out)) → right ≡ leaves (writeOne category reference fields (length out)) out
     → (a ≡ b) × (left ≡ right)
-one-write-item category reference fields old a b left right p l q r = (p ∙ sym q, l ∙ sym r)
+one-write-item category reference fields out a b left right p l q r = (p ∙ sym q, l ∙ sym r)
 
 -- ---- `asterix_add_record`: the answer, and what the output then holds
 

@@ -27,10 +27,12 @@ use Rattle.rules.proofs.Demands.{items-lie, map-start}
 use Rattle.tables.specs.Places.{isNamed, frnAs}
 use Rattle.items.specs.Answers.{sizeOf, checkAt}
 use Rattle.sets.specs.Sets.{categoryIn, categoryAt}
+use Rattle.records.specs.Answers.{mapIn}
 use Rattle.finding.specs.declared.find.RecordPlace.the-variants as recordPlace
 use Rattle.finding.specs.declared.find.RecordLocated.{RecordLocated}
+use Rattle.finding.specs.declared.find.ItemLocated.{ItemLocated}
 use Rattle.finding.specs.declared.find.ItemLocated.the-variants as itemLocated
-use Rattle.finding.specs.Found.{seekAt, recordLocated, recordSpan, locatedOf, itemSpan}
+use Rattle.finding.specs.Found.{seekAt, placeOf, recordSpan, Located, itemPlaceOf, itemSpan, spanIn}
 use Rattle.blocks.specs.Read.{Opening, openFrom}
 use Rattle.blocks.proofs.HeadLaws.{opened-is}
 use Rattle.blocks.proofs.LoopLaws.{made-refused}
@@ -323,32 +325,23 @@ pub record LocatedAt (x : Answer RecordMap) (r : RecordLocated) (s l : ℕ) : Ty
   pub map : RecordMap
   pub found : x ≡ ok map
   pub start-is : map .start ≡ s
-  pub starts-is : r .map .starts ≡ map .starts
-  pub span-is : recordSpan x ≡ (s, l)
+  pub length-is : map .end - map .start ≡ l
+  pub map-is : r .map ≡ mapIn (ok map)
+  pub span-is : spanIn (recordSpan x) ≡ (s, l)
 
-pub located : (x : Answer RecordMap) (r : RecordLocated) (s l : ℕ) → r ≡ recordLocated x → r .answer ≡ recordPlace.At s l → LocatedAt x r s l
-located (ok m) r s l e f =
-    let g : recordPlace.At (m .start) (m .end - m .start) ≡ recordPlace.At s l = ap (λ z. z .answer) (sym e) ∙ f in
-    let p : m .start ≡ s = cc in
-    let q : m .end - m .start ≡ l = cc in
-    record { map = m; found = refl; start-is = p; starts-is = ap (λ z. z .map .starts) e; span-is = ap₂ (λ a b. (a, b)) p q }
-located (refused n p) r s l e f =
-    let g : recordPlace.Refused n p ≡ recordPlace.At s l = ap (λ z. z .answer) (sym e) ∙ f in
-    let z : _≡_ {A = ℕ} 0 1 = cc in absurd (omega arith)
+pub located : (x : Answer RecordMap) (r : RecordLocated) (s l : ℕ) → Located r x → r .answer ≡ recordPlace.At s l → LocatedAt x r s l
+located (ok m) r s l h f =
+    let e : _≡_ {A = ℕ × ℕ} (m .start, m .end - m .start) (s, l) = ok-inj (sym (h .answer) ∙ ap placeOf f) in
+    record { map = m; found = refl; start-is = ap (λ z. z .0) e; length-is = ap (λ z. z .1) e; map-is = h .map; span-is = e }
+located (refused n p) r s l h f = refused-ok (sym (h .answer) ∙ ap placeOf f)
 
 pub record-inside-at : (bs : List ℕ) (n : ℕ) {r : RecordLocated} (s l : ℕ) → Octets bs → LocatedAt (findRecord bs n) r s l → s + l ≤ length bs
-record-inside-at bs n s l b a =
-    let e : _≡_ {A = ℕ × ℕ} (a .map .start, a .map .end - a .map .start) (s, l) = ap recordSpan (sym (a .found)) ∙ a .span-is in
-    let p : a .map .start ≡ s = ap (λ z. z .0) e in
-    let q : a .map .end - a .map .start ≡ l = ap (λ z. z .1) e in
-    omega (arith, record-inside bs n (a .map) b (a .found))
+record-inside-at bs n s l b a = omega (arith, record-inside bs n (a .map) b (a .found), a .start-is, a .length-is)
 
-pub lost : (x : Answer RecordMap) (r : RecordLocated) (n p : ℕ) → r ≡ recordLocated x → r .answer ≡ recordPlace.Refused n p → x ≡ refused n p
-lost (ok m) r n p e f =
-    let g : recordPlace.At (m .start) (m .end - m .start) ≡ recordPlace.Refused n p = ap (λ z. z .answer) (sym e) ∙ f in
-    let z : _≡_ {A = ℕ} 0 1 = cc in absurd (omega arith)
-lost (refused m q) r n p e f =
-    let g : recordPlace.Refused m q ≡ recordPlace.Refused n p = ap (λ z. z .answer) (sym e) ∙ f in
+pub lost : (x : Answer RecordMap) (r : RecordLocated) (n p : ℕ) → Located r x → r .answer ≡ recordPlace.Refused n p → x ≡ refused n p
+lost (ok m) r n p h f = refused-ok (ap placeOf (sym f) ∙ h .answer)
+lost (refused m q) r n p h f =
+    let g : _≡_ {A = Answer (ℕ × ℕ)} (refused m q) (refused n p) = sym (h .answer) ∙ ap placeOf f in
     (cc)
 
 pub record ItemSpan (x : Answer Laid) (s l : ℕ) : Type 0 where
@@ -356,18 +349,19 @@ pub record ItemSpan (x : Answer Laid) (s l : ℕ) : Type 0 where
   pub found : x ≡ ok item
   pub start-is : item .start ≡ s
   pub size-is : item .size ≡ l
-  pub span-is : itemSpan x ≡ (s, l)
+  pub span-is : spanIn (itemSpan x) ≡ (s, l)
 
-pub item-located : (x : Answer Laid) (s l : ℕ) → locatedOf x ≡ itemLocated.At s l → ItemSpan x s l
-item-located (ok m) s l e =
-    let p : m .start ≡ s = cc in
-    let q : m .size ≡ l = cc in
-    record { item = m; found = refl; start-is = p; size-is = q; span-is = ap₂ (λ a b. (a, b)) p q }
-item-located (refused n p) s l e = let z : _≡_ {A = ℕ} 0 1 = cc in absurd (omega arith)
+pub item-located : (x : Answer Laid) {r : ItemLocated} (s l : ℕ) → itemPlaceOf r ≡ itemSpan x → r ≡ itemLocated.At s l → ItemSpan x s l
+item-located (ok m) s l h f =
+    let e : _≡_ {A = ℕ × ℕ} (m .start, m .size) (s, l) = ok-inj (sym h ∙ ap itemPlaceOf f) in
+    record { item = m; found = refl; start-is = ap (λ z. z .0) e; size-is = ap (λ z. z .1) e; span-is = e }
+item-located (refused n p) s l h f = refused-ok (sym h ∙ ap itemPlaceOf f)
 
-pub item-lost : (x : Answer Laid) (n p : ℕ) → locatedOf x ≡ itemLocated.Refused n p → itemSpan x ≡ (0, 0)
-item-lost (ok m) n p e = let z : _≡_ {A = ℕ} 0 1 = cc in absurd (omega arith)
-item-lost (refused m q) n p e = refl
+pub item-lost : (x : Answer Laid) {r : ItemLocated} (n p : ℕ) → itemPlaceOf r ≡ itemSpan x → r ≡ itemLocated.Refused n p → x ≡ refused n p
+item-lost (ok m) n p h f = refused-ok (ap itemPlaceOf (sym f) ∙ h)
+item-lost (refused m q) n p h f =
+    let g : _≡_ {A = Answer (ℕ × ℕ)} (refused m q) (refused n p) = sym h ∙ ap itemPlaceOf f in
+    (cc)
 
 pub item-inside-at : (bs : List ℕ) (ref n s l : ℕ) → Octets bs → ItemSpan (findItem bs ref n) s l → s + l ≤ length bs
 item-inside-at bs ref n s l b a = omega (arith, item-inside bs ref n (a .item) b (a .found), a .start-is, a .size-is)

@@ -6,10 +6,10 @@ use mathlib.Core.Path.{_≡_, refl, sym, ap, ap₂, _∙_, subst}
 use mathlib.Core.List.{List, [], _∷_}
 use native.Mathlib.Omega.{arith}
 use lib.ListN.{length, drop, length-drop}
-use Rattle.rules.specs.Answer.{ok, refused, _>>=_}
+use Rattle.rules.specs.Answer.{Answer, ok, refused, _>>=_}
 use Rattle.rules.specs.Record.{Category}
 use Rattle.rules.specs.Block.{readUpTo, readAll}
-use Rattle.rules.specs.Entry.{mapOf, numbered}
+use Rattle.rules.specs.Entry.{RecordMap, mapOf, numbered}
 use Rattle.rules.proofs.AnswerLaws.{bind-in, Octets}
 use Rattle.sets.specs.Sets.{categoryAt}
 use Rattle.records.specs.declared.RecordMap.{RecordMap as RecordMap′}
@@ -19,7 +19,7 @@ use Rattle.blocks.specs.Read.{Records}
 use Rattle.blocks.proofs.LoopLaws.{octets-drop}
 use Rattle.blocks.proofs.RecordLaws.{record-is, Accepted, records-turn}
 use Rattle.finding.specs.declared.find.RecordPlace.the-variants.{At}
-use Rattle.finding.specs.Found.{seekAt, recordLocated}
+use Rattle.finding.specs.Found.{seekAt, recordSpan, Located}
 
 -- ---- where it is, turn by turn
 
@@ -79,7 +79,8 @@ pub walked-map : (i k : ℕ) (bs : List ℕ) (w : RecordWalked) → Walked w (re
 walked-map i k bs w walked e a = walked .map ∙ ap mapIn (record-is i k bs ∙ a .mapped)
 
 -- the record that was sought, with its map
-pub located-at : {c : Category} {k : ℕ} {bs : List ℕ} {e : ℕ} (a : Accepted c k bs e) (m : RecordMap′) → m ≡ mapIn (ok (mapOf c (record { start = k; value = a .value })))
-    → record { answer = At k (e - k); map = m } ≡ recordLocated (ok (mapOf c (record { start = k; value = a .value })))
+pub located-at : {x : Answer RecordMap} {c : Category} {k : ℕ} {bs : List ℕ} {e : ℕ} (a : Accepted c k bs e) (m : RecordMap′)
+    → m ≡ mapIn (ok (mapOf c (record { start = k; value = a .value }))) → x ≡ ok (mapOf c (record { start = k; value = a .value }))
+    → Located (record { answer = At k (e - k); map = m }) x
 unfolding mapOf
-located-at {k = k} a m h = ap₂ (λ x y. record { answer = At k (x - k); map = y }) (sym (a .ends)) h
+located-at {k = k} a m h q = record { answer = ap (λ y. ok (k, y - k)) (sym (a .ends)) ∙ ap recordSpan (sym q); map = h ∙ ap mapIn (sym q) }

@@ -1,32 +1,63 @@
--- No two distinct results satisfy the statement of a public function; of a part that is returned, no two that differ in place or bytes. Assumes
--- nothing.
+-- No two distinct results satisfy the statement of a public function; of a part that is returned, no two that differ in place or bytes. Of an answer that
+-- is an enum: what it says determines it. Assumes nothing.
 use Prim.Native.Nat.{ℕ}
-use mathlib.Core.Path.{_≡_, sym, ap₂, _∙_}
+use mathlib.Core.Path.{_≡_, refl, sym, ap, ap₂, _∙_}
 use mathlib.Core.List.{List}
 use denote.Ref.{RefT}
+use Rattle.rules.specs.Answer.{Answer, ok, refused}
 use Rattle.rules.specs.Entry.{findRecord, findItem}
+use Rattle.finding.specs.declared.find.RecordPlace.{RecordPlace}
+use Rattle.finding.specs.declared.find.RecordPlace.the-variants as recordPlace
 use Rattle.finding.specs.declared.find.RecordLocated.{RecordLocated}
 use Rattle.finding.specs.declared.find.ItemLocated.{ItemLocated}
+use Rattle.finding.specs.declared.find.ItemLocated.the-variants as itemLocated
 use Rattle.finding.specs.Part.{VeryPart}
-use Rattle.finding.specs.Found.{recordLocated, recordSpan, locatedOf, itemSpan}
+use Rattle.finding.specs.Found.{placeOf, recordSpan, Located, itemPlaceOf, itemSpan, spanIn}
 
--- ---- `locate_record`, `locate_item`
+-- ---- `locate_record`
 
-pub one-record : (block : List ℕ) (n : ℕ) (a b : RecordLocated) → a ≡ recordLocated (findRecord block n) → b ≡ recordLocated (findRecord block n) → a ≡ b
-one-record block n a b p q = p ∙ sym q
+-- the answer that says so
+abbrev placeFrom : Answer (ℕ × ℕ) → RecordPlace
+placeFrom (ok s) = recordPlace.At (s .0) (s .1)
+placeFrom (refused n p) = recordPlace.Refused n p
 
-pub one-item : (block : List ℕ) (reference n : ℕ) (a b : ItemLocated) → a ≡ locatedOf (findItem block reference n) → b ≡ locatedOf (findItem block reference n) → a ≡ b
-one-item block reference n a b p q = p ∙ sym q
+place-back : (a : RecordPlace) → placeFrom (placeOf a) ≡ a
+place-back (recordPlace.At s l) = refl
+place-back (recordPlace.Refused n p) = refl
+
+pub place-told : (a b : RecordPlace) → placeOf a ≡ placeOf b → a ≡ b
+place-told a b e = sym (place-back a) ∙ ap placeFrom e ∙ place-back b
+
+pub one-locate-record : (block : List ℕ) (n : ℕ) (a b : RecordLocated) → Located a (findRecord block n) → Located b (findRecord block n) → a ≡ b
+one-locate-record block n a b p q =
+    ap₂ (λ x m. record { answer = x; map = m }) (place-told (a .answer) (b .answer) (p .answer ∙ sym (q .answer))) (p .map ∙ sym (q .map))
+
+-- ---- `locate_item`
+
+abbrev itemFrom : Answer (ℕ × ℕ) → ItemLocated
+itemFrom (ok s) = itemLocated.At (s .0) (s .1)
+itemFrom (refused n p) = itemLocated.Refused n p
+
+item-back : (a : ItemLocated) → itemFrom (itemPlaceOf a) ≡ a
+item-back (itemLocated.At s l) = refl
+item-back (itemLocated.Refused n p) = refl
+
+pub item-told : (a b : ItemLocated) → itemPlaceOf a ≡ itemPlaceOf b → a ≡ b
+item-told a b e = sym (item-back a) ∙ ap itemFrom e ∙ item-back b
+
+pub one-locate-item : (block : List ℕ) (reference n : ℕ) (a b : ItemLocated)
+    → itemPlaceOf a ≡ itemSpan (findItem block reference n) → itemPlaceOf b ≡ itemSpan (findItem block reference n) → a ≡ b
+one-locate-item block reference n a b p q = item-told a b (p ∙ sym q)
 
 -- ---- `find_record`, `find_item`: that very part
 
 same-part : (s a b : RefT (List ℕ)) (span : ℕ × ℕ) → VeryPart s a span → VeryPart s b span → (a .ptr ≡ b .ptr) × (a .now ≡ b .now)
 same-part s a b span p q = (ap₂ (λ x y. (x, y)) (p .block ∙ sym (q .block)) (p .offset ∙ sym (q .offset)), p .bytes ∙ sym (q .bytes))
 
-pub one-record-part : (block a b : RefT (List ℕ)) (n : ℕ) → VeryPart block a (recordSpan (findRecord (block .now) n)) → VeryPart block b (recordSpan (findRecord (block .now) n))
-    → (a .ptr ≡ b .ptr) × (a .now ≡ b .now)
-one-record-part block a b n p q = same-part block a b (recordSpan (findRecord (block .now) n)) p q
+pub one-find-record : (block : RefT (List ℕ)) (n : ℕ) (a b : RefT (List ℕ)) → VeryPart block a (spanIn (recordSpan (findRecord (block .now) n)))
+    → VeryPart block b (spanIn (recordSpan (findRecord (block .now) n))) → (a .ptr ≡ b .ptr) × (a .now ≡ b .now)
+one-find-record block n a b p q = same-part block a b (spanIn (recordSpan (findRecord (block .now) n))) p q
 
-pub one-item-part : (block a b : RefT (List ℕ)) (reference n : ℕ) → VeryPart block a (itemSpan (findItem (block .now) reference n))
-    → VeryPart block b (itemSpan (findItem (block .now) reference n)) → (a .ptr ≡ b .ptr) × (a .now ≡ b .now)
-one-item-part block a b reference n p q = same-part block a b (itemSpan (findItem (block .now) reference n)) p q
+pub one-find-item : (block : RefT (List ℕ)) (reference n : ℕ) (a b : RefT (List ℕ)) → VeryPart block a (spanIn (itemSpan (findItem (block .now) reference n)))
+    → VeryPart block b (spanIn (itemSpan (findItem (block .now) reference n))) → (a .ptr ≡ b .ptr) × (a .now ≡ b .now)
+one-find-item block reference n a b p q = same-part block a b (spanIn (itemSpan (findItem (block .now) reference n))) p q

@@ -1,6 +1,7 @@
--- What finding answers, by what the rules find: where it lies and its map, or a refusal's number and place (document 01, "Refusal numbers and their
--- order"). Assumes nothing.
+-- What the answers of finding say, case by case: where what was found lies, its first byte counted from the block's start and how many it has; or a
+-- refusal's number and place (document 01, "Refusal numbers and their order"). Then what the rules find, told so. Assumes nothing.
 use Prim.Native.Nat.{ℕ, _-_}
+use mathlib.Core.Path.{_≡_}
 use mathlib.Core.List.{List}
 use Rattle.rules.specs.Answer.{Answer, ok, refused, _>>=_}
 use Rattle.rules.specs.Record.{Category, readRecord}
@@ -15,28 +16,34 @@ use Rattle.finding.specs.declared.find.ItemLocated.the-variants as itemL
 
 -- ---- a record
 
-abbrev pub placeOf : Answer RecordMap → RecordPlace
-placeOf (ok m) = recordPlace.At (m .start) (m .end - m .start)
-placeOf (refused n p) = recordPlace.Refused n p
+abbrev pub placeOf : RecordPlace → Answer (ℕ × ℕ)
+placeOf (recordPlace.At s l) = ok (s, l)
+placeOf (recordPlace.Refused n p) = refused n p
 
--- with the map beside it, every place absent on refusal
-abbrev pub recordLocated : Answer RecordMap → RecordLocated
-recordLocated a = record { answer = placeOf a; map = mapIn a }
+abbrev pub recordSpan : Answer RecordMap → Answer (ℕ × ℕ)
+recordSpan (ok m) = ok (m .start, m .end - m .start)
+recordSpan (refused n p) = refused n p
 
--- its place and how many bytes it has; where it is not found none, at the block's start
-abbrev pub recordSpan : Answer RecordMap → ℕ × ℕ
-recordSpan (ok m) = (m .start, m .end - m .start)
-recordSpan (refused n p) = (0, 0)
+-- what the code answers is what a rule answers: where the record lies and its map; or the refusal, and every place absent
+pub record Located (r : RecordLocated) (a : Answer RecordMap) : Type 0 where
+  pub answer : placeOf (r .answer) ≡ recordSpan a
+  pub map : r .map ≡ mapIn a
 
 -- ---- an item
 
-abbrev pub locatedOf : Answer Laid → ItemLocated
-locatedOf (ok l) = itemLocated.At (l .start) (l .size)
-locatedOf (refused n p) = itemLocated.Refused n p
+abbrev pub itemPlaceOf : ItemLocated → Answer (ℕ × ℕ)
+itemPlaceOf (itemLocated.At s l) = ok (s, l)
+itemPlaceOf (itemLocated.Refused n p) = refused n p
 
-abbrev pub itemSpan : Answer Laid → ℕ × ℕ
-itemSpan (ok l) = (l .start, l .size)
-itemSpan (refused n p) = (0, 0)
+abbrev pub itemSpan : Answer Laid → Answer (ℕ × ℕ)
+itemSpan (ok l) = ok (l .start, l .size)
+itemSpan (refused n p) = refused n p
+
+-- ---- the part that is handed back: where it was not found none, at the block's start
+
+abbrev pub spanIn : Answer (ℕ × ℕ) → ℕ × ℕ
+spanIn (ok s) = s
+spanIn (refused n p) = (0, 0)
 
 -- ---- as the code follows the rules
 

@@ -15,7 +15,7 @@ ghost use Rattle.rules.specs.Entry.{findRecord, findItem};
 ghost use Rattle.sets.specs.Sets.{categoryAt};
 ghost use Rattle.blocks.specs.Read.{Records};
 ghost use Rattle.finding.specs.Part.{VeryPart};
-ghost use Rattle.finding.specs.Found.{seekAt, recordLocated, recordSpan, locatedOf, itemSpan};
+ghost use Rattle.finding.specs.Found.{seekAt, recordSpan, Located, itemPlaceOf, itemSpan, spanIn};
 
 // The bytes of a block from start on, so many: that very part.
 fn part_of(block: &[u8], start: usize, count: usize) -> &[u8]
@@ -45,7 +45,7 @@ pub struct RecordLocated {
 }
 
 fn record_lost(number: u8, place: usize) -> RecordLocated
-    ensures { λ r. ⌜ r ≡ recordLocated (refused number place) ⌝ }
+    ensures { λ r. ⌜ Located r (refused number place) ⌝ }
 {
     RecordLocated {
         answer: RecordPlace::Refused { number, place },
@@ -57,7 +57,7 @@ fn record_lost(number: u8, place: usize) -> RecordLocated
 fn seek_record(profile: usize, part: &[u8], from: usize, n: usize) -> RecordLocated
     requires { ⌜ from + length (now part) < 65536 ⌝ }
     requires { ⌜ Records (categoryAt profile) (now part) ⌝ }
-    ensures { λ r. ⌜ r ≡ recordLocated (seekAt (categoryAt profile) from (now (part .entry)) n) ⌝ }
+    ensures { λ r. ⌜ Located r (seekAt (categoryAt profile) from (now (part .entry)) n) ⌝ }
 {
     let mut rest = part;
     let mut at = from;
@@ -88,7 +88,7 @@ fn seek_record(profile: usize, part: &[u8], from: usize, n: usize) -> RecordLoca
 
 // The record with a number: where it lies, and its map.
 pub fn locate_record(block: &[u8], n: usize) -> RecordLocated
-    ensures { λ r. ⌜ r ≡ recordLocated (findRecord (now (block .entry)) n) ⌝ }
+    ensures { λ r. ⌜ Located r (findRecord (now (block .entry)) n) ⌝ }
 {
     let opened = open_block(block, LEAST);
     let checked = opened.checked;
@@ -100,7 +100,7 @@ pub fn locate_record(block: &[u8], n: usize) -> RecordLocated
 
 // Its bytes, as that very part of the block; on refusal the empty part at the block's start.
 pub fn find_record(block: &[u8], n: usize) -> &[u8]
-    ensures { λ r. ⌜ VeryPart (block .entry) r (recordSpan (findRecord (now (block .entry)) n)) ⌝ }
+    ensures { λ r. ⌜ VeryPart (block .entry) r (spanIn (recordSpan (findRecord (now (block .entry)) n))) ⌝ }
 {
     let located = locate_record(block, n);
     let answer = located.answer;
@@ -118,7 +118,7 @@ pub enum ItemLocated {
 
 // The item with a reference, the number after its slash, in the record with a number.
 pub fn locate_item(block: &[u8], reference: u16, n: usize) -> ItemLocated
-    ensures { λ r. ⌜ r ≡ locatedOf (findItem (now (block .entry)) reference n) ⌝ }
+    ensures { λ r. ⌜ itemPlaceOf r ≡ itemSpan (findItem (now (block .entry)) reference n) ⌝ }
 {
     let opened = open_block(block, LEAST);
     let checked = opened.checked;
@@ -168,7 +168,7 @@ pub fn locate_item(block: &[u8], reference: u16, n: usize) -> ItemLocated
 
 // Its bytes, as that very part of the block; on refusal the empty part at the block's start.
 pub fn find_item(block: &[u8], reference: u16, n: usize) -> &[u8]
-    ensures { λ r. ⌜ VeryPart (block .entry) r (itemSpan (findItem (now (block .entry)) reference n)) ⌝ }
+    ensures { λ r. ⌜ VeryPart (block .entry) r (spanIn (itemSpan (findItem (now (block .entry)) reference n))) ⌝ }
 {
     let located = locate_item(block, reference, n);
     let ItemLocated::At { start, length } = located else {

@@ -12,21 +12,24 @@ use lib.ListN.{length, take, drop, getD, replicate, drop-of-length-le}
 use lib.Seq.{length-take-le}
 use Rattle.rules.specs.Answer.{Answer, ok, refused, _>>=_}
 use Rattle.rules.specs.Record.{Category}
-use Rattle.rules.specs.Entry.{leaves, Added, added, refusedOld, refusedNew, leavesAdded, inNew, inOld, oldBlock, newRecord, joinRecord, Laid, RecordMap, mapOf, startOf, laidItems, numbered, openBlock, checkRecording, readOne, writeOne, findItem, findRecord, addRecord}
+use Rattle.rules.specs.Entry.{over, leaves, Added, added, leavesAdded, inNew, inOld, oldBlock, newRecord, joinRecord, Laid, RecordMap, mapOf, startOf, laidItems, numbered, openBlock, checkRecording, readOne, writeOne, findItem, findRecord, addRecord}
 use Rattle.rules.proofs.AnswerLaws.{Octets, ok-inj, bind-elim, need-elim}
 use Rattle.rules.proofs.EntryLaws.{length-over}
 use Rattle.items.specs.Answers.{countOf}
 use Rattle.items.proofs.WriteTrip.{read-write}
 use Rattle.records.specs.Answers.{mapIn}
+use Rattle.records.specs.declared.RecordMap.{RecordMap as RecordMap′}
+use Rattle.adding.specs.declared.add.RecordAdded.{RecordAdded}
 use Rattle.adding.specs.declared.add.RecordAdded.the-variants as recordAdded
 use Rattle.finding.specs.declared.find.RecordPlace.the-variants as recordPlace
 use Rattle.finding.specs.declared.find.RecordLocated.{RecordLocated}
+use Rattle.finding.specs.declared.find.ItemLocated.{ItemLocated}
 use Rattle.finding.specs.declared.find.ItemLocated.the-variants as itemLocated
-use Rattle.adding.specs.Added.{addedOf}
-use Rattle.finding.specs.Found.{recordLocated, locatedOf, itemSpan}
-use Rattle.adding.proofs.AddLaws.{withRecord, with-length}
+use Rattle.adding.specs.Added.{addedOf, addedAs}
+use Rattle.finding.specs.Found.{Located, itemPlaceOf, itemSpan, spanIn}
+use Rattle.adding.proofs.AddLaws.{withRecord, with-length, told-length, told-old, told-new}
 use Rattle.adding.proofs.AddedLaws.{old-is}
-use Rattle.finding.proofs.FindLaws.{item-located, lost}
+use Rattle.finding.proofs.FindLaws.{located, lost, item-located, item-lost}
 use Rattle.recordings.specs.declared.RecordingChecked.{RecordingChecked}
 use Rattle.recordings.specs.declared.RecordingChecked.the-variants as recording
 use Rattle.recordings.specs.Answers.{countsOf}
@@ -143,72 +146,60 @@ add-room out used fs items bs o h = go (oldBlock out used) refl h
     go (refused n p) e k = let z : _≡_ {A = ℕ} 0 1 = cc in absurd (omega arith)
     go (ok c) e k = joined c e (newRecord c fs items >>= joinRecord (length out) (take used out)) refl k
 
-module _ (out : List ℕ) (used : ℕ) (fs items new : List ℕ) (w : new ≡ leavesAdded (addRecord out used fs items) out) (o : Octets out) where
-  added-both : (n : ℕ) (x : Added) → addRecord out used fs items ≡ x → recordAdded.Length n ≡ addedOf x → new ≡ leavesAdded x out
-      → (n ≤ length new) × (codes "ok " ++ madeText (take (n - 0) (drop 0 new)) ≡ addedText x)
+module _ (out : List ℕ) (used : ℕ) (fs items new : List ℕ) (r : RecordAdded) (is : addedOf r ≡ addedAs (addRecord out used fs items))
+    (w : new ≡ leavesAdded (addRecord out used fs items) out) (o : Octets out) (n : ℕ) (e : r ≡ recordAdded.Length n) where
+  added-both : (n ≤ length new) × (codes "ok " ++ madeText (take (n - 0) (drop 0 new)) ≡ addedText (addRecord out used fs items))
   unfolding addedText
-  added-both n (added bs) e r v =
-      let z : length bs ≡ n = cc in
-      let few : length bs ≤ length out = add-room out used fs items bs o e in
+  added-both =
+      let (bs, x, z) = told-length (addRecord out used fs items) n is e in
+      let v : new ≡ over bs out = w ∙ ap (λ y. leavesAdded y out) x in
+      let few : length bs ≤ length out = add-room out used fs items bs o x in
       let l : length new ≡ length out = ap length v ∙ length-over bs out in
-      (omega arith, ap (λ (t : List ℕ). codes "ok " ++ madeText t) (taken n new bs (ap (take n) v ∙ over-front bs out n z (omega arith))))
-  added-both n (refusedOld k p) e r v = let z : _≡_ {A = ℕ} 0 1 = cc in absurd (omega arith)
-  added-both n (refusedNew k p) e r v = let z : _≡_ {A = ℕ} 0 1 = cc in absurd (omega arith)
+      (omega arith, ap (λ (t : List ℕ). codes "ok " ++ madeText t) (taken n new bs (ap (take n) v ∙ over-front bs out n z (omega arith))) ∙ ap addedText (sym x))
 
-  pub added-few : (n : ℕ) → recordAdded.Length n ≡ addedOf (addRecord out used fs items) → n ≤ length new
-  added-few n r = added-both n (addRecord out used fs items) refl r w .0
+  pub added-few : n ≤ length new
+  added-few = added-both .0
 
-  pub added-ok : (n : ℕ) → recordAdded.Length n ≡ addedOf (addRecord out used fs items) → codes "ok " ++ madeText (take (n - 0) (drop 0 new)) ≡ addedText (addRecord out used fs items)
-  added-ok n r = added-both n (addRecord out used fs items) refl r w .1
+  pub added-ok : codes "ok " ++ madeText (take (n - 0) (drop 0 new)) ≡ addedText (addRecord out used fs items)
+  added-ok = added-both .1
 
-pub added-old : (x : Added) (n p : ℕ) → recordAdded.RefusedOld n p ≡ addedOf x → refusedText n p ++ codes " old" ≡ addedText x
-unfolding addedText
-added-old (added bs) n p r = let z : _≡_ {A = ℕ} 0 1 = cc in absurd (omega arith)
-added-old (refusedOld k q) n p r = let a : k ≡ n = cc in let b : q ≡ p = cc in rw (a, b)
-added-old (refusedNew k q) n p r = let z : _≡_ {A = ℕ} 0 1 = cc in absurd (omega arith)
+module _ (x : Added) (r : RecordAdded) (is : addedOf r ≡ addedAs x) where
+  pub added-old : (n p : ℕ) → r ≡ recordAdded.RefusedOld n p → refusedText n p ++ codes " old" ≡ addedText x
+  unfolding addedText
+  added-old n p e = rw (told-old x n p is e)
 
-pub added-new : (x : Added) (n p : ℕ) → recordAdded.RefusedNew n p ≡ addedOf x → refusedText n p ++ codes " new" ≡ addedText x
-unfolding addedText
-added-new (added bs) n p r = let z : _≡_ {A = ℕ} 0 1 = cc in absurd (omega arith)
-added-new (refusedOld k q) n p r = let z : _≡_ {A = ℕ} 0 1 = cc in absurd (omega arith)
-added-new (refusedNew k q) n p r = let a : k ≡ n = cc in let b : q ≡ p = cc in rw (a, b)
+  pub added-new : (n p : ℕ) → r ≡ recordAdded.RefusedNew n p → refusedText n p ++ codes " new" ≡ addedText x
+  unfolding addedText
+  added-new n p e = rw (told-new x n p is e)
 
 -- ---- records and items found
 
-module _ (bs : List ℕ) (ref n : ℕ) where
-  pub found-ok : (s l : ℕ) (part : List ℕ) → itemLocated.At s l ≡ locatedOf (findItem bs ref n)
-      → part ≡ take (itemSpan (findItem bs ref n) .1) (drop (itemSpan (findItem bs ref n) .0) bs)
+module _ (bs : List ℕ) (ref n : ℕ) (r : ItemLocated) (is : itemPlaceOf r ≡ itemSpan (findItem bs ref n)) where
+  pub found-ok : (s l : ℕ) (part : List ℕ) → r ≡ itemLocated.At s l
+      → part ≡ take (spanIn (itemSpan (findItem bs ref n)) .1) (drop (spanIn (itemSpan (findItem bs ref n)) .0) bs)
       → codes "ok " ++ (decimalText s ++ (numberText l ++ (codes " " ++ octetsText part))) ≡ findText (bs, (ref, n))
   unfolding findText foundText
   found-ok s l part e v =
-      let d = item-located (findItem bs ref n) s l (sym e) in
+      let d = item-located (findItem bs ref n) s l is e in
       let q : part ≡ take l (drop s bs) = v ∙ ap (λ (x : ℕ × ℕ). take (x .1) (drop (x .0) bs)) (d .span-is) in
       rw (q, d .found, d .start-is, d .size-is)
 
-  pub found-not : (k p : ℕ) → itemLocated.Refused k p ≡ locatedOf (findItem bs ref n) → refusedText k p ≡ findText (bs, (ref, n))
+  pub found-not : (k p : ℕ) → r ≡ itemLocated.Refused k p → refusedText k p ≡ findText (bs, (ref, n))
   unfolding findText
-  found-not k p e = go (findItem bs ref n) e
-    where
-      go : (x : Answer Laid) → itemLocated.Refused k p ≡ locatedOf x → refusedText k p ≡ answered (foundText bs) x
-      go (ok l) h = let z : _≡_ {A = ℕ} 0 1 = cc in absurd (omega arith)
-      go (refused j q) h = let a : j ≡ k = cc in let b : q ≡ p = cc in rw (a, b)
+  found-not k p e = let q : findItem bs ref n ≡ refused k p = item-lost (findItem bs ref n) k p is e in rw q
 
-module _ (bs : List ℕ) (n : ℕ) (r : RecordLocated) (is : r ≡ recordLocated (findRecord bs n)) where
+map-told : (x : Answer RecordMap) (m : RecordMap) (k : RecordMap′) (s l : ℕ) → x ≡ ok m → k ≡ mapIn (ok m) → m .end - m .start ≡ l → m .start ≡ s
+    → codes "ok " ++ (decimalText s ++ (numberText l ++ (numberText (k .count) ++ startsText 1 (k .starts)))) ≡ answered mapText x
+unfolding mapText
+map-told x m k s l f g i j = rw (f, g, i, j)
+
+module _ (bs : List ℕ) (n : ℕ) (r : RecordLocated) (is : Located r (findRecord bs n)) where
   pub map-ok : (s l : ℕ) → r .answer ≡ recordPlace.At s l
       → codes "ok " ++ (decimalText s ++ (numberText l ++ (numberText (r .map .count) ++ startsText 1 (r .map .starts)))) ≡ recordText (bs, n)
-  unfolding recordText mapText
-  map-ok s l e = go (findRecord bs n) is
-    where
-      go : (x : Answer RecordMap) → r ≡ recordLocated x
-          → codes "ok " ++ (decimalText s ++ (numberText l ++ (numberText (r .map .count) ++ startsText 1 (r .map .starts)))) ≡ answered mapText x
-      go (ok m) h =
-          let a : recordPlace.At (m .start) (m .end - m .start) ≡ recordPlace.At s l = sym (ap (λ (z : RecordLocated). z .answer) h) ∙ e in
-          let b : m .start ≡ s = cc in
-          let d : m .end - m .start ≡ l = cc in
-          rw (h, d, b)
-      go (refused k p) h =
-          let a : recordPlace.Refused k p ≡ recordPlace.At s l = sym (ap (λ (z : RecordLocated). z .answer) h) ∙ e in
-          let z : _≡_ {A = ℕ} 0 1 = cc in absurd (omega arith)
+  unfolding recordText
+  map-ok s l e =
+      let d = located (findRecord bs n) r s l is e in
+      map-told (findRecord bs n) (d .map) (r .map) s l (d .found) (d .map-is) (d .length-is) (d .start-is)
 
   pub map-not : (k p : ℕ) → r .answer ≡ recordPlace.Refused k p → refusedText k p ≡ recordText (bs, n)
   unfolding recordText
@@ -216,7 +207,7 @@ module _ (bs : List ℕ) (n : ℕ) (r : RecordLocated) (is : r ≡ recordLocated
 
   pub map-places : length (r .map .starts) ≡ 35
   unfolding findRecord mapOf
-  map-places = ap (λ (z : RecordLocated). length (z .map .starts)) is ∙ go (findRecord bs n) refl
+  map-places = ap (λ (z : RecordMap′). length (z .starts)) (is .map) ∙ go (findRecord bs n) refl
     where
       go : (x : Answer RecordMap) → findRecord bs n ≡ x → length (mapIn x .starts) ≡ 35
       go (ok m) h =

@@ -3,7 +3,7 @@ use mathlib.Core.Path.{sym, ap, subst}
 use borrow.Author.Needs.{needs}
 use Rattle.rules.specs.Entry.{findRecord}
 use Rattle.finding.specs.Part.{VeryPart}
-use Rattle.finding.specs.Found.{recordSpan}
+use Rattle.finding.specs.Found.{recordSpan, spanIn}
 use Rattle.blocks.proofs.LoopLaws.{octets-each}
 use Rattle.finding.proofs.FindLaws.{record-inside-at, LocatedAt, located, lost}
 use Rattle.finding.proofs.find.find_record.Statement.{statement}
@@ -27,7 +27,7 @@ none-of-requires : tie.Need-none-of-requires
 none-of-requires c κs = search needs
 
 returns : tie.Need-returns
-returns c = subst (VeryPart (c .before .before .before .before .before .args .block) (c .none-of .result)) (sym (ap recordSpan (lost (findRecord (c .before .before .before .before .before .args .block .now) (c .before .before .before .before .before .args .n)) (c .before .before .before .locate-record .result) _ _ (c .before .before .before .locate-record .ensures) (c .before .enum-told .given .1)))) (c .none-of .ensures)
+returns c = subst (VeryPart (c .before .before .before .before .before .args .block) (c .none-of .result)) (sym (ap (λ z. spanIn (recordSpan z)) (lost (findRecord (c .before .before .before .before .before .args .block .now) (c .before .before .before .before .before .args .n)) (c .before .before .before .locate-record .result) _ _ (c .before .before .before .locate-record .ensures) (c .before .enum-told .given .1)))) (c .none-of .ensures)
 
 part-of-requires : tie.Need-part-of-requires
 part-of-requires c κs =

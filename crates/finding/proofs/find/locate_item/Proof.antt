@@ -1,6 +1,6 @@
 -- `find::locate_item` meets its contract: the block is opened, the reference is that of an FRN, the record is sought; then the map says whether the
 -- item is there, and the item's check how many bytes it has. Assumes nothing.
-use mathlib.Core.Path.{_≡_, sym, ap, ap₂, _∙_}
+use mathlib.Core.Path.{_≡_, sym, ap, ap₂, _∙_, subst}
 use Prim.Native.Nat.{_-_}
 use borrow.Author.Needs.{needs}
 use native.Mathlib.Omega.{arith}
@@ -16,8 +16,7 @@ use Rattle.blocks.specs.Read.{Opening}
 use Rattle.blocks.specs.Answers.{checkedNumber, checkedPlace, openedBy}
 use Rattle.blocks.proofs.LoopLaws.{octets-each, to-end}
 use Rattle.blocks.proofs.OpenLaws.{Opens, opens, opens-records}
-use Rattle.finding.specs.declared.find.ItemLocated.the-variants as itemLocated
-use Rattle.finding.specs.Found.{seekAt, recordLocated, locatedOf}
+use Rattle.finding.specs.Found.{seekAt, Located, itemSpan}
 use Rattle.finding.proofs.FindLaws.{NamedAt, frn-none, frn-some, profile-is, item-refused, item-unknown, LocatedAt, located, lost, no-record-at, index-in, absent-at, ThereAt, there-at}
 use Rattle.finding.proofs.find.locate_item.Statement.{statement}
 use Rattle.finding.proofs.find.locate_item.Tie as tie
@@ -42,14 +41,14 @@ sought : (c : tie.After-known-told2)
     → LocatedAt (seekAt (opening (c .before .before .before .before .before .before .before .before .before) .category) 3 (drop 3 (c .before .before .before .before .before .before .before .before .before .before .before .before .before .args .block .now)) (c .before .before .before .before .before .before .before .before .before .before .before .before .before .args .n)) (c .before .before .before .seek-record .result) (c .before .answer .given .0 .0) (c .before .answer .given .0 .1 .0)
 sought c =
     located _ (c .before .before .before .seek-record .result) _ _
-    (c .before .before .before .seek-record .ensures ∙ ap (λ z. recordLocated (seekAt (opening (c .before .before .before .before .before .before .before .before .before) .category) 3 z (c .before .before .before .before .before .before .before .before .before .before .before .before .before .args .n))) (to-end (c .before .before .before .before .before .before .before .before .before .before .before .before .before .args .block .now) 3)) (c .before .answer .given .1)
+    (subst (λ z. Located (c .before .before .before .seek-record .result) (seekAt (opening (c .before .before .before .before .before .before .before .before .before) .category) 3 z (c .before .before .before .before .before .before .before .before .before .before .before .before .before .args .n))) (to-end (c .before .before .before .before .before .before .before .before .before .before .before .before .before .args .block .now) 3) (c .before .before .before .seek-record .ensures)) (c .before .answer .given .1)
 
 -- the item that the map has
 there : (c : tie.Else1)
     → ThereAt (c .before .before .before .before .before .before .before .before .before .before .before .before .before .before .before .before .args .block .now) (c .before .before .before .before .before .before .before .before .before .before .before .before .before .before .before .before .args .reference) (c .before .before .before .before .before .before .before .before .before .before .before .before .before .before .before .before .args .n) (c .before .before .before .before .before .before .before .before .before .before .before .before .before .before .open-block .result .profile) (c .before .before .before .before .before .before .before .before .before .before .before .before .enum-told .given .0 .0) (is-open (c .before .before .before .before .before .before .before .before .before .before .before .before)) (c .before .before .before .before .before .before .before .before .before .named .given .0 .0)
     (getD (c .before .before .before .before .before .before .seek-record .result .map .starts) (c .before .before .before .before .before .before .before .before .before .named .given .0 .0 - 1) 0)
 there c =
-    there-at _ _ _ _ _ (is-open (c .before .before .before .before .before .before .before .before .before .before .before .before)) _ (sought (c .before .before .before) .map) _ (named (c .before .before .before .before .before .before .before .before)) (sought (c .before .before .before) .found) (sought (c .before .before .before) .starts-is) (c .if1 .left)
+    there-at _ _ _ _ _ (is-open (c .before .before .before .before .before .before .before .before .before .before .before .before)) _ (sought (c .before .before .before) .map) _ (named (c .before .before .before .before .before .before .before .before)) (sought (c .before .before .before) .found) (ap (λ z. z .starts) (sought (c .before .before .before) .map-is)) (c .if1 .left)
 
 -- what its check answers
 checked : (c : tie.Else1) → checkAt (c .before .before .before .before .before .before .before .before .before .before .before .before .before .before .open-block .result .profile) (c .before .before .before .before .before .before .before .before .before .named .given .0 .0) (take (length (c .before .before .before .before .before .before .before .before .before .before .before .before .before .before .before .before .args .block .now) - getD (c .before .before .before .before .before .before .seek-record .result .map .starts) (c .before .before .before .before .before .before .before .before .before .named .given .0 .0 - 1) 0) (drop (getD (c .before .before .before .before .before .before .seek-record .result .map .starts) (c .before .before .before .before .before .before .before .before .before .named .given .0 .0 - 1) 0) (c .before .before .before .before .before .before .before .before .before .before .before .before .before .before .before .before .args .block .now))) ≡ ok (there c .item .size)
@@ -72,7 +71,7 @@ place-requires c κs = search needs
 
 returns : tie.Need-returns
 returns c =
-    ap locatedOf
+    ap itemSpan
     (ap₂ refused (c .before .number .ensures ∙ ap checkedNumber (c .before .before .enum-told2 .given .1)) (c .place .ensures ∙ ap checkedPlace (c .before .before .enum-told2 .given .1))
     ∙ sym (item-refused _ _ _ _ _ (sym (c .before .before .before .before .open-block .ensures .0) ∙ ap (openedBy (c .before .before .before .before .open-block .result .profile)) (c .before .before .enum-told2 .given .1))))
 
@@ -87,7 +86,7 @@ enum-told-3 c = search needs
 
 returns-2 : tie.Need-returns-2
 returns-2 c =
-    ap locatedOf
+    ap itemSpan
     (sym (item-unknown _ _ _ (opening (c .before .before .before)) (is-open (c .before .before .before))
     (frn-none _ 1 (places (opening (c .before .before .before) .category))
     (ap (λ z. frnAs (c .before .before .before .before .before .before .before .args .reference) 1 (concat z)) (profile-is (c .before .before .before .before .before .open-block .result .profile)) ∙ sym (c .before .before .frn-of .ensures) ∙ ap frnOf (c .enum-told3 .given .1)))))
@@ -112,10 +111,10 @@ enum-told-4 c = search needs
 
 returns-3 : tie.Need-returns-3
 returns-3 c =
-    ap locatedOf
+    ap itemSpan
     (sym (no-record-at _ _ _ _ _ (is-open (c .before .before .before .before .before .before .before .before)) _ _ _ (named (c .before .before .before .before))
     (lost _ (c .before .before .seek-record .result) _ _
-    (c .before .before .seek-record .ensures ∙ ap (λ z. recordLocated (seekAt (opening (c .before .before .before .before .before .before .before .before) .category) 3 z (c .before .before .before .before .before .before .before .before .before .before .before .before .args .n))) (to-end (c .before .before .before .before .before .before .before .before .before .before .before .before .args .block .now) 3)) (c .enum-told4 .given .1))))
+    (subst (λ z. Located (c .before .before .seek-record .result) (seekAt (opening (c .before .before .before .before .before .before .before .before) .category) 3 z (c .before .before .before .before .before .before .before .before .before .before .before .before .args .n))) (to-end (c .before .before .before .before .before .before .before .before .before .before .before .before .args .block .now) 3) (c .before .before .seek-record .ensures)) (c .enum-told4 .given .1))))
 
 sub-first : tie.Need-sub-first
 sub-first c = omega (arith, named (c .before .before .before .before .before .before) .frn-is)
@@ -128,8 +127,8 @@ element-copy-out-first c = index-in _ _ (c .before .before .before .before .befo
 
 returns-4 : tie.Need-returns-4
 returns-4 c =
-    ap (itemLocated.Refused 20) (sym (sought (c .before .before .before) .start-is))
-    ∙ ap locatedOf (sym (absent-at _ _ _ _ _ (is-open (c .before .before .before .before .before .before .before .before .before .before .before .before)) _ (sought (c .before .before .before) .map) _ (named (c .before .before .before .before .before .before .before .before)) (sought (c .before .before .before) .found) (sought (c .before .before .before) .starts-is) (c .if1 .taken)))
+    ap (refused 20) (sym (sought (c .before .before .before) .start-is))
+    ∙ ap itemSpan (sym (absent-at _ _ _ _ _ (is-open (c .before .before .before .before .before .before .before .before .before .before .before .before)) _ (sought (c .before .before .before) .map) _ (named (c .before .before .before .before .before .before .before .before)) (sought (c .before .before .before) .found) (ap (λ z. z .starts) (sought (c .before .before .before) .map-is)) (c .if1 .taken)))
 
 cast-at : tie.Need-cast-at
 cast-at c = record { fits = omega (arith, there c .start-is, there c .inside, is-open (c .before .before .before .before .before .before .before .before .before .before .before .before) .few) }
@@ -157,8 +156,8 @@ returns-5 c = refused-ok (ap checkedOf (sym (c .enum-told5 .given .1)) ∙ c .be
 
 returns-6 : tie.Need-returns-6
 returns-6 c =
-    ap₂ itemLocated.At (there (c .before .before .before .before .before) .start-is) (ok-inj (ap checkedOf (sym (c .before .item .given .1)) ∙ c .before .before .before .check-item .ensures ∙ checked (c .before .before .before .before .before)))
-    ∙ ap locatedOf (sym (there (c .before .before .before .before .before) .found))
+    ap₂ (λ x y. ok (x, y)) (there (c .before .before .before .before .before) .start-is) (ok-inj (ap checkedOf (sym (c .before .item .given .1)) ∙ c .before .before .before .check-item .ensures ∙ checked (c .before .before .before .before .before)))
+    ∙ ap itemSpan (sym (there (c .before .before .before .before .before) .found))
 
 pub locate-item-spec : {M : Type 1} → statement M
 locate-item-spec =

@@ -1,6 +1,6 @@
 -- `find::locate_record` meets its contract: a block that is refused is not searched; else the record is sought among those after the head.
 -- Assumes nothing.
-use mathlib.Core.Path.{sym, ap, ap₂, _∙_}
+use mathlib.Core.Path.{sym, ap, ap₂, _∙_, subst}
 use borrow.Author.Needs.{needs}
 use native.Mathlib.Omega.{arith}
 use Rattle.rules.specs.Answer.{refused}
@@ -9,7 +9,7 @@ use Rattle.blocks.specs.Read.{Opening}
 use Rattle.blocks.specs.Answers.{checkedNumber, checkedPlace, openedBy}
 use Rattle.blocks.proofs.LoopLaws.{octets-each, to-end}
 use Rattle.blocks.proofs.OpenLaws.{Opens, opens, opens-records}
-use Rattle.finding.specs.Found.{seekAt, recordLocated}
+use Rattle.finding.specs.Found.{seekAt, Located}
 use Rattle.finding.proofs.FindLaws.{find-refused, find-record}
 use Rattle.finding.proofs.find.locate_record.Statement.{statement}
 use Rattle.finding.proofs.find.locate_record.Tie as tie
@@ -43,10 +43,9 @@ record-lost-requires c κs = search needs
 
 returns : tie.Need-returns
 returns c =
-    c .record-lost .ensures
-    ∙ ap recordLocated
+    subst (Located (c .record-lost .result))
     (ap₂ refused (c .before .before .number .ensures ∙ ap checkedNumber (c .before .before .before .enum-told2 .given .1)) (c .before .place .ensures ∙ ap checkedPlace (c .before .before .before .enum-told2 .given .1))
-    ∙ sym (find-refused _ _ _ _ (sym (c .before .before .before .before .before .open-block .ensures .0) ∙ ap (openedBy (c .before .before .before .before .before .open-block .result .profile)) (c .before .before .before .enum-told2 .given .1))))
+    ∙ sym (find-refused _ _ _ _ (sym (c .before .before .before .before .before .open-block .ensures .0) ∙ ap (openedBy (c .before .before .before .before .before .open-block .result .profile)) (c .before .before .before .enum-told2 .given .1)))) (c .record-lost .ensures)
 
 sub-seek-record : tie.Need-sub-seek-record
 sub-seek-record c = omega (arith, is-open c .room)
@@ -62,8 +61,7 @@ seek-record-requires c κs = (omega (arith, is-open (c .before) .few, is-open (c
 
 returns-2 : tie.Need-returns-2
 returns-2 c =
-    c .seek-record .ensures
-    ∙ ap recordLocated (ap (λ z. seekAt (opening (c .before .before) .category) 3 z (c .before .before .before .before .before .before .args .n)) (to-end (c .before .before .before .before .before .before .args .block .now) 3) ∙ sym (find-record _ _ (opening (c .before .before)) (is-open (c .before .before))))
+    subst (Located (c .seek-record .result)) (ap (λ z. seekAt (opening (c .before .before) .category) 3 z (c .before .before .before .before .before .before .args .n)) (to-end (c .before .before .before .before .before .before .args .block .now) 3) ∙ sym (find-record _ _ (opening (c .before .before)) (is-open (c .before .before)))) (c .seek-record .ensures)
 
 pub locate-record-spec : {M : Type 1} → statement M
 locate-record-spec =

@@ -1,14 +1,14 @@
 -- `find::seek_record` meets its contract. The loop's invariant: the rule on what is left, with as many fewer to pass, is the rule on the whole. The measure is
 -- the length of what is left. Assumes nothing.
 use Prim.Native.Nat.{_-_}
-use mathlib.Core.Path.{refl, sym, ap, _∙_}
+use mathlib.Core.Path.{refl, sym, _∙_, subst}
 use borrow.Author.Needs.{needs}
 use native.Mathlib.Omega.{arith}
 use lib.ListN.{length}
 use Rattle.sets.specs.Sets.{categoryAt}
 use Rattle.blocks.proofs.LoopLaws.{octets-each, to-end}
 use Rattle.blocks.proofs.RecordLaws.{Accepted, ended-accepted, ended-refused, seek-stop}
-use Rattle.finding.specs.Found.{recordLocated}
+use Rattle.finding.specs.Found.{Located}
 use Rattle.finding.proofs.SeekLaws.{seek-end, seek-here, Seeking, seek-again, walked-map, located-at}
 use Rattle.finding.proofs.find.seek_record.Statement.{statement}
 use Rattle.finding.proofs.find.seek_record.Tie as tie
@@ -53,7 +53,7 @@ sub-used c = omega (arith, accepted c .low)
 returns-2 : tie.Need-returns-2 Inv-loop μ-loop
 returns-2 c =
     located-at (accepted (c .before .before)) (c .before .before .before .before .before .check-record .result .map) (walked-map _ _ _ (c .before .before .before .before .before .check-record .result) (c .before .before .before .before .before .check-record .ensures) _ (accepted (c .before .before)))
-    ∙ ap recordLocated (sym (seek-here _ _ (c .before .before .before .before .before .before .before .loop .rest .now) _ _ (c .before .before .before .before .before .before .before .loop .inv .octets) (c .before .before .before .before .before .before .before .loop .inv .records) (accepted (c .before .before)) (c .before .if1 .taken)) ∙ c .before .before .before .before .before .before .before .loop .inv .same)
+    (sym (c .before .before .before .before .before .before .before .loop .inv .same) ∙ seek-here _ _ (c .before .before .before .before .before .before .before .loop .rest .now) _ _ (c .before .before .before .before .before .before .before .loop .inv .octets) (c .before .before .before .before .before .before .before .loop .inv .records) (accepted (c .before .before)) (c .before .if1 .taken))
 
 sub-rest : tie.Need-sub-rest Inv-loop μ-loop
 sub-rest c = omega (arith, accepted (c .before) .low, accepted (c .before) .high)
@@ -78,7 +78,7 @@ record-lost-requires-2 : tie.Need-record-lost-requires-2 Inv-loop μ-loop
 record-lost-requires-2 c κs = search needs
 
 returns-3 : tie.Need-returns-3 Inv-loop μ-loop
-returns-3 c = c .record-lost2 .ensures ∙ ap recordLocated (sym (seek-end _ _ _ _ (omega arith)) ∙ c .before .before .loop .inv .same)
+returns-3 c = subst (Located (c .record-lost2 .result)) (sym (seek-end _ _ _ _ (omega arith)) ∙ c .before .before .loop .inv .same) (c .record-lost2 .ensures)
 
 pub seek-record-spec : {M : Type 1} → statement M
 seek-record-spec =

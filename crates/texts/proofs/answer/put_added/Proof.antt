@@ -1,5 +1,4 @@
 -- `answer::put_added` meets its contract: the block, or the refusal and which part it is about. Assumes nothing.
-use mathlib.Core.Path.{sym, _∙_}
 use Rattle.blocks.proofs.LoopLaws.{octets-each}
 use Rattle.lines.proofs.PageLaws.{instead, after}
 use Rattle.texts.proofs.TextLaws.{added-few, added-ok, added-old, added-new}
@@ -26,7 +25,7 @@ part-put-made-start : tie.Need-part-put-made-start
 part-put-made-start c = search needs
 
 part-put-made-end : tie.Need-part-put-made-end
-part-put-made-end c = added-few _ _ _ _ _ (c .before .before .before .before .before .before .before .before .before .before .before .before .add-record .ensures .1) (octets-each (c .before .before .before .before .before .before .before .before .before .before .before .before .before .before .before .before .before .args .made .now) (c .before .before .before .before .before .before .before .before .before .before .before .before .before .before .before .before .slice-known .given)) _ (sym (c .before .before .before .before .before .before .before .before .len .given .1) ∙ c .before .before .before .before .before .before .before .before .before .before .before .before .add-record .ensures .0)
+part-put-made-end c = added-few _ _ _ _ _ _ (c .before .before .before .before .before .before .before .before .before .before .before .before .add-record .ensures .0) (c .before .before .before .before .before .before .before .before .before .before .before .before .add-record .ensures .1) (octets-each (c .before .before .before .before .before .before .before .before .before .before .before .before .before .before .before .before .before .args .made .now) (c .before .before .before .before .before .before .before .before .before .before .before .before .before .before .before .before .slice-known .given)) _ (c .before .before .before .before .before .before .before .before .len .given .1)
 
 put-made-requires : tie.Need-put-made-requires
 put-made-requires c κs = search needs
@@ -62,7 +61,7 @@ same-length-2 : tie.Need-same-length-2
 same-length-2 c = search needs
 
 returns : tie.Need-returns
-returns c = instead _ (after _ _ _ (c .before .before .before .before .before .before .before .before .put-text .ensures) (c .before .before .put-made .ensures)) (added-ok _ _ _ _ _ (c .before .before .before .before .before .before .before .before .before .before .before .before .before .before .before .before .add-record .ensures .1) (octets-each (c .before .before .before .before .before .before .before .before .before .before .before .before .before .before .before .before .before .before .before .before .before .args .made .now) (c .before .before .before .before .before .before .before .before .before .before .before .before .before .before .before .before .before .before .before .before .slice-known .given)) _ (sym (c .before .before .before .before .before .before .before .before .before .before .before .before .len .given .1) ∙ c .before .before .before .before .before .before .before .before .before .before .before .before .before .before .before .before .add-record .ensures .0))
+returns c = instead _ (after _ _ _ (c .before .before .before .before .before .before .before .before .put-text .ensures) (c .before .before .put-made .ensures)) (added-ok _ _ _ _ _ _ (c .before .before .before .before .before .before .before .before .before .before .before .before .before .before .before .before .add-record .ensures .0) (c .before .before .before .before .before .before .before .before .before .before .before .before .before .before .before .before .add-record .ensures .1) (octets-each (c .before .before .before .before .before .before .before .before .before .before .before .before .before .before .before .before .before .before .before .before .before .args .made .now) (c .before .before .before .before .before .before .before .before .before .before .before .before .before .before .before .before .before .before .before .before .slice-known .given)) _ (c .before .before .before .before .before .before .before .before .before .before .before .before .len .given .1))
 
 same-length-3 : tie.Need-same-length-3
 same-length-3 c = search needs
@@ -71,7 +70,7 @@ same-length-4 : tie.Need-same-length-4
 same-length-4 c = search needs
 
 returns-2 : tie.Need-returns-2
-returns-2 c = instead _ (after _ _ _ (c .before .before .before .before .before .before .before .put-refused .ensures) (c .before .before .put-text2 .ensures)) (added-old _ _ _ (sym (c .before .before .before .before .before .before .before .before .before .before .number .given .1) ∙ c .before .before .before .before .before .before .before .before .before .before .before .before .before .before .add-record .ensures .0))
+returns-2 c = instead _ (after _ _ _ (c .before .before .before .before .before .before .before .put-refused .ensures) (c .before .before .put-text2 .ensures)) (added-old _ _ (c .before .before .before .before .before .before .before .before .before .before .before .before .before .before .add-record .ensures .0) _ _ (c .before .before .before .before .before .before .before .before .before .before .number .given .1))
 
 same-length-5 : tie.Need-same-length-5
 same-length-5 c = search needs
@@ -80,7 +79,7 @@ same-length-6 : tie.Need-same-length-6
 same-length-6 c = search needs
 
 returns-3 : tie.Need-returns-3
-returns-3 c = instead _ (after _ _ _ (c .before .before .before .before .before .before .before .put-refused2 .ensures) (c .before .before .put-text3 .ensures)) (added-new _ _ _ (sym (c .before .before .before .before .before .before .before .before .before .before .number2 .given .1) ∙ c .before .before .before .before .before .before .before .before .before .before .before .before .before .before .add-record .ensures .0))
+returns-3 c = instead _ (after _ _ _ (c .before .before .before .before .before .before .before .put-refused2 .ensures) (c .before .before .put-text3 .ensures)) (added-new _ _ (c .before .before .before .before .before .before .before .before .before .before .before .before .before .before .add-record .ensures .0) _ _ (c .before .before .before .before .before .before .before .before .before .before .number2 .given .1))
 
 pub put-added-spec : {M : Type 1} → statement M
 put-added-spec =

@@ -1,5 +1,4 @@
 -- `answer::put_found` meets its contract: where the item lies and its octets, or the refusal. Assumes nothing.
-use mathlib.Core.Path.{sym, _∙_}
 use Rattle.lines.proofs.PageLaws.{instead, after}
 use Rattle.texts.proofs.TextLaws.{found-ok, found-not}
 use borrow.Author.Needs.{needs}
@@ -43,13 +42,13 @@ same-length : tie.Need-same-length
 same-length c = search needs
 
 returns : tie.Need-returns
-returns c = instead _ (after _ _ _ (c .before .before .before .before .before .before .before .before .before .before .before .before .before .before .before .before .before .before .before .put-text .ensures) (after _ _ _ (c .before .before .before .before .before .before .before .before .before .before .before .before .before .before .before .put-decimal .ensures) (after _ _ _ (c .before .before .before .before .before .before .before .before .before .before .before .put-number .ensures) (after _ _ _ (c .before .before .before .before .before .before .before .put .ensures) (c .before .before .put-octets .ensures))))) (found-ok _ _ _ _ _ _ (sym (c .before .before .before .before .before .before .before .before .before .before .before .before .before .before .before .before .before .before .before .before .before .before .before .start .given .1) ∙ c .before .before .before .before .before .before .before .before .before .before .before .before .before .before .before .before .before .before .before .before .before .before .before .before .before .locate-item .ensures) (c .before .before .before .find-item .ensures .bytes))
+returns c = instead _ (after _ _ _ (c .before .before .before .before .before .before .before .before .before .before .before .before .before .before .before .before .before .before .before .put-text .ensures) (after _ _ _ (c .before .before .before .before .before .before .before .before .before .before .before .before .before .before .before .put-decimal .ensures) (after _ _ _ (c .before .before .before .before .before .before .before .before .before .before .before .put-number .ensures) (after _ _ _ (c .before .before .before .before .before .before .before .put .ensures) (c .before .before .put-octets .ensures))))) (found-ok _ _ _ _ (c .before .before .before .before .before .before .before .before .before .before .before .before .before .before .before .before .before .before .before .before .before .before .before .before .before .locate-item .ensures) _ _ _ (c .before .before .before .before .before .before .before .before .before .before .before .before .before .before .before .before .before .before .before .before .before .before .before .start .given .1) (c .before .before .before .find-item .ensures .bytes))
 
 same-length-2 : tie.Need-same-length-2
 same-length-2 c = search needs
 
 returns-2 : tie.Need-returns-2
-returns-2 c = instead _ (c .before .before .put-refused .ensures) (found-not _ _ _ _ _ (sym (c .before .before .before .before .before .number .given .1) ∙ c .before .before .before .before .before .before .before .locate-item .ensures))
+returns-2 c = instead _ (c .before .before .put-refused .ensures) (found-not _ _ _ _ (c .before .before .before .before .before .before .before .locate-item .ensures) _ _ (c .before .before .before .before .before .number .given .1))
 
 pub put-found-spec : {M : Type 1} → statement M
 put-found-spec =
