@@ -1,5 +1,5 @@
 -- What the answer of adding says, case by case: the block's new length, or a refusal's number and place (document 01, "Refusal numbers and their order"); and
--- whether that place lies in the new items, or else in the old block. Then what the rules add, told so. Assumes nothing.
+-- whether that place lies in the new items, or else in the old block. Beside it, what the rules add, said so. Assumes nothing.
 use Prim.Native.Nat.{ℕ, _+_, _/_, _%_}
 use mathlib.Core.Bool.{Bool, true, false}
 use mathlib.Core.List.{List}
@@ -12,11 +12,13 @@ use Rattle.records.specs.declared.NewChecked.the-variants as newChecked
 use Rattle.adding.specs.declared.add.RecordAdded.{RecordAdded}
 use Rattle.adding.specs.declared.add.RecordAdded.the-variants as recordAdded
 
+-- what an answer says; true where the place lies in the new items
 abbrev pub addedOf : RecordAdded → Answer ℕ × Bool
 addedOf (recordAdded.Length n) = (ok n, false)
 addedOf (recordAdded.RefusedOld n p) = (refused n p, false)
 addedOf (recordAdded.RefusedNew n p) = (refused n p, true)
 
+-- what the rules answer, said so
 abbrev pub addedAs : Added → Answer ℕ × Bool
 addedAs (added bs) = (ok (length bs), false)
 addedAs (refusedOld n p) = (refused n p, false)

@@ -1,4 +1,4 @@
--- The struct that the code makes of an answer in hand, by its cases, and that it is the struct of the rules' answer.
+-- The struct that the code makes of an answer in hand, by what it says, and that it is the struct of the rules' answer.
 --
 -- In order: a case of an answer; checking; finding; one item; adding a record. Assumes nothing.
 use Prim.Native.Nat.{ℕ}
@@ -97,14 +97,14 @@ item-written a h e = in-case (λ x. writtenBy (writtenAs x)) (ap writtenBy h ∙
 
 -- ---- adding a record
 
--- whether the place lies in the new items
-abbrev pub inNew : Bool → ℕ
-inNew false = 0
-inNew true = 1
+-- 1 where the place lies in the new items
+abbrev pub flagOf : Bool → ℕ
+flagOf false = 0
+flagOf true = 1
 
 abbrev pub addedBy : Answer ℕ × Bool → RecordAdded
-addedBy (ok n, t) = record { number = 0; «in_new» = inNew t; place = 0; length = n }
-addedBy (refused n p, t) = record { number = n; «in_new» = inNew t; place = p; length = 0 }
+addedBy (ok n, t) = record { number = 0; «in_new» = flagOf t; place = 0; length = n }
+addedBy (refused n p, t) = record { number = n; «in_new» = flagOf t; place = p; length = 0 }
 
 added-by : (a : Added) → addedBy (addedAs a) ≡ recordAdded a
 unfolding recordAdded

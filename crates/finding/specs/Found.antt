@@ -1,5 +1,5 @@
 -- What the answers of finding say, case by case: where what was found lies, its first byte counted from the block's start and how many it has; or a
--- refusal's number and place (document 01, "Refusal numbers and their order"). Then what the rules find, told so. Assumes nothing.
+-- refusal's number and place (document 01, "Refusal numbers and their order"). Beside each, what the rules find, said so. Assumes nothing.
 use Prim.Native.Nat.{ℕ, _-_}
 use mathlib.Core.Path.{_≡_}
 use mathlib.Core.List.{List}
@@ -16,10 +16,12 @@ use Rattle.finding.specs.declared.find.ItemLocated.the-variants as itemL
 
 -- ---- a record
 
+-- what an answer says
 abbrev pub placeOf : RecordPlace → Answer (ℕ × ℕ)
 placeOf (recordPlace.At s l) = ok (s, l)
 placeOf (recordPlace.Refused n p) = refused n p
 
+-- what a rule answers, said so
 abbrev pub recordSpan : Answer RecordMap → Answer (ℕ × ℕ)
 recordSpan (ok m) = ok (m .start, m .end - m .start)
 recordSpan (refused n p) = refused n p

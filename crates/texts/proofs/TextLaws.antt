@@ -12,7 +12,7 @@ use lib.ListN.{length, take, drop, getD, replicate, drop-of-length-le}
 use lib.Seq.{length-take-le}
 use Rattle.rules.specs.Answer.{Answer, ok, refused, _>>=_}
 use Rattle.rules.specs.Record.{Category}
-use Rattle.rules.specs.Entry.{over, leaves, Added, added, leavesAdded, inNew, inOld, oldBlock, newRecord, joinRecord, Laid, RecordMap, mapOf, startOf, laidItems, numbered, openBlock, checkRecording, readOne, writeOne, findItem, findRecord, addRecord}
+use Rattle.rules.specs.Entry.{over, leaves, Added, added, leavesAdded, inNew, inOld, oldBlock, newRecord, joinRecord, RecordMap, mapOf, startOf, laidItems, numbered, openBlock, checkRecording, readOne, writeOne, findItem, findRecord, addRecord}
 use Rattle.rules.proofs.AnswerLaws.{Octets, ok-inj, bind-elim, need-elim}
 use Rattle.rules.proofs.EntryLaws.{length-over}
 use Rattle.items.specs.Answers.{countOf}
