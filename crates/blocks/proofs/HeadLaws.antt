@@ -128,7 +128,7 @@ module _ (fits : ℕ → ℕ → Bool) (bs : List ℕ) where
   unfolding headBy
   by-head h e f = bind-in _ e (need-in _ 3 (T-true f) refl)
 
-  head-by : readHead fits categories bs ≡ (headBy fits bs >>= λ h. ok (h, drop 3 bs))
+  pub head-by : readHead fits categories bs ≡ (headBy fits bs >>= λ h. ok (h, drop 3 bs))
   unfolding headBy _>>=_
   head-by =
       head-is fits bs

@@ -4,3 +4,4 @@ pub mod RecordLaws
 pub mod OpenLaws
 pub mod InsideLaws
 pub mod Unique
+pub mod HeadUnique
