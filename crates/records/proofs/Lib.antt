@@ -6,3 +6,4 @@ pub mod ItemLaws
 pub mod RecordLaws
 pub mod NewLaws
 pub mod Unique
+pub mod CheckedUnique

@@ -162,7 +162,8 @@ fn refused(number: u8, place: usize) -> RecordWalked
     }
 }
 
-fn checked_number(c: RecordChecked) -> u8
+// The number of a refusal, and its place; 0 where there is none.
+pub fn checked_number(c: RecordChecked) -> u8
     ensures { λ r. ⌜ r ≡ checkedNumber c ⌝ }
 {
     match c {
@@ -171,7 +172,7 @@ fn checked_number(c: RecordChecked) -> u8
     }
 }
 
-fn checked_place(c: RecordChecked) -> usize
+pub fn checked_place(c: RecordChecked) -> usize
     ensures { λ r. ⌜ r ≡ checkedPlace c ⌝ }
 {
     match c {
