@@ -3,7 +3,7 @@
 -- In order: the tables; flags that are not set; free items; the first three items; the steps of the loop; the record. Assumes nothing.
 use Prim.Native.Nat.{ℕ, zero, suc, _+_, _-_, _*_, _/_, _%_, _^_, _≤_, _<_}
 use mathlib.Core.Path.{_≡_, refl, sym, ap, ap₂, _∙_, subst}
-use mathlib.Core.Bool.{Bool, true, false, not, _&&_, _||_, false≢true}
+use mathlib.Core.Bool.{Bool, true, false, not, _&&_, false≢true}
 use mathlib.Core.Logic.{⊎-elim}
 use mathlib.Core.List.{List, [], _∷_, _++_}
 use native.Mathlib.Omega.{arith}
@@ -35,30 +35,20 @@ use Rattle.sets.specs.Steps.{typeFrn, rowAt, judgeSet}
 use Rattle.records.specs.Walk.{Came, passed, walk, startAt, recordBy}
 use Rattle.sets.specs.Answers.{setOf}
 use Rattle.records.specs.Answers.{recordAt}
-use Rattle.plain.specs.Record.{allBelow, typeSets, isRow, soundRow, free, allFree, freeSum, soundSum, soundTypes, Content, Goes, Later, Walks, Passed, endAt}
+use Rattle.steps.specs.Told.{allBelow}
+use Rattle.plain.specs.Record.{typeSets, isRow, soundRow, free, allFree, freeSum, soundSum, soundTypes, Content, Goes, Later, Walks, Passed, endAt}
 use Rattle.sets.specs.declared.ItemSet.{ItemSet}
 use Rattle.sets.specs.declared.SetRead.{SetRead}
 use Rattle.sets.specs.declared.SetRead.the-variants as set
 use Rattle.sets.proofs.FlagLaws.{flags-split, has-bit}
 use Rattle.sets.proofs.SetLaws.{octets-all, to-end}
 use Rattle.records.proofs.PlaceLaws.{check-within}
+use Rattle.steps.proofs.ToldLaws.{all-below, other}
 use Rattle.records.proofs.WalkLaws.{walk-none}
 use Rattle.sets.proofs.JudgeLaws.{judge-right}
 use Rattle.records.proofs.RecordLaws.{record-law, record-read, RecordRead}
 
 -- ---- the tables
-
-pub all-below : (n : ℕ) (p : ℕ → Bool) (j : ℕ) → allBelow n p ≡ true → j < n → p j ≡ true
-all-below zero p j h l = absurd (omega arith)
-all-below (suc n) p j h l =
-    ⊎-elim
-    (λ (k : n ≤ j). let e : n ≡ j = omega arith in subst (λ x. p x ≡ true) e (both-left (p n) (allBelow n p) h))
-    (λ (k : j < n). all-below n p j (both-right (p n) (allBelow n p) h) k)
-    (le-or-lt n j)
-
-pub other : (a b : Bool) → a || b ≡ true → (a ≡ true → ⊥) → b ≡ true
-other true b h n = absurd (n refl)
-other false b h n = h
 
 pub type-three : (i : ℕ) → i < 2 → 3 ≡ typeFrn i
 unfolding typeFrn frnAs if_then_else_ categoryAt categories category017 category018
@@ -119,11 +109,6 @@ content i bits kind must may {b = false} h e r g m k = tt
 pub right : (t : Bool) (a : Answer (Unit {0})) → Content t a → not t ≡ false → Content true a
 right true a h n = h
 right false a h n = absurd (false≢true (sym n))
-
--- an item that is told
-pub told : (n : ℕ) (a : Answer ℕ) → Plainly n a → (n ≡ 0 → ⊥) → a ≡ ok n
-told zero a h z = absurd (z refl)
-told (suc n) a h z = h
 
 pub tell : (n : ℕ) (a : Answer ℕ) → a ≡ ok n → Plainly n a
 tell zero a h = tt

@@ -33,10 +33,13 @@ use Rattle.sets.specs.declared.SetRead.the-variants as set
 use Rattle.sets.proofs.SetLaws.{set-law, octets-all, to-end}
 use Rattle.records.proofs.WalkLaws.{walk-none}
 use Rattle.steps.specs.Item.{Plainly, firstThree, asks, soundSingle, soundCounted}
-use Rattle.plain.specs.Record.{allBelow, typeSets, soundTypes, free, Content, Goes, Later, Walks, Passed, endAt}
+use Rattle.steps.specs.Told.{allBelow}
+use Rattle.plain.specs.Record.{typeSets, soundTypes, free, Content, Goes, Later, Walks, Passed, endAt}
 use Rattle.plain.specs.Shape.{lowNumber, lowOctets, usedOf, startOf, tailOf, profileOf, typesOf, wordOf, soundType, soundMask, isFree, runSum, runLeft, soundSpecial, soundFirst, soundThen, soundItems, shapeBy, bounded, soundShape, soundShapeAt, soundSets, Front, Fronts, Listed, OfType}
 use Rattle.steps.proofs.ItemLaws.{octet-at, cut, free-check, ruled-told, counted-told}
-use Rattle.plain.proofs.RecordLaws.{all-below, other, row-under, row-read, blank, one, none-here, kind-stays, Skipped, third, first-three, third-here, third-kind, seven, content, told, plain-whole}
+use Rattle.steps.proofs.ToldLaws.{told}
+use Rattle.steps.proofs.ToldLaws.{all-below, other}
+use Rattle.plain.proofs.RecordLaws.{row-under, row-read, blank, one, none-here, kind-stays, Skipped, third, first-three, third-here, third-kind, seven, content, plain-whole}
 
 octet-here : (n : ℕ) (xs bs : List ℕ) → xs ≡ drop n bs → getD xs 0 0 ≡ getD bs n 0
 octet-here n xs bs e = ap (λ l. getD l 0 0) e ∙ getD-drop n bs 0 0 ∙ ap (λ y. getD bs y 0) (add-zero n)

@@ -13,12 +13,9 @@ use Rattle.sets.specs.Steps.{markBits, rowAt}
 use Rattle.records.specs.Walk.{Came, walk, startAt}
 use Rattle.sets.specs.Sets.{categoryAt}
 use Rattle.records.specs.Answers.{recordAt}
+use Rattle.steps.specs.Told.{allBelow}
 
 -- ---- the tables
-
-abbrev pub allBelow : ℕ → (ℕ → Bool) → Bool
-allBelow zero p = true
-allBelow (suc n) p = p n && allBelow n p
 
 -- what each message type must have, and must or may have, after a row that is no type's
 abbrev pub setsIn : ℕ → List ℕ

@@ -13,7 +13,8 @@ use Rattle.tables.specs.Tables.{layoutAt, placeRowAt}
 use Rattle.sets.specs.Sets.{categoryAt, within}
 use Rattle.sets.specs.Steps.{setFrom, rowAt}
 use Rattle.steps.specs.Item.{firstThree, asks, soundSingle, soundCounted}
-use Rattle.plain.specs.Record.{allBelow, typeSets, free}
+use Rattle.steps.specs.Told.{allBelow}
+use Rattle.plain.specs.Record.{typeSets, free}
 
 -- ---- octets as a number, the first one lowest
 

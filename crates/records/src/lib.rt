@@ -11,12 +11,14 @@ use sets::octets_of;
 use sets::set_number;
 use sets::type_frn;
 use sets::usable;
+use steps::told_item;
 ghost use mathlib.Core.Path.{_≡_};
 ghost use Prim.Native.Nat.{_+_, _^_, _<_};
 ghost use lib.ListN.{length, getD};
 ghost use lib.Dec.{eqb};
 ghost use Rattle.rules.specs.Answer.{if_then_else_};
 ghost use Rattle.rules.specs.Presence.{flags};
+ghost use Rattle.items.specs.Answers.{checkAt, checkedOf};
 ghost use Rattle.records.specs.Walk.{walk, startAt};
 ghost use Rattle.records.specs.Answers.{itemNumber, itemPlace, cameOf, absent, checkedNumber, checkedPlace, Walked, recordAt, newOf, newAt};
 
@@ -108,6 +110,17 @@ fn type_octet(of: usize, frn: usize, kind: u8, item: &[u8]) -> u8
     item[0]
 }
 
+// The item at an FRN: at once where that tells it, and else by the exact check.
+fn item_check(profile: usize, frn: usize, part: &[u8]) -> ItemCheck
+    ensures { λ r. ⌜ checkedOf r ≡ checkAt profile frn (now (part .entry)) ⌝ }
+{
+    let n = told_item(profile, frn, part);
+    if n != 0 {
+        return ItemCheck::Whole(n);
+    }
+    check_item(profile, frn, part)
+}
+
 // The items of a set, one after the other: each takes the part that starts at its place and hands the remainder on.
 fn walk_items(profile: usize, set: ItemSet, part: &[u8], at: usize) -> ItemsWalked
     requires { ⌜ set .bits < 2 ^ 63 ⌝ }
@@ -129,7 +142,7 @@ fn walk_items(profile: usize, set: ItemSet, part: &[u8], at: usize) -> ItemsWalk
             frn = frn + 1;
             continue;
         }
-        let c = check_item(profile, frn, rest);
+        let c = item_check(profile, frn, rest);
         let ItemCheck::Whole(n) = c else {
             return stopped(item_number(c), here + item_place(c));
         };

@@ -1,5 +1,8 @@
 // The check of an item that accepts only, with few looks: by a table that the caller lends, since a constant is written out where it is read. What it
 // does not tell is left to the exact check.
+mod told;
+
+pub use told::told_item;
 ghost use mathlib.Core.Path.{_≡_};
 ghost use mathlib.Core.Bool.{true};
 ghost use Prim.Native.Nat.{_≤_, _<_, _^_};

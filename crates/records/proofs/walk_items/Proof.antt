@@ -33,8 +33,8 @@ loop-less c = omega (arith, stand-less _ _ _ _ _ _ _ _ _ _ _ _ (c .before .befor
 loop-again : tie.Need-loop-again Inv-loop μ-loop
 loop-again c = stand-skip _ _ _ _ _ _ _ _ _ _ _ _ (c .before .before .loop .inv) (c .before .loop-test .taken) (c .if1 .taken)
 
-check-item-requires : tie.Need-check-item-requires Inv-loop μ-loop
-check-item-requires c κs = search needs
+item-check-requires : tie.Need-item-check-requires Inv-loop μ-loop
+item-check-requires c κs = search needs
 
 enum-known-c : tie.Need-enum-known-c Inv-loop μ-loop
 enum-known-c c = search needs
@@ -52,7 +52,7 @@ item-place-requires c κs = search needs
 barred : (c : tie.After-item-place Inv-loop μ-loop)
     → checkAt (c .before .before .before .before .before .before .before .before .before .before .args .profile) (c .before .before .before .before .before .before .before .loop .frn)
     (c .before .before .before .before .before .before .before .loop .rest .now) ≡ refused (c .before .item-number .result) (c .item-place .result)
-barred c = check-refused _ _ _ _ _ _ (c .before .before .before .before .check-item .ensures) (c .before .before .enum-told .given .1) (c .before .item-number .ensures) (c .item-place .ensures)
+barred c = check-refused _ _ _ _ _ _ (c .before .before .before .before .item-check .ensures) (c .before .before .enum-told .given .1) (c .before .item-number .ensures) (c .item-place .ensures)
 
 add-stopped : tie.Need-add-stopped Inv-loop μ-loop
 add-stopped c = omega (arith, check-start _ _ _ _ _ (barred c), c .before .before .before .before .before .before .before .loop .inv .room)
@@ -70,7 +70,7 @@ returns c =
 item : (c : tie.After-known-told Inv-loop μ-loop)
     → checkAt (c .before .before .before .before .before .before .before .before .before .args .profile) (c .before .before .before .before .before .before .loop .frn)
     (c .before .before .before .before .before .before .loop .rest .now) ≡ ok (c .before .c .given .0 .0)
-item c = sym (c .before .before .before .check-item .ensures) ∙ ap checkedOf (c .before .c .given .1)
+item c = sym (c .before .before .before .item-check .ensures) ∙ ap checkedOf (c .before .c .given .1)
 
 within : (c : tie.After-known-told Inv-loop μ-loop) → c .before .c .given .0 .0 ≤ length (c .before .before .before .before .before .before .loop .rest .now)
 within c = check-within _ _ _ _ (item c)
@@ -140,7 +140,7 @@ walk-items-spec =
     add-frn
     loop-less
     loop-again
-    check-item-requires
+    item-check-requires
     enum-known-c
     enum-told
     item-number-requires

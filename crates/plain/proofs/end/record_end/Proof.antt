@@ -10,7 +10,8 @@ use borrow.Author.Needs.{needs}
 use Rattle.rules.specs.Answer.{ok}
 use Rattle.steps.specs.Item.{Plainly}
 use Rattle.plain.specs.Record.{endAt}
-use Rattle.plain.proofs.RecordLaws.{told, end-anywhere, end-within}
+use Rattle.steps.proofs.ToldLaws.{told}
+use Rattle.plain.proofs.RecordLaws.{end-anywhere, end-within}
 use Rattle.plain.proofs.end.record_end.Statement.{statement}
 use Rattle.plain.proofs.end.record_end.Tie as tie
 

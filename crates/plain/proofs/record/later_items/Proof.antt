@@ -9,7 +9,8 @@ use borrow.Author.Needs.{needs}
 use Rattle.rules.specs.Answer.{ok}
 use Rattle.items.specs.Answers.{checkAt}
 use Rattle.records.proofs.PlaceLaws.{check-within}
-use Rattle.plain.proofs.RecordLaws.{told, Standing, stand-first, Next, next, weight-there, stand-next, stand-end}
+use Rattle.steps.proofs.ToldLaws.{told}
+use Rattle.plain.proofs.RecordLaws.{Standing, stand-first, Next, next, weight-there, stand-next, stand-end}
 use Rattle.plain.proofs.record.later_items.Statement.{statement}
 use Rattle.plain.proofs.record.later_items.Tie as tie
 
