@@ -1,0 +1,186 @@
+// The records of a recording, one at each step: a cursor by value stands in a block, and a step reads the record there, or the next block's head and its
+// first record (document 01, "Block, record, item" and "Refusal numbers and their order"). No block is checked as a whole.
+use blocks::HEAD;
+use blocks::HeadRead;
+use blocks::ProfileFound;
+use records::RecordChecked;
+use records::RecordMap;
+ghost use mathlib.Core.Path.{_≡_};
+ghost use Prim.Native.Nat.{_≤_};
+ghost use lib.ListN.{length};
+ghost use Rattle.walking.specs.Walk.{begin, more, Stands, stays, answered, openAt, recordAt, nextRecord};
+ghost use Rattle.walking.specs.Answers.{foundOf};
+
+// Where a walk stands: in the block that starts at `block` and ends before `end`, of a category, at `place`; all counted from the recording's start.
+pub struct Cursor {
+    pub block: usize,
+    pub place: usize,
+    pub end: usize,
+    pub category: u8,
+}
+
+impl Cursor {
+    // Before the first block.
+    pub fn start() -> Cursor
+        ensures { λ r. ⌜ r ≡ begin ⌝ }
+    {
+        Cursor {
+            block: 0,
+            place: 0,
+            end: 0,
+            category: 0,
+        }
+    }
+
+    // Whether it stands in a block of a recording of so many bytes, and not at the recording's end.
+    fn has_more(self, len: usize) -> bool
+        ensures { λ r. ⌜ r ≡ more len self ⌝ }
+    {
+        if self.place < self.block {
+            return false;
+        }
+        if self.end < self.place {
+            return false;
+        }
+        if len < self.end {
+            return false;
+        }
+        if 65536 <= self.end - self.block {
+            return false;
+        }
+        self.place < len
+    }
+}
+
+// What a step meets.
+pub enum Met {
+    // A record: its first byte, counted from the recording's start, how many bytes it has, and its category.
+    Record {
+        start: usize,
+        length: usize,
+        category: u8,
+    },
+    // Nothing more: the recording's end, or a cursor that stands in no block of it.
+    Finished,
+    // The number of the refusal and its place, counted from the recording's start.
+    Refused {
+        number: u8,
+        place: usize,
+    },
+}
+
+// What it meets; the record's map, its places counted from the start of the record's block, which is `next.block`, and every place of it absent where there is no record;
+// and where the walk goes on: the cursor given where there is no record.
+pub struct Walked {
+    pub met: Met,
+    pub map: RecordMap,
+    pub next: Cursor,
+}
+
+fn stayed(cursor: Cursor, met: Met) -> Walked
+    ensures { λ r. ⌜ r ≡ stays cursor met ⌝ }
+{
+    Walked {
+        met,
+        map: RecordMap::absent(),
+        next: cursor,
+    }
+}
+
+// ---- a block's head
+
+// A cursor at a block's first record, or a refusal's number and place.
+enum BlockFound {
+    At(Cursor),
+    Refused { number: u8, place: usize },
+}
+
+// The block that starts at a place.
+fn open_at(recording: &[u8], start: usize) -> BlockFound
+    requires { ⌜ start ≤ length (now recording) ⌝ }
+    ensures { λ r. ⌜ foundOf r ≡ openAt (now (recording .entry)) start ⌝ }
+{
+    let part = &recording[start..];
+    let head = blocks::front_head(part);
+    let HeadRead::Head { profile: _, len } = head else {
+        return BlockFound::Refused {
+            number: head.number(),
+            place: start,
+        };
+    };
+    if len == HEAD {
+        return BlockFound::Refused {
+            number: 4,
+            place: start,
+        };
+    }
+    BlockFound::At(Cursor {
+        block: start,
+        place: start + HEAD,
+        end: start + len,
+        category: part[0],
+    })
+}
+
+// ---- a record
+
+// The record that a cursor stands at, in a step from another cursor.
+fn record_at(recording: &[u8], from: Cursor, at: Cursor) -> Walked
+    requires { ⌜ Stands (length (now recording)) at ⌝ }
+    ensures { λ r. ⌜ r ≡ answered from (recordAt (now (recording .entry)) at) ⌝ }
+{
+    let block = at.block;
+    let place = at.place;
+    let end = at.end;
+    let category = at.category;
+    let found = blocks::profile_of(category);
+    let ProfileFound::Profile(profile) = found else {
+        return stayed(from, Met::Refused { number: 2, place });
+    };
+    let offset = place - block;
+    let walked = records::check_record(profile, &recording[place..end], offset);
+    let checked = walked.checked;
+    let RecordChecked::Ends { end: stop } = checked else {
+        return stayed(
+            from,
+            Met::Refused {
+                number: records::checked_number(checked),
+                place: block + records::checked_place(checked),
+            },
+        );
+    };
+    let map = walked.map;
+    Walked {
+        met: Met::Record {
+            start: place,
+            length: stop - offset,
+            category,
+        },
+        map,
+        next: Cursor {
+            block,
+            place: block + stop,
+            end,
+            category,
+        },
+    }
+}
+
+// ---- a step
+
+// The next record of a recording: the one at the cursor's place, or the first of the next block where the cursor's block is at its end.
+pub fn next_record(recording: &[u8], cursor: Cursor) -> Walked
+    ensures { λ r. ⌜ r ≡ nextRecord (now (recording .entry)) cursor ⌝ }
+{
+    if !cursor.has_more(recording.len()) {
+        return stayed(cursor, Met::Finished);
+    }
+    if cursor.place < cursor.end {
+        return record_at(recording, cursor, cursor);
+    }
+    let found = open_at(recording, cursor.end);
+    match found {
+        BlockFound::At(at) => record_at(recording, cursor, at),
+        BlockFound::Refused { number, place } => stayed(cursor, Met::Refused { number, place }),
+    }
+}
