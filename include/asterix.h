@@ -7,8 +7,8 @@
  *     rt staticlib asterix                                     writes target/staticlib/libasterix.a
  *     cc -Iinclude program.c target/staticlib/libasterix.a     x86-64 Linux; C99, C11 or C++
  *
- * In order: what holds of every call; refusals; checking; finding; one item; adding a record; lengths; the
- * items and their fields.
+ * In order: what holds of every call; refusals; checking; finding; walking a log; one item; adding a record;
+ * lengths; the items and their fields.
  *
  *
  * What holds of every call
@@ -24,7 +24,8 @@
  * - Calls from several threads at once are fine where none writes to what another reads or writes.
  *
  * Each answer is a struct by value. Its `number` is 0 where the work was done, and else the refusal's, 1 to 21;
- * its `place` is that of the refusal, and 0 where there is none. Its other members are 0 where it is a refusal.
+ * its `place` is that of the refusal, and 0 where there is none. Its other members are 0 where it is a refusal
+ * (but for `next` of a walk).
  *
  * Octets are counted from 0, records of a block from 0, field reference numbers (FRN) from 1, as the documents
  * do.
@@ -163,7 +164,9 @@ struct asterix_record_found {
     uint16_t starts[ASTERIX_FRNS];
 };
 
-/* Finds record `n` of a single block. The whole block is checked first: 1 to 15; then 19. */
+/* Finds record `n` of a single block. The whole block is checked first: 1 to 15; then 19. Each call does so anew,
+ * and passes the records before the one asked for: to go through all records of a block or a log, walk it
+ * (asterix_next_record). */
 struct asterix_record_found asterix_find_record(const uint8_t *block, size_t block_len, size_t n);
 
 struct asterix_item_found {
@@ -174,8 +177,63 @@ struct asterix_item_found {
 };
 
 /* Finds the item with `reference` (45 for I017/045) in record `n` of a single block. The whole block is checked
- * first: 1 to 15; then 21, 19, 20. */
+ * first, on each call: 1 to 15; then 21, 19, 20. */
 struct asterix_item_found asterix_find_item(const uint8_t *block, size_t block_len, uint16_t reference, size_t n);
+
+/* ---- Walking a log
+ *
+ * The records of a recording one after another, in one pass: each call reads one record and, where it is the first
+ * of its block, the block's CAT and LEN. You keep the cursor.
+ *
+ *     struct asterix_record_met at = asterix_next_record(log, log_len, asterix_start());
+ *     for (; at.met; at = asterix_next_record(log, log_len, at.next))
+ *         ...                                   the record is log + at.start, at.length octets
+ *     if (at.number)
+ *         ...                                   the refusal that asterix_check_recording gives of this log
+ *
+ * Of a log that asterix_check_recording accepts, that meets every record, in order. Of one that it refuses, it meets
+ * those before the fault and then that refusal: records of a block are met before it is known that a later one is
+ * refused. A program that must use no record of a refused log checks the log first. */
+
+/* Where a walk stands: at `place` of the block that starts at `block` and ends before `end`, of a category. All count
+ * from the recording's start. A walk begins at asterix_start(), and goes on from the `next` of each answer. */
+struct asterix_cursor {
+    size_t block, place, end;
+    uint8_t category;
+};
+
+/* Before the first block. */
+static inline struct asterix_cursor asterix_start(void)
+{
+    struct asterix_cursor start = { 0, 0, 0, 0 };
+    return start;
+}
+
+struct asterix_record_met {
+    uint8_t number;
+    uint8_t met; /* 1: a record was met. 0 with number 0: the end, there is no more. 0 with a number: a refusal */
+    uint8_t category;
+    size_t place; /* from the recording's start */
+    /* The record is recording + start and so many octets, its FSPEC first; its block starts at recording + block.
+     * 0 where no record was met. */
+    size_t start, length, block;
+    /* The record map, as asterix_find_record has it: its places count from the start of the record's block. The item
+     * with an FRN is at recording + block + starts[FRN - 1], and the record ends at recording + block + end. */
+    size_t end, count;
+    uint16_t starts[ASTERIX_FRNS];
+    struct asterix_cursor next; /* where the walk goes on; the cursor given where no record was met */
+};
+
+/* Meets the record at `cursor`, or the first of the next block where `cursor` is at its block's end. Refuses by 1 to
+ * 15; asked again, it refuses again.
+ *
+ * Any cursor may be given, also one of another recording. One that is not inside a block of this recording by its own
+ * numbers (block <= place <= end <= recording_len, with end - block at most 65,535), or is at the recording's end,
+ * gets the end. Any other is taken at its word: the octets from `place` to `end` are read as records of `category`,
+ * 2 at `place` where it is neither 17 nor 18, and where `place` is `end` a block is read from there, whatever the
+ * category. So three times the same place stands before the block that starts there. */
+struct asterix_record_met asterix_next_record(const uint8_t *recording, size_t recording_len,
+                                              struct asterix_cursor cursor);
 
 /* ---- One item
  *

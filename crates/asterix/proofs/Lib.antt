@@ -1,3 +1,5 @@
 pub mod StructLaws
 pub mod Unique
 pub mod NumberLaws
+pub mod WalkLaws
+pub mod WalkUnique

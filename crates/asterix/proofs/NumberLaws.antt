@@ -1,8 +1,8 @@
 -- Every refusal of the rules has a number from 1 to 21, whatever octets are lent: so a struct's `number` is 0 exactly where the work was done.
 --
--- In order: answers; fields; an item; an FSPEC; a record; blocks; finding; one item; adding a record; the structs. Assumes nothing.
+-- In order: answers; fields; an item; an FSPEC; a record; blocks; finding; walking a log; one item; adding a record; the structs. Assumes nothing.
 use Prim.Native.Nat.{ℕ, zero, suc, _+_, _-_, _≤_}
-use mathlib.Core.Path.{_≡_, refl, sym, subst}
+use mathlib.Core.Path.{_≡_, refl, sym, ap, _∙_, subst}
 use mathlib.Core.Bool.{Bool, true, false, _&&_}
 use mathlib.Core.Option.{Option, none, some}
 use mathlib.Core.List.{List, [], _∷_}
@@ -20,10 +20,17 @@ use Rattle.rules.specs.Block.{categoryOf, readUpTo, readAll, Head, readHead, re
 use Rattle.rules.specs.Recording.{readRecording}
 use Rattle.rules.specs.Entry.{categories, checkBlock, checkRecording, openBlock, numbered, findRecord, findItem, layoutAs, layoutOf, readOne, writeOne, Added, added, refusedOld, refusedNew, oldBlock, newRecord, joinRecord, inNew, inOld, addRecord}
 use Rattle.rules.proofs.AnswerLaws.{refused-ok, Octets, Split, Laws, Starts, after}
+use Rattle.rules.proofs.AnswerLaws.{ok-inj, bind-elim, later-inv}
 use Rattle.rules.proofs.LayoutLaws.{octets-take}
 use Rattle.rules.proofs.RecordLaws.{record-laws, record-starts}
 use Rattle.rules.proofs.BlockLaws.{HeadCame, head-forth, block-laws, block-starts}
 use Rattle.blocks.proofs.LoopLaws.{Taken, taken}
+use Rattle.walking.specs.declared.Cursor as walking-cursor
+use Rattle.walking.specs.declared.Met.the-variants as met
+use Rattle.walking.specs.declared.Walked.{Walked}
+use Rattle.walking.specs.Walk.{part, more, stays, passed, answered, openIn, openAt, blockAt, recordIn, recordAt, nextRecord}
+use Rattle.asterix.specs.declared.RecordMet.{RecordMet}
+use Rattle.asterix.specs.Answers.{recordMet}
 use Rattle.asterix.specs.Answers.{blockChecked, recordingChecked, recordFound, itemFound, itemRead, itemWritten, recordAdded}
 
 -- ---- answers
@@ -289,6 +296,49 @@ unfolding findItem
 item-found bs ref n o =
     step _ _ (block-opened bs o) (λ b e. test _ 21 _ tt (step _ _ (record-numbered (b .category) 3 (b .records) n) (λ r f. on _ _ (lookup _ 20 tt))))
 
+-- ---- walking a log
+
+head-opened : (bs : List ℕ) (e : ℕ) → Numbered (openAt bs e)
+unfolding openAt openIn
+head-opened bs e = on e _ (step _ _ (head-read leb _) (λ x f. test _ 4 _ tt (done _)))
+
+block-met : (bs : List ℕ) (c : walking-cursor.Cursor) → Numbered (blockAt bs c)
+unfolding blockAt
+block-met bs c = either _ _ _ (done _) (head-opened bs (c .end))
+
+record-met : (bs : List ℕ) (c : walking-cursor.Cursor) → Numbered (recordAt bs c)
+unfolding recordAt recordIn
+record-met bs c = on (c .place) _ (step _ _ (lookup _ 2 tt) (λ k e. step _ _ (record-read k _) (λ x f. done _)))
+
+-- what a step passes is a record
+record-passed : (bs : List ℕ) (d : walking-cursor.Cursor) (w : Walked) → recordAt bs d ≡ ok w → (s l k : ℕ) × (w .met ≡ met.Record s l k)
+unfolding recordAt recordIn
+record-passed bs d w h =
+    bind-elim _ _ (later-inv (d .place) _ h) λ k e h₁.
+    bind-elim _ _ h₁ λ x f h₂.
+    (_, _, _, ap (λ v. v .met) (sym (ok-inj h₂)))
+
+answer-met : (c : walking-cursor.Cursor) (a : Answer Walked) → Numbered a → ((w : Walked) → a ≡ ok w → (s l k : ℕ) × (w .met ≡ met.Record s l k))
+    → (n p : ℕ) → answered c a .met ≡ met.Refused n p → Number n
+answer-met c (ok w) h i n p e =
+    let (s, l, k, f) = i w refl in
+    let z : met.Record s l k ≡ met.Refused n p = sym f ∙ e in
+    let z : _≡_ {A = ℕ} 0 1 = cc in
+    absurd (omega arith)
+answer-met c (refused m q) h i n p e = let z : m ≡ n = cc in subst Number z (h m q refl)
+
+step-met : (t : Bool) (c : walking-cursor.Cursor) (a : Answer Walked) → Numbered a → ((w : Walked) → a ≡ ok w → (s l k : ℕ) × (w .met ≡ met.Record s l k))
+    → (n p : ℕ) → (if t then answered c a else stays c met.Finished) .met ≡ met.Refused n p → Number n
+unfolding if_then_else_
+step-met true c a h i n p e = answer-met c a h i n p e
+step-met false c a h i n p e = let z : _≡_ {A = ℕ} 0 1 = cc in absurd (omega arith)
+
+refusal-met : (bs : List ℕ) (c : walking-cursor.Cursor) (n p : ℕ) → nextRecord bs c .met ≡ met.Refused n p → Number n
+unfolding nextRecord
+refusal-met bs c n p e =
+    step-met (more (length bs) c) c _ (step _ _ (block-met bs c) (λ d f. record-met bs d))
+    (λ w h. bind-elim _ _ h λ d f h₁. record-passed bs d w h₁) n p e
+
 -- ---- one item
 
 layout-found : (cat ref : ℕ) → Numbered (layoutOf cat ref)
@@ -388,6 +438,24 @@ find-record-tells block n o = tells (λ a. recordFound a .number) (λ v. refl) (
 pub find-item-tells : (block : List ℕ) (reference n : ℕ) → Octets block → Tells (findItem block reference n) (itemFound (findItem block reference n) .number)
 unfolding itemFound
 find-item-tells block reference n o = tells (λ a. itemFound a .number) (λ v. refl) (λ m p. refl) (findItem block reference n) (item-found block reference n o)
+
+-- a struct tells a step: `met` is 1 exactly where a record was met, and `number` is a refusal's, 1 to 21, or 0
+pub record TellsMet (w : Walked) (r : RecordMet) : Type 0 where
+  pub record-met : (s l k : ℕ) → w .met ≡ met.Record s l k → (r .met ≡ 1) × (r .number ≡ 0)
+  pub finished : w .met ≡ met.Finished → (r .met ≡ 0) × (r .number ≡ 0)
+  pub refused : (n p : ℕ) → w .met ≡ met.Refused n p → (r .met ≡ 0) × (r .number ≡ n) × (1 ≤ n) × (n ≤ 21)
+
+pub next-record-tells : (recording : List ℕ) (cursor : walking-cursor.Cursor) → TellsMet (nextRecord recording cursor) (recordMet (nextRecord recording cursor))
+unfolding recordMet
+next-record-tells recording cursor =
+    let w : Walked = nextRecord recording cursor in
+    record {
+      record-met = λ s l k e. rw e (refl, refl);
+      finished = λ e. rw e (refl, refl);
+      refused = λ n p e.
+          let t : T (leb 1 n) × T (leb n 21) = T-both (leb 1 n) (leb n 21) (refusal-met recording cursor n p e) in
+          rw e (refl, refl, leb→le 1 n (t .0), leb→le n 21 (t .1));
+    }
 
 pub read-item-tells : (category reference : ℕ) (item : List ℕ) → Tells (readOne category reference item) (itemRead (readOne category reference item) .number)
 unfolding itemRead

@@ -1,13 +1,19 @@
 -- The struct that an answer of the rules makes, for C and Rust: `number` is 0 where the work was done, and else the refusal's; `place` is the refusal's, 0 where
--- there is none; every other member is 0 on refusal. `proofs/NumberLaws` has that no refusal's number is 0. Assumes nothing.
+-- there is none; every other member is 0 on refusal, but for a walk's `next`. `proofs/NumberLaws` has that no refusal's number is 0. Assumes nothing.
 --
--- In order: checking; finding; one item; adding a record.
+-- In order: checking; finding; walking a log; one item; adding a record.
 use Prim.Native.Nat.{ℕ, _-_}
 use mathlib.Core.List.{List}
 use lib.IntN.{ℤ}
 use lib.ListN.{length, replicate}
 use Rattle.rules.specs.Answer.{Answer, ok, refused}
 use Rattle.rules.specs.Entry.{Counts, RecordMap, Laid, Added, added, refusedOld, refusedNew}
+use Rattle.walking.specs.declared.Cursor as walking-cursor
+use Rattle.walking.specs.declared.Met.{Met}
+use Rattle.walking.specs.declared.Met.the-variants as met
+use Rattle.walking.specs.declared.Walked.{Walked}
+use Rattle.asterix.specs.declared.Cursor.{Cursor}
+use Rattle.asterix.specs.declared.RecordMet.{RecordMet}
 use Rattle.asterix.specs.declared.BlockChecked.{BlockChecked}
 use Rattle.asterix.specs.declared.RecordingChecked.{RecordingChecked}
 use Rattle.asterix.specs.declared.RecordFound.{RecordFound}
@@ -37,6 +43,60 @@ recordFound (refused n p) = record { number = n; place = p; start = 0; length = 
 unfoldable pub itemFound : Answer Laid → ItemFound
 itemFound (ok l) = record { number = 0; place = 0; start = l .start; length = l .size }
 itemFound (refused n p) = record { number = n; place = p; start = 0; length = 0 }
+
+-- ---- walking a log
+
+-- a cursor of C as the walk has it, and back
+abbrev pub cursorIn : Cursor → walking-cursor.Cursor
+cursorIn c = record { block = c .block; place = c .place; end = c .end; category = c .category }
+
+abbrev pub cursorOut : walking-cursor.Cursor → Cursor
+cursorOut c = record { block = c .block; place = c .place; end = c .end; category = c .category }
+
+-- `met` is 1 where a record was met; without one all is 0 but a refusal's number and place, and `next`, where the walk goes on
+abbrev pub metBy : Met → Walked → RecordMet
+metBy (met.Record s l k) w = record {
+  number = 0;
+  met = 1;
+  category = k;
+  place = 0;
+  start = s;
+  length = l;
+  block = w .next .block;
+  end = w .map .end;
+  count = w .map .count;
+  starts = w .map .starts;
+  next = cursorOut (w .next);
+}
+metBy met.Finished w = record {
+  number = 0;
+  met = 0;
+  category = 0;
+  place = 0;
+  start = 0;
+  length = 0;
+  block = 0;
+  end = 0;
+  count = 0;
+  starts = replicate 35 0;
+  next = cursorOut (w .next);
+}
+metBy (met.Refused n p) w = record {
+  number = n;
+  met = 0;
+  category = 0;
+  place = p;
+  start = 0;
+  length = 0;
+  block = 0;
+  end = 0;
+  count = 0;
+  starts = replicate 35 0;
+  next = cursorOut (w .next);
+}
+
+unfoldable pub recordMet : Walked → RecordMet
+recordMet w = metBy (w .met) w
 
 -- ---- one item
 

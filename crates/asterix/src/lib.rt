@@ -1,17 +1,19 @@
 // The functions of include/asterix.h, for C and Rust: a slice goes as a pointer and how many elements it points to, an array as a pointer. Each answer is
 // a struct by value whose `number` is 0 or the refusal's (document 01, "Refusal numbers and their order"), whose `place` is the refusal's, and whose other
-// members are 0 on refusal.
+// members are 0 on refusal (but for a walk's `next`).
 //
-// In order, as in the header: checking; finding; one item; adding a record; lengths.
+// In order, as in the header: checking; finding; walking a log; one item; adding a record; lengths.
 use finding::ItemLocated;
 use finding::RecordPlace;
 use sets::ItemSet;
+use walking::Met;
 ghost use mathlib.Core.Path.{_≡_};
 ghost use lib.ListN.{length};
 ghost use Rattle.rules.specs.Entry.{categories, leaves, checkBlock, checkRecording, findRecord, findItem, readOne, writeOne, addRecord, leavesAdded, leastLength};
 ghost use Rattle.items.specs.Answers.{profileIn};
 ghost use Rattle.sets.specs.Sets.{frnsOf};
-ghost use Rattle.asterix.specs.Answers.{blockChecked, recordingChecked, recordFound, itemFound, itemRead, itemWritten, recordAdded};
+ghost use Rattle.walking.specs.Walk.{nextRecord};
+ghost use Rattle.asterix.specs.Answers.{blockChecked, recordingChecked, recordFound, itemFound, cursorIn, recordMet, itemRead, itemWritten, recordAdded};
 
 // ---- checking
 
@@ -139,6 +141,106 @@ pub extern "C" fn asterix_find_item(block: &[u8], reference: u16, n: usize) -> I
             place,
             start: 0,
             length: 0,
+        },
+    }
+}
+
+// ---- walking a log
+
+// Where a walk stands: `Cursor` of `walking`.
+#[repr(C)]
+pub struct Cursor {
+    pub block: usize,
+    pub place: usize,
+    pub end: usize,
+    pub category: u8,
+}
+
+// `met` is 1 where a record was met; 0 with `number` 0 is the end. The map counts from the start of the record's block.
+#[repr(C)]
+pub struct RecordMet {
+    pub number: u8,
+    pub met: u8,
+    pub category: u8,
+    pub place: usize,
+    pub start: usize,
+    pub length: usize,
+    pub block: usize,
+    pub end: usize,
+    pub count: usize,
+    pub starts: [u16; 35],
+    pub next: Cursor,
+}
+
+// The record at a cursor, or the first of the next block.
+#[no_mangle]
+pub extern "C" fn asterix_next_record(recording: &[u8], cursor: Cursor) -> RecordMet
+    ensures { λ r. ⌜ r ≡ recordMet (nextRecord (now (recording .entry)) (cursorIn cursor)) ⌝ }
+{
+    let walked = walking::next_record(
+        recording,
+        walking::Cursor {
+            block: cursor.block,
+            place: cursor.place,
+            end: cursor.end,
+            category: cursor.category,
+        },
+    );
+    let after = walked.next;
+    let next = Cursor {
+        block: after.block,
+        place: after.place,
+        end: after.end,
+        category: after.category,
+    };
+    let met = walked.met;
+    match met {
+        Met::Record {
+            start,
+            length,
+            category,
+        } => {
+            let map = walked.map;
+            let starts = map.starts;
+            RecordMet {
+                number: 0,
+                met: 1,
+                category,
+                place: 0,
+                start,
+                length,
+                block: after.block,
+                end: map.end,
+                count: map.count,
+                starts,
+                next,
+            }
+        }
+        Met::Finished => RecordMet {
+            number: 0,
+            met: 0,
+            category: 0,
+            place: 0,
+            start: 0,
+            length: 0,
+            block: 0,
+            end: 0,
+            count: 0,
+            starts: [0; 35],
+            next,
+        },
+        Met::Refused { number, place } => RecordMet {
+            number,
+            met: 0,
+            category: 0,
+            place,
+            start: 0,
+            length: 0,
+            block: 0,
+            end: 0,
+            count: 0,
+            starts: [0; 35],
+            next,
         },
     }
 }
