@@ -23,10 +23,11 @@
 
 /* ---- What was met */
 
-enum call { BLOCK, RECORDING, RECORD, ITEM, READ, WRITE, ADD_OLD, ADD_NEW, CALLS };
+enum call { BLOCK, RECORDING, RECORD, ITEM, WALK, READ, WRITE, ADD_OLD, ADD_NEW, CALLS };
 
-static const char *const call_name[CALLS] = { "check_block", "check_recording", "find_record", "find_item",
-                                              "read_item",   "write_item",      "add (old)",   "add (new)" };
+static const char *const call_name[CALLS] = { "check_block", "check_recording", "find_record",
+                                              "find_item",   "next_record",     "read_item",
+                                              "write_item",  "add (old)",       "add (new)" };
 
 /* The numbers that each call can give, as bits; 0 is an acceptance, which of adding is counted with the new. */
 #define IN_BLOCK 0xFFFEu /* 1 to 15 */
@@ -36,6 +37,7 @@ static const unsigned can_give[CALLS] = {
     NO(0) | IN_BLOCK,
     NO(0) | IN_BLOCK | NO(19),
     NO(0) | IN_BLOCK | NO(19) | NO(20) | NO(21),
+    NO(0) | IN_BLOCK,
     NO(0) | NO(9) | NO(10) | NO(11) | NO(18) | NO(21),
     NO(0) | NO(11) | NO(16) | NO(21),
     (IN_BLOCK & ~NO(4)) | NO(16),
@@ -46,6 +48,7 @@ enum { NUMBERS = 22 };
 static size_t met[CALLS][NUMBERS];
 static size_t types_accepted[COUNT(messages)], found[COUNT(items)], read[COUNT(items)], written[COUNT(items)];
 static size_t calls, lengths, differences;
+static size_t records_met, ends_met; /* by the walk, whose acceptances are both */
 
 /* ---- Lending: a region between two pages that may not be touched */
 
@@ -208,6 +211,37 @@ static void try_item(struct chance *c, const uint8_t *block, size_t have, unsign
     }
 }
 
+/* One step of a walk. Answers what the plain implementation met. */
+static struct plain_met try_walk(struct chance *c, const uint8_t *recording, size_t have, struct plain_cursor at)
+{
+    struct plain_met ours = plain_next_record(recording, have, at);
+    uint8_t *lent = lend(&input, one_in(c, 2), recording, have);
+    struct asterix_cursor cursor = { at.block, at.place, at.end, (uint8_t)at.category };
+    struct asterix_record_met theirs = asterix_next_record(lent, have, cursor);
+    bool kept = unchanged(&input), same = true;
+    tally(WALK, ours.fault.number);
+    records_met += ours.met;
+    ends_met += !ours.met && ours.fault.number == 0;
+    for (unsigned frn = 1; frn <= ASTERIX_FRNS; frn++)
+        same = same && theirs.starts[frn - 1] == ours.starts[frn - 1];
+    bool next = theirs.next.block == ours.next.block && theirs.next.place == ours.next.place &&
+                theirs.next.end == ours.next.end && theirs.next.category == ours.next.category;
+    if (!kept || !same || !next || theirs.number != ours.fault.number || theirs.place != ours.fault.place ||
+        theirs.met != ours.met || theirs.category != ours.category || theirs.start != ours.start ||
+        theirs.length != ours.length || theirs.block != ours.block || theirs.end != ours.end ||
+        theirs.count != ours.count) {
+        answers(text, sizeof text, ours.fault, ours.start, ours.length, theirs.number, theirs.place, theirs.start,
+                theirs.length, kept);
+        differs("walk", recording, have, text);
+        printf("  from %zu, %zu, %zu, %u; met %d and %u, category %u and %u, block %zu and %zu, end %zu and %zu, "
+               "items %zu and %zu, maps %s, next %s\n",
+               at.block, at.place, at.end, at.category, ours.met, theirs.met, ours.category, theirs.category,
+               ours.block, theirs.block, ours.end, theirs.end, ours.count, theirs.count,
+               same ? "alike" : "not alike", next ? "alike" : "not alike");
+    }
+    return ours;
+}
+
 /* What `fields` is lent with, and what it should hold: 8,192 numbers that no item has. */
 static int64_t blank[ASTERIX_FIELDS], full[ASTERIX_FIELDS];
 
@@ -346,7 +380,102 @@ static void input_block(struct chance *c)
              n);
 }
 
-static void input_recording(struct chance *c)
+/* A number for a cursor that may be given to a recording of `have` octets: near its own ends, near the last that a
+ * size_t holds, or any. */
+static size_t draw_place(struct chance *c, size_t have)
+{
+    switch (below(c, 6)) {
+    case 0:
+        return have - below(c, 3); /* past SIZE_MAX and back: near it, where the recording is empty */
+    case 1:
+        return have + below(c, 3);
+    case 2:
+        return SIZE_MAX - below(c, 70000);
+    case 3:
+        return (size_t)any(c) >> below(c, 64);
+    default:
+        return below(c, have + 1);
+    }
+}
+
+/* One change of a cursor, or another cursor altogether. */
+static struct plain_cursor damage_cursor(struct chance *c, struct plain_cursor at, size_t have)
+{
+    size_t some = draw_place(c, have), few = between(c, 1, 3);
+    switch (below(c, 12)) {
+    case 0:
+        at.block = some;
+        break;
+    case 1:
+        at.place = some;
+        break;
+    case 2:
+        at.end = some;
+        break;
+    case 3:
+        at.category = one_in(c, 2) ? 35 - at.category % 36 : (unsigned)below(c, 256);
+        break;
+    case 4:
+        at.place = one_in(c, 2) ? at.place - few : at.place + few;
+        break;
+    case 5:
+        at.end = one_in(c, 2) ? at.end - few : at.end + few;
+        break;
+    case 6:
+        at.block = one_in(c, 2) ? at.place + few : at.block - few;
+        break;
+    case 7: /* the longest block that there can be, and the next */
+        at.block = at.end - 65534 - few;
+        break;
+    case 8: /* all of the recording as records */
+        at = (struct plain_cursor){ 0, below(c, have + 1), have, 17 + (unsigned)below(c, 2) };
+        break;
+    case 9: /* before a block at any place */
+        at = (struct plain_cursor){ some, some, some, (unsigned)below(c, 256) };
+        break;
+    case 10: /* past all that there is, as sums that wrap would have it */
+        at = (struct plain_cursor){ SIZE_MAX - few, SIZE_MAX - few + 1, SIZE_MAX, 17 };
+        break;
+    default:
+        at = (struct plain_cursor){ draw_place(c, have), draw_place(c, have), draw_place(c, have),
+                                    (unsigned)below(c, 256) };
+        break;
+    }
+    return at;
+}
+
+/* A recording from its start to its end or its fault, which are held to what checking it answers; then cursors of
+ * that walk that are damaged, and those of the walk before, over another recording. */
+static void input_walk(struct chance *c, const uint8_t *recording, size_t have)
+{
+    enum { KEPT = 64 };
+    static struct plain_cursor kept[KEPT], before[KEPT];
+    static size_t walked = 1, others = 1;
+    memcpy(before, kept, sizeof before);
+    others = walked;
+    struct plain_recording whole = plain_check_recording(recording, have);
+    struct plain_cursor at = { 0, 0, 0, 0 };
+    size_t records = 0;
+    walked = 0;
+    for (bool on = true; on;) {
+        kept[walked < KEPT ? walked++ : below(c, KEPT)] = at;
+        struct plain_met step = try_walk(c, recording, have, at);
+        on = step.met;
+        records += on;
+        at = step.next;
+        if (!on && (step.fault.number != whole.fault.number || step.fault.place != whole.fault.place ||
+                    (whole.fault.number == 0 && records != whole.records)))
+            differs("walk", recording, have, "\n  ends otherwise than checking it");
+    }
+    for (size_t n = 0; n < 5; n++) {
+        at = one_in(c, 6) ? before[below(c, others)] : kept[below(c, walked)];
+        at = one_in(c, 8) ? at : damage_cursor(c, at, have);
+        for (size_t steps = between(c, 1, 2); steps > 0; steps--)
+            at = try_walk(c, recording, have, at).next;
+    }
+}
+
+static void input_recording(struct chance *c, struct chance *w)
 {
     size_t have = 0;
     for (size_t blocks = below(c, 5); blocks > 0; blocks--) {
@@ -361,6 +490,7 @@ static void input_recording(struct chance *c)
     if (one_in(c, 6) && have < REGION - 100)
         damage(c, octets, &have);
     try_recording(c, octets, have);
+    input_walk(w, octets, have);
 }
 
 static void input_read(struct chance *c)
@@ -463,11 +593,34 @@ static void input_add(struct chance *c)
     try_add(c, out, room, used, frns, octets, have);
 }
 
+/* A recording that is longer than a block can be: its first steps, and cursors that stand in 65,535 octets of it or
+ * in a few more. */
+static void input_long_walk(struct chance *c, unsigned category, const uint8_t *large, size_t used)
+{
+    size_t have = used;
+    memcpy(octets, large, used);
+    while (have < 65600) {
+        size_t n = make_block(c, draw_category(c), 3, false, block, 4000);
+        memcpy(octets + have, block, n);
+        have += n;
+    }
+    struct plain_cursor at = { 0, 0, 0, 0 };
+    for (size_t n = 0; n < 3; n++)
+        at = try_walk(c, octets, have, at).next;
+    at = (struct plain_cursor){ below(c, 4), 3, 0, category };
+    at.end = at.block + 65533 + below(c, 4);
+    try_walk(c, octets, have, at);
+    at = (struct plain_cursor){ 0, used, used, 0 };
+    for (size_t n = 0; n < 3; n++)
+        at = try_walk(c, octets, have, at).next;
+}
+
 /* Blocks near 65,535 octets, and a record whose length is chosen to end there: the last that fits, and 17. */
-static void input_large(struct chance *c)
+static void input_large(struct chance *c, struct chance *w)
 {
     unsigned category = draw_category(c);
     size_t used = make_block(c, category, 20000, false, out, between(c, 65200, 65535));
+    input_long_walk(w, category, out, used);
     size_t to = 65533 + below(c, 6), n = to > used ? to - used : 0;
     if (category == 17) { /* New Node: source, destination, type 30, addresses */
         size_t parts = n < 8 ? 0 : (n - 8) / 3 < 255 ? (n - 8) / 3 : 255;
@@ -549,6 +702,9 @@ static void report(void)
         if (sum == 0)
             lacks("a number never met: ", line);
     }
+    printf("next_record met %zu records and %zu ends\n", records_met, ends_met);
+    if (records_met == 0 || ends_met == 0)
+        lacks("never met by a walk: ", records_met ? "the end" : "a record");
     for (unsigned i = 0; i < COUNT(messages); i++) {
         snprintf(line, sizeof line, "%03u of category %03u", messages[i].type, messages[i].category);
         if (!types_accepted[i])
@@ -577,7 +733,7 @@ int main(int argc, char **argv)
 {
     uint64_t seed = argc < 2 ? 1718 : strcmp(argv[1], "fresh") == 0 ? fresh_seed() : strtoull(argv[1], NULL, 10);
     size_t inputs = argc < 3 ? 1000000 : (size_t)strtoull(argv[2], NULL, 10);
-    struct chance c = { seed };
+    struct chance c = { seed }, w = { ~seed }; /* the walk draws by itself */
     printf("differ: seed %" PRIu64 ", %zu inputs\n", seed, inputs);
     fflush(stdout);
     open_region(&input);
@@ -587,13 +743,13 @@ int main(int argc, char **argv)
         blank[i] = full[i] = (int64_t)(0x7B00000000000000 + i);
     for (size_t i = 0; i < inputs; i++) {
         if (i % 2500 == 2499) {
-            input_large(&c);
+            input_large(&c, &w);
             continue;
         }
         switch (below(&c, 20)) {
         case 0:
         case 1:
-            input_recording(&c);
+            input_recording(&c, &w);
             break;
         case 2:
         case 3:

@@ -4,6 +4,7 @@
 #define plain_check_recording other_check_recording
 #define plain_find_record other_find_record
 #define plain_find_item other_find_item
+#define plain_next_record other_next_record
 #define plain_read_item other_read_item
 #define plain_write_item other_write_item
 #define plain_add_record other_add_record

@@ -1,5 +1,5 @@
 /* The plain implementation: see plain.h. In order: bits, one item, one record, blocks and
- * recordings, adding a record, lengths. */
+ * recordings, walking a recording, adding a record, lengths. */
 #include "plain.h"
 #include "tables.h"
 
@@ -436,18 +436,24 @@ struct plain_block plain_check_block(const uint8_t *block, size_t have)
     return check_records(block, have);
 }
 
+/* The head of a recording's next block, where `left` octets are left: 1 to 4. */
+static struct plain_fault check_next_head(const uint8_t *block, size_t left)
+{
+    struct plain_fault fault = check_head(block, left);
+    if (fault.number == 0 && len_of(block) > left)
+        fault = refused(3, 0);
+    if (fault.number == 0 && len_of(block) == HEAD)
+        fault = refused(4, 0);
+    return fault;
+}
+
 struct plain_recording plain_check_recording(const uint8_t *recording, size_t have)
 {
     struct plain_recording answer = { fine, 0, 0 };
     for (size_t at = 0; at < have;) {
         const uint8_t *block = recording + at;
-        struct plain_fault fault = check_head(block, have - at);
-        if (fault.number == 0 && len_of(block) > have - at)
-            fault = refused(3, 0);
-        if (fault.number == 0 && len_of(block) == HEAD)
-            fault = refused(4, 0);
-        struct plain_block checked = { fault, 0 };
-        if (fault.number == 0)
+        struct plain_block checked = { check_next_head(block, have - at), 0 };
+        if (checked.fault.number == 0)
             checked = check_records(block, len_of(block));
         if (checked.fault.number)
             return (struct plain_recording){ refused(checked.fault.number, at + checked.fault.place), 0, 0 };
@@ -498,6 +504,50 @@ struct plain_item plain_find_item(const uint8_t *block, size_t have, unsigned re
             return answer;
         }
     answer.fault = refused(20, record.start);
+    return answer;
+}
+
+/* ---- Walking a recording */
+
+struct plain_met plain_next_record(const uint8_t *recording, size_t have, struct plain_cursor at)
+{
+    struct plain_met answer = { .next = at };
+    bool in_block = at.block <= at.place && at.place <= at.end && at.end <= have && at.end - at.block <= MOST_LEN;
+    if (!in_block || at.place == have)
+        return answer;
+    if (at.place == at.end) { /* the next block */
+        const uint8_t *block = recording + at.end;
+        struct plain_fault fault = check_next_head(block, have - at.end);
+        if (fault.number) {
+            answer.fault = refused(fault.number, at.end);
+            return answer;
+        }
+        at.block = at.end;
+        at.place = at.block + HEAD;
+        at.end = at.block + len_of(block);
+        at.category = block[0];
+    }
+    if (!is_category(at.category)) {
+        answer.fault = refused(2, at.place);
+        return answer;
+    }
+    struct plain_record record =
+        check_record(at.category, recording + at.block, at.end - at.block, at.place - at.block);
+    if (record.fault.number) {
+        answer.fault = refused(record.fault.number, at.block + record.fault.place);
+        return answer;
+    }
+    answer.met = true;
+    answer.category = at.category;
+    answer.start = at.place;
+    answer.length = record.length;
+    answer.block = at.block;
+    answer.end = record.end;
+    answer.count = record.count;
+    for (unsigned frn = 1; frn <= PLAIN_FRNS; frn++)
+        answer.starts[frn - 1] = record.starts[frn - 1];
+    at.place += record.length;
+    answer.next = at;
     return answer;
 }
 

@@ -45,6 +45,25 @@ struct plain_item {
     size_t start, length;
 };
 
+/* Where a walk over a recording stands: at `place` of the block that starts at `block` and ends before `end`, all
+ * counted from the recording's start. All of it 0: before the first block. */
+struct plain_cursor {
+    size_t block, place, end;
+    unsigned category;
+};
+
+/* What a step of a walk met: a fault, a record, or neither, which is the end. A record's start counts from the
+ * recording's start; its map, as that of plain_find_record, from its block's. */
+struct plain_met {
+    struct plain_fault fault;
+    bool met;
+    unsigned category;
+    size_t start, length, block;
+    size_t starts[PLAIN_FRNS];
+    size_t end, count;
+    struct plain_cursor next;
+};
+
 struct plain_fields {
     struct plain_fault fault;
     size_t count;
@@ -61,6 +80,10 @@ struct plain_block plain_check_block(const uint8_t *block, size_t have);
 struct plain_recording plain_check_recording(const uint8_t *recording, size_t have);
 struct plain_record plain_find_record(const uint8_t *block, size_t have, size_t n);
 struct plain_item plain_find_item(const uint8_t *block, size_t have, unsigned reference, size_t n);
+
+/* The record at a cursor, or the first of the next block. The end where the cursor stands in no block of the
+ * recording. Without a record `next` is the cursor given. */
+struct plain_met plain_next_record(const uint8_t *recording, size_t have, struct plain_cursor at);
 
 /* One item alone, and nothing after it. */
 struct plain_fields plain_read_item(unsigned category, unsigned reference, const uint8_t *item, size_t have);

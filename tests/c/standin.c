@@ -35,6 +35,26 @@ struct asterix_item_found asterix_find_item(const uint8_t *block, size_t have, u
                                         answer.length };
 }
 
+struct asterix_record_met asterix_next_record(const uint8_t *recording, size_t have, struct asterix_cursor cursor)
+{
+    struct plain_cursor at = { cursor.block, cursor.place, cursor.end, cursor.category };
+    struct plain_met answer = plain_next_record(recording, have, at);
+    struct asterix_record_met met = { .number = (uint8_t)answer.fault.number,
+                                      .met = answer.met,
+                                      .category = (uint8_t)answer.category,
+                                      .place = answer.fault.place,
+                                      .start = answer.start,
+                                      .length = answer.length,
+                                      .block = answer.block,
+                                      .end = answer.end,
+                                      .count = answer.count,
+                                      .next = { answer.next.block, answer.next.place, answer.next.end,
+                                                (uint8_t)answer.next.category } };
+    for (unsigned frn = 1; frn <= ASTERIX_FRNS; frn++)
+        met.starts[frn - 1] = (uint16_t)answer.starts[frn - 1];
+    return met;
+}
+
 struct asterix_item_read asterix_read_item(uint8_t category, uint16_t reference, const uint8_t *item, size_t have,
                                            int64_t fields[ASTERIX_FIELDS])
 {
