@@ -1,5 +1,6 @@
 //! ASTERIX categories 017 (Mode S Surveillance Coordination Function Messages, edition 1.3) and 018
-//! (Mode S Datalink Function Messages, edition 1.6): checking, finding, reading and writing.
+//! (Mode S Datalink Function Messages, edition 1.6): checking, finding, walking a log, reading and
+//! writing.
 //!
 //! The work is done by the proved library, the archive that `rt staticlib asterix` writes; this
 //! crate gives it safe functions on slices. Any bytes may be given to any function. Each either
@@ -25,12 +26,25 @@
 //! # Ok::<(), asterix::Refused>(())
 //! ```
 //!
+//! A [`Log`] is gone through record by record, in one pass:
+//!
+//! ```
+//! use asterix::Log;
+//!
+//! let log = [0x11, 0, 12, 0xE8, 25, 3, 25, 6, 20, 0x4C, 0xA1, 0xB2, 0x12, 0, 9, 0xE0, 1, 2, 3, 4, 5];
+//! for record in Log::new(&log).records() {
+//!     let record = record?;
+//!     println!("category {} at {}: {:?}", record.category, record.place(), record.item(0));
+//! }
+//! # Ok::<(), asterix::Refused>(())
+//! ```
+//!
 //! The archive links into x86-64 Linux programs. `build.rs` looks for it in the repository's
 //! target/staticlib, or in the folder that `ASTERIX_LIB_DIR` names. The fields of each item, in
 //! their order, are listed at the end of `include/asterix.h` and in docs/FIELDS.md.
 #![deny(missing_docs)]
 
-use std::{error, fmt};
+use std::{error, fmt, iter::FusedIterator};
 
 mod raw;
 
@@ -239,6 +253,10 @@ pub fn check_recording(recording: &[u8]) -> Result<Counts, Refused> {
 pub struct Record<'a> {
     /// The record's octets, its FSPEC first: a part of the block.
     pub octets: &'a [u8],
+    /// The category of its block, 17 or 18.
+    pub category: u8,
+    /// Where its block starts, counted from the start of the bytes lent: 0 of a single block.
+    pub block: usize,
     /// Where the record starts, counted from the block's start.
     pub start: usize,
     /// How many items it has.
@@ -249,7 +267,46 @@ pub struct Record<'a> {
 /// How many places a record map has: the last field reference number (FRN) of the longest profile.
 pub const FRNS: usize = 35;
 
-impl Record<'_> {
+// The items of each category by FRN, FRN 1 first: their references (5.3.1 of the documents). The
+// tests hold them to `find_item`.
+const ITEMS_017: [u16; 15] = [10, 12, 0, 350, 220, 221, 140, 45, 70, 50, 200, 230, 240, 210, 360];
+const ITEMS_018: [u16; FRNS] = [
+    36, 37, 0, 1, 5, 16, 17, 18, 19, 28, 30, 25, 27, 29, 2, 6, 7, 8, 9, 10, 11, 14, 15, 20, 21, 22, 23, 4, 31, 32, 33,
+    34, 35, 12, 13,
+];
+
+impl<'a> Record<'a> {
+    /// Where the record starts, counted from the start of the bytes lent.
+    pub fn place(&self) -> usize {
+        self.block + self.start
+    }
+
+    /// The octets of the item with a reference (45 for I017/045), its count or length octet among
+    /// them; `None` where the record does not have it, or its category has no such item.
+    ///
+    /// ```
+    /// use asterix::find_record;
+    /// let block = [0x11, 0x00, 0x0C, 0xE8, 25, 3, 25, 6, 20, 0x4C, 0xA1, 0xB2];
+    /// let record = find_record(&block, 0)?;
+    /// assert_eq!(record.item(220), Some(&block[9..12]));
+    /// assert_eq!(record.item(45), None);
+    /// # Ok::<(), asterix::Refused>(())
+    /// ```
+    pub fn item(&self, reference: u16) -> Option<&'a [u8]> {
+        let items: &[u16] = if self.category == 17 { &ITEMS_017 } else { &ITEMS_018 };
+        self.item_at(1 + items.iter().position(|&r| r == reference)?)
+    }
+
+    /// The octets of the item with a field reference number; `None` where the record does not have
+    /// it.
+    pub fn item_at(&self, frn: usize) -> Option<&'a [u8]> {
+        let start = self.item_start(frn)?;
+        // items stand end to end in the order of their FRNs
+        let after = self.starts[frn..].iter().find(|&&next| next != 0);
+        let end = after.map_or(self.end(), |&next| usize::from(next));
+        Some(&self.octets[start - self.start..end - self.start])
+    }
+
     /// Where the item with a field reference number starts, counted from the block's start; `None`
     /// where the record does not have it.
     pub fn item_start(&self, frn: usize) -> Option<usize> {
@@ -267,7 +324,8 @@ impl Record<'_> {
 
 /// Finds record `n`, from 0, of a single block.
 ///
-/// The whole block is checked first: 1 to 15; then 19.
+/// The whole block is checked first: 1 to 15; then 19. Each call does so anew: to go through all
+/// records, see [`Log::records`].
 ///
 /// ```
 /// use asterix::find_record;
@@ -282,6 +340,8 @@ pub fn find_record(block: &[u8], n: usize) -> Result<Record<'_>, Refused> {
     Refused::answer(found.number, found.place)?;
     Ok(Record {
         octets: &block[found.start..found.start + found.length],
+        category: block[0],
+        block: 0,
         start: found.start,
         count: found.count,
         starts: found.starts,
@@ -304,6 +364,167 @@ pub fn find_item(block: &[u8], reference: u16, n: usize) -> Result<&[u8], Refuse
     Refused::answer(found.number, found.place)?;
     Ok(&block[found.start..found.start + found.length])
 }
+
+// ---- Walking a log
+
+/// A log: the bytes of a recording, blocks end to end, to be gone through in one pass.
+///
+/// Nothing is checked when it is made: the first fault is met where it lies. A program that must
+/// use nothing of a log that is refused asks [`check_recording`] first.
+#[derive(Clone, Copy, Debug, PartialEq, Eq)]
+pub struct Log<'a> {
+    bytes: &'a [u8],
+}
+
+impl<'a> Log<'a> {
+    /// The log that these bytes are.
+    pub fn new(bytes: &'a [u8]) -> Log<'a> {
+        Log { bytes }
+    }
+
+    /// Its records, in order, each read once.
+    ///
+    /// Of a log that [`check_recording`] accepts, all of them. Of one that it refuses, those before
+    /// the fault, and then that refusal as the last item: records of a block come before it is
+    /// known that a later one is refused.
+    ///
+    /// ```
+    /// use asterix::{Log, Refusal};
+    /// let log = [0x12, 0, 9, 0xE0, 1, 2, 3, 4, 5, 0x12, 0, 9, 0xE0, 1, 2, 3, 4];
+    /// let mut records = Log::new(&log).records();
+    /// let first = records.next().unwrap()?;
+    /// assert_eq!((first.category, first.place(), first.octets), (18, 3, &log[3..9]));
+    /// let refused = records.next().unwrap().unwrap_err();
+    /// assert_eq!((refused.why, refused.place), (Refusal::Len, 9));
+    /// assert_eq!(records.next(), None);
+    /// # Ok::<(), asterix::Refused>(())
+    /// ```
+    pub fn records(self) -> Records<'a> {
+        Records {
+            bytes: self.bytes,
+            at: Some(raw::Cursor::before(0)),
+        }
+    }
+
+    /// Its blocks, in order. Each is checked whole before it is given.
+    ///
+    /// Of a log that [`check_recording`] accepts, all of them. Of one that it refuses, those before
+    /// the fault, and then that refusal as the last item.
+    ///
+    /// ```
+    /// use asterix::Log;
+    /// let log = [0x12, 0, 9, 0xE0, 1, 2, 3, 4, 5, 0x12, 0, 9, 0xE0, 1, 2, 3, 4, 5];
+    /// for block in Log::new(&log).blocks() {
+    ///     let block = block?;
+    ///     assert_eq!((block.category, block.octets, block.count), (18, &log[..9], 1));
+    ///     assert_eq!(block.records().count(), 1);
+    /// }
+    /// # Ok::<(), asterix::Refused>(())
+    /// ```
+    pub fn blocks(self) -> Blocks<'a> {
+        Blocks {
+            bytes: self.bytes,
+            at: Some(0),
+        }
+    }
+}
+
+/// A block of a log, which was checked whole.
+#[derive(Clone, Copy, Debug, PartialEq, Eq)]
+pub struct Block<'a> {
+    /// The block's octets, CAT first.
+    pub octets: &'a [u8],
+    /// Its category, 17 or 18.
+    pub category: u8,
+    /// Where it starts, counted from the log's start.
+    pub start: usize,
+    /// How many records it has.
+    pub count: usize,
+    // the log up to the block's end
+    bytes: &'a [u8],
+}
+
+impl<'a> Block<'a> {
+    /// Its records, in order, their places counted as those of the log. None is refused.
+    pub fn records(&self) -> Records<'a> {
+        Records {
+            bytes: self.bytes,
+            at: Some(raw::Cursor::before(self.start)),
+        }
+    }
+}
+
+/// The records of a log or of a block: see [`Log::records`].
+#[derive(Clone, Debug)]
+pub struct Records<'a> {
+    bytes: &'a [u8],
+    // none once it has ended
+    at: Option<raw::Cursor>,
+}
+
+impl<'a> Iterator for Records<'a> {
+    type Item = Result<Record<'a>, Refused>;
+
+    fn next(&mut self) -> Option<Self::Item> {
+        let met = raw::next_record(self.bytes, self.at?);
+        if met.met == 0 {
+            self.at = None;
+            return Refused::answer(met.number, met.place).err().map(Err);
+        }
+        self.at = Some(met.next);
+        Some(Ok(Record {
+            octets: &self.bytes[met.start..met.start + met.length],
+            category: met.category,
+            block: met.block,
+            start: met.start - met.block,
+            count: met.count,
+            starts: met.starts,
+        }))
+    }
+}
+
+impl FusedIterator for Records<'_> {}
+
+/// The blocks of a log: see [`Log::blocks`].
+#[derive(Clone, Debug)]
+pub struct Blocks<'a> {
+    bytes: &'a [u8],
+    // where the next one starts; none once it has ended
+    at: Option<usize>,
+}
+
+impl<'a> Iterator for Blocks<'a> {
+    type Item = Result<Block<'a>, Refused>;
+
+    fn next(&mut self) -> Option<Self::Item> {
+        let start = self.at.take()?;
+        // the step to its first record tells where the block ends
+        let met = raw::next_record(self.bytes, raw::Cursor::before(start));
+        if met.met == 0 {
+            return Refused::answer(met.number, met.place).err().map(Err);
+        }
+        let end = met.next.end;
+        let octets = &self.bytes[start..end];
+        Some(match check_block(octets) {
+            Ok(count) => {
+                self.at = Some(end);
+                Ok(Block {
+                    octets,
+                    category: met.category,
+                    start,
+                    count,
+                    bytes: &self.bytes[..end],
+                })
+            }
+            Err(refused) => Err(Refused {
+                why: refused.why,
+                place: start + refused.place,
+            }),
+        })
+    }
+}
+
+impl FusedIterator for Blocks<'_> {}
 
 // ---- One item
 

@@ -41,6 +41,42 @@ pub struct ItemFound {
 }
 
 #[repr(C)]
+#[derive(Clone, Copy, Debug, PartialEq, Eq)]
+pub struct Cursor {
+    pub block: usize,
+    pub place: usize,
+    pub end: usize,
+    pub category: u8,
+}
+
+impl Cursor {
+    // Before the block that starts at a place.
+    pub fn before(place: usize) -> Cursor {
+        Cursor {
+            block: place,
+            place,
+            end: place,
+            category: 0,
+        }
+    }
+}
+
+#[repr(C)]
+pub struct RecordMet {
+    pub number: u8,
+    pub met: u8,
+    pub category: u8,
+    pub place: usize,
+    pub start: usize,
+    pub length: usize,
+    pub block: usize,
+    pub end: usize,
+    pub count: usize,
+    pub starts: [u16; FRNS],
+    pub next: Cursor,
+}
+
+#[repr(C)]
 pub struct ItemRead {
     pub number: u8,
     pub place: usize,
@@ -67,6 +103,7 @@ extern "C" {
     fn asterix_check_recording(recording: *const u8, recording_len: usize) -> RecordingChecked;
     fn asterix_find_record(block: *const u8, block_len: usize, n: usize) -> RecordFound;
     fn asterix_find_item(block: *const u8, block_len: usize, reference: u16, n: usize) -> ItemFound;
+    fn asterix_next_record(recording: *const u8, recording_len: usize, cursor: Cursor) -> RecordMet;
     fn asterix_read_item(category: u8, reference: u16, item: *const u8, item_len: usize, fields: *mut i64) -> ItemRead;
     fn asterix_write_item(
         category: u8,
@@ -101,6 +138,10 @@ pub fn find_record(block: &[u8], n: usize) -> RecordFound {
 
 pub fn find_item(block: &[u8], reference: u16, n: usize) -> ItemFound {
     unsafe { asterix_find_item(block.as_ptr(), block.len(), reference, n) }
+}
+
+pub fn next_record(recording: &[u8], cursor: Cursor) -> RecordMet {
+    unsafe { asterix_next_record(recording.as_ptr(), recording.len(), cursor) }
 }
 
 pub fn read_item(category: u8, reference: u16, item: &[u8], fields: &mut [i64; FIELDS]) -> ItemRead {
