@@ -1,7 +1,7 @@
 /* log FILE: prints every record of a log of ASTERIX categories 017 and 018: its message type, and the fields of
  * its items. Status 1 where the log is refused: then one line says why and where, and nothing else is printed.
  *
- * A worked example of include/asterix.h. It checks the whole log first; from then on no call can refuse. */
+ * A worked example of include/asterix.h. It checks the whole log first, and then walks it: no step can refuse. */
 #include <inttypes.h>
 #include <stdio.h>
 #include <stdlib.h>
@@ -144,9 +144,10 @@ static void print_item(uint8_t category, const struct item *item, const uint8_t 
 }
 
 /* The items of a record, by its map: an item ends where the next one starts, and the last where the record ends. */
-static void print_record(const uint8_t *block, const struct asterix_record_found *record)
+static void print_record(const uint8_t *log, const struct asterix_record_met *record)
 {
-    uint8_t category = block[0];
+    const uint8_t *block = log + record->block; /* from where the map counts */
+    uint8_t category = record->category;
     const struct item *items = category == 17 ? items_017 : items_018;
     uint8_t type = block[record->starts[TYPE_FRN - 1]];
     printf("  %s (%u), %zu octets, %zu items\n", message_name(category, type), type, record->length, record->count);
@@ -160,15 +161,6 @@ static void print_record(const uint8_t *block, const struct asterix_record_found
                 break;
             }
         print_item(category, &items[frn - 1], block + start, end - start);
-    }
-}
-
-static void print_block(const uint8_t *block, size_t len)
-{
-    size_t records = asterix_check_block(block, len).records;
-    for (size_t n = 0; n < records; n++) {
-        struct asterix_record_found record = asterix_find_record(block, len, n);
-        print_record(block, &record);
     }
 }
 
@@ -213,11 +205,14 @@ int main(int argc, char **argv)
         return 1;
     }
     printf("%zu blocks, %zu records\n", checked.blocks, checked.records);
-    for (size_t at = 0; at < length;) {
-        size_t len = (size_t)log[at + 1] << 8 | log[at + 2]; /* LEN, which was checked */
-        printf("block at %zu, category %03u, %zu octets\n", at, log[at], len);
-        print_block(log + at, len);
-        at += len;
+    size_t end = 0; /* of the block before */
+    struct asterix_record_met record = asterix_next_record(log, length, asterix_start());
+    for (; record.met; record = asterix_next_record(log, length, record.next)) {
+        if (record.block == end) { /* the first of its block */
+            end = record.next.end;
+            printf("block at %zu, category %03u, %zu octets\n", record.block, record.category, end - record.block);
+        }
+        print_record(log, &record);
     }
     free(log);
     return 0;
