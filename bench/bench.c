@@ -1,8 +1,8 @@
-/* bench [ROUNDS]: how fast recordings are checked, and how long finding, reading and writing take.
+/* bench [ROUNDS]: how fast recordings are checked and walked, and how long finding, reading and writing take.
  *
- * Each round lets every checker go once over the whole of the same recording in memory, one after another, so that
- * what disturbs the machine disturbs them all alike. Printed: the best round and the median; MB is 10^6 bytes.
- * Before anything is timed the answers are compared.
+ * Each round lets every checker, and the walk over all records with their maps, go once over the whole of the same
+ * recording in memory, one after another, so that what disturbs the machine disturbs them all alike. Printed: the
+ * best round and the median; MB is 10^6 bytes. Before anything is timed the answers are compared.
  *
  * State of the buffers: a recording is made and then gone over once by each checker before it is timed, so pages
  * are mapped, and what fits the caches is in them (what the largest does is said by its size). Single calls are
@@ -22,10 +22,33 @@
 #ifdef LIBRARY
 #include "asterix.h"
 
+static volatile size_t sink;
+
 static void check_recording_library(const uint8_t *p, size_t n, struct answer *out)
 {
     struct asterix_recording_checked checked = asterix_check_recording(p, n);
     *out = (struct answer){ checked.number, checked.place, checked.blocks, checked.records };
+}
+
+/* Every record by a walk from the start, and by its map the message type; the answer is that of a check. */
+static void walk_recording_library(const uint8_t *p, size_t n, struct answer *out)
+{
+    size_t blocks = 0, records = 0, end = 0, types = 0;
+    struct asterix_cursor cursor = asterix_start();
+    for (;;) {
+        struct asterix_record_met at = asterix_next_record(p, n, cursor);
+        if (!at.met) {
+            bool whole = at.number == 0;
+            *out = (struct answer){ at.number, at.place, whole ? blocks : 0, whole ? records : 0 };
+            break;
+        }
+        blocks += at.block == end; /* the first of its block */
+        records++;
+        end = at.next.end;
+        types += p[at.block + at.starts[2]];
+        cursor = at.next;
+    }
+    sink += types;
 }
 #endif
 
@@ -43,10 +66,11 @@ static struct checker checkers[] = {
     { "table-driven C", check_recording_plain, { 0 }, 0, 0 },
 #ifdef LIBRARY
     { "library", check_recording_library, { 0 }, 0, 0 },
+    { "library, walked", walk_recording_library, { 0 }, 0, 0 },
 #endif
 };
 
-enum { FASTEST, TABLE, PROVED, CHECKERS = sizeof checkers / sizeof *checkers };
+enum { FASTEST, TABLE, PROVED, WALKED, CHECKERS = sizeof checkers / sizeof *checkers };
 
 static double now(void)
 {
@@ -120,6 +144,8 @@ static void bench_recording(const uint8_t *recording, size_t n, size_t rounds)
 #ifdef LIBRARY
     printf("  library to table-driven C %.2f, to fastest C %.2f (best rounds; more than 1: the library is faster)\n",
            checkers[TABLE].best / checkers[PROVED].best, checkers[FASTEST].best / checkers[PROVED].best);
+    printf("  a walk with maps takes %.2f times what checking takes (best rounds; medians %.2f)\n",
+           checkers[WALKED].best / checkers[PROVED].best, checkers[WALKED].median / checkers[PROVED].median);
 #endif
 }
 
@@ -169,6 +195,21 @@ static void bench_growth(const uint8_t *recording, const size_t *ends, size_t ro
 }
 
 #ifdef LIBRARY
+/* ---- A log of ten full blocks, where finding each record would check its block anew */
+
+static void bench_full_blocks(size_t rounds)
+{
+    struct chance c = { SEED }; /* its own, so that the other inputs stay as they are */
+    enum { BLOCKS = 10, LONGEST = 65535 };
+    static uint8_t log[BLOCKS * LONGEST];
+    size_t n = 0;
+    for (size_t i = 0; i < BLOCKS; i++)
+        n += make_block(&c, 17 + (unsigned)below(&c, 2), LONGEST, false, log + n, LONGEST);
+    size_t records = time_checkers(log, n, rounds);
+    printf("ten full blocks: %zu bytes, %zu records: checked in %.2f ms, walked in %.2f ms (best of %zu rounds)\n", n,
+           records, checkers[PROVED].best / 1e6, checkers[WALKED].best / 1e6, rounds);
+}
+
 /* ---- Single calls */
 
 enum { ITEMS = 4000, MOST = 1100 };
@@ -182,7 +223,6 @@ struct sample {
 };
 
 static struct sample *samples;
-static volatile size_t sink;
 
 /* The items of legal records, found by the library itself. */
 static void take_samples(struct chance *c)
@@ -336,6 +376,7 @@ int main(int argc, char **argv)
     compare_damaged(&c);
     bench_growth(recording, ends, rounds < 9 ? rounds : 9);
 #ifdef LIBRARY
+    bench_full_blocks(rounds < 9 ? rounds : 9);
     bench_calls(&c);
 #endif
     free(recording);
