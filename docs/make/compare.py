@@ -3,8 +3,9 @@
     python3 docs/make/compare.py [QUESTIONS ANSWERS]..
 
 From Category017.antt and Category018.antt it takes every layout, every row of the profile, every
-message type, and the section, title, FRN and name of a field in the comment beside each (so that two
-fields of one width, exchanged, show); from Entry.antt the list of categories. Then reading.py answers every question of tests/vectors, and of the pairs of files named,
+message type, the item that is a record's time and the types without one, and the section, title, FRN
+and name of a field in the comment beside each (so that two fields of one width, exchanged, show);
+from Entry.antt the list of categories. Then reading.py answers every question of tests/vectors, and of the pairs of files named,
 and its answers are held to those written there. Each difference is a line; with one or more the
 exit status is 1.
 """
@@ -181,6 +182,8 @@ def compare(category):
                 same("%s, message %d, %s" % (name, number, what), ["%03d" % cell for cell in cells], listed.split())
 
     same("%s, CAT" % name, re.search(r"\bcat = (\d+);", body).group(1), str(category.number))
+    same("%s, the item that is a record's time" % name, re.search(r"\btime = (\d+);", body).group(1), category.time)
+    same("%s, the untimed message types" % name, parsed(re.search(r"\buntimed = (.*);", bare(body)).group(1)), category.untimed)
     fields = sum(len([f for f in part if f.kind != FX]) for item in category.items for part in item.parts)
     print("%s: %d items with %d fields and spare groups, %d FRNs, %d message types compared" % (
         name, len(known), fields, len(category.profile), len(category.messages)))

@@ -36,8 +36,9 @@ Message = namedtuple("Message", "number name compulsory optional")
 # A cell that depends on more than the message type, as printed in the table, and the ground.
 Cell = namedtuple("Cell", "number reference printed ground")
 
-# A category: octets is the most that an FSPEC has.
-Category = namedtuple("Category", "number document edition octets items profile messages cells note")
+# A category: octets is the most that an FSPEC has; time is the item that is a record's time, and
+# untimed has the message types in which it is not (document 02, W-201).
+Category = namedtuple("Category", "number document edition octets items profile messages cells time untimed note")
 
 
 def unsigned(name, bits, width, unit="", says="", least=0, greatest=None):
@@ -423,9 +424,9 @@ CELLS_018 = [
 ]
 
 CATEGORIES = {
-    17: Category(17, "000", "1.3", 3, ITEMS_017, PROFILE_017, MESSAGES_017, CELLS_017,
+    17: Category(17, "000", "1.3", 3, ITEMS_017, PROFILE_017, MESSAGES_017, CELLS_017, "140", [],
                  "Table 2 and the sentence below it give the FSPEC three octets."),
-    18: Category(18, "002", "1.6", 5, ITEMS_018, PROFILE_018, MESSAGES_018, CELLS_018,
+    18: Category(18, "002", "1.6", 5, ITEMS_018, PROFILE_018, MESSAGES_018, CELLS_018, "002", [0x40],
                  "Table 9 gives the FSPEC five octets, the sentence below it six; the table is followed (R1)."),
 }
 
@@ -483,6 +484,13 @@ def faults():
             optional |= {(row.number, reference) for reference in row.optional.split()}
         if optional != {(cell.number, cell.reference) for cell in category.cells}:
             said.append("%d: optional items and listed cells differ" % category.number)
+        clock = known.get(category.time)
+        if not clock or [(f.width, f.least, f.greatest) for part in clock.parts for f in part] != [(24, 0, DAY)]:
+            said.append("%d: %s is no time of day" % (category.number, category.time))
+        for number in category.untimed:
+            row = message(category, number)
+            if not row or category.time not in row.compulsory.split() + row.optional.split():
+                said.append("%d: message %d has no time to leave aside" % (category.number, number))
     return said
 
 

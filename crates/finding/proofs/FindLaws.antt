@@ -140,7 +140,7 @@ numbered-low c k [] n z h = refused-ok h
 numbered-low c k (r ∷ rs) zero z h = le-of-eq (ap (λ y. y .start) (ok-inj h))
 numbered-low c k (r ∷ rs) (suc n) z h = omega (arith, numbered-low c (k + length (octetsOf (writeRecord c r))) rs n z h)
 
-laid-low : (ref k : ℕ) (ps : List (Option Place)) (vs : List (Option Values)) (l : Laid) → laidAs ref (laid k ps vs) ≡ some l → k ≤ l .start
+pub laid-low : (ref k : ℕ) (ps : List (Option Place)) (vs : List (Option Values)) (l : Laid) → laidAs ref (laid k ps vs) ≡ some l → k ≤ l .start
 laid-low ref k [] vs l h = none-some h
 laid-low ref k (p ∷ ps) [] l h = none-some h
 laid-low ref k (p ∷ ps) (none ∷ vs) l h = laid-low ref k ps vs l h

@@ -267,6 +267,8 @@ i037 =
 unfoldable pub category018 : Category
 category018 = record {
   cat = 18;
+  time = 002;  -- 5.2.3
+  untimed = 0x40 ∷ [];  -- GICB_extraction: the end of a request (5.2.3)
   profile =
       (at 036 i036  -- FRN 1   I018/036  D_Source
       ∷ at 037 i037  -- FRN 2   I018/037  D_Destination

@@ -21,8 +21,11 @@ pub record Message : Type 0 where
   pub compulsory : List ℕ
   pub optional : List ℕ
 
+-- its CAT; the reference of the item that is a record's time, and the message types in which it is not (document 02, W-201)
 pub record Category : Type 0 where
   pub cat : ℕ
+  pub time : ℕ
+  pub untimed : List ℕ
   pub profile : List (List (Option Place))
   pub messages : List Message
 

@@ -12,7 +12,7 @@ use Rattle.rules.specs.Entry.{categories, over}
 
 -- the category with an index; any other index has no profile and no messages
 abbrev pub categoryIn : List Category → ℕ → Category
-categoryIn [] i = record { cat = 0; profile = []; messages = [] }
+categoryIn [] i = record { cat = 0; time = 0; untimed = []; profile = []; messages = [] }
 categoryIn (c ∷ cs) zero = c
 categoryIn (c ∷ cs) (suc i) = categoryIn cs i
 
