@@ -1,0 +1,87 @@
+-- A record that is known to be legal, measured: how many octets it has, by its FSPEC and by the first octets of its items alone, and its time (document 02,
+-- W-201). No rule of a field is asked. Assumes nothing.
+--
+-- In order: an item; the items of a set; the time; a record.
+use Prim.Native.Nat.{ℕ, _+_, _-_, _*_, _/_, _%_, _^_}
+use mathlib.Core.Bool.{Bool, true, false, _&&_}
+use mathlib.Core.Option.{Option, none, some}
+use mathlib.Core.List.{List, [], _∷_}
+use lib.Dec.{eqb, leb}
+use lib.ListN.{length, getD}
+use Rattle.rules.specs.Answer.{Answer, ok, refused, if_then_else_}
+use Rattle.rules.specs.Presence.{flags}
+use Rattle.rules.specs.Entry.{categories}
+use Rattle.items.specs.Answers.{profileIn}
+use Rattle.sets.specs.Sets.{setAt}
+use Rattle.steps.specs.Told.{digitOf}
+use Rattle.measuring.specs.declared.record.Measured.{Measured}
+
+-- ---- an item, at an FRN of a profile
+
+-- its octets, where it is one part; 0 where it is a list, a led item or has FX bits
+unfoldable pub fixedOctets : ℕ → ℕ → ℕ
+fixedOctets i f = digitOf i f 0x2098_9669_8290 0x1008_7CC4_8111_9290 0x4A4_963E_6927
+
+-- by its first octet, where it is not: a count and so many parts; a length that counts itself; FX
+unfoldable pub variableOctets : ℕ → ℕ → ℕ → ℕ
+variableOctets i f x =
+    if eqb i 0
+    then if eqb f 4 then 1 + x * 2 else 1 + x * 3
+    else if eqb f 7 then 1 + x * 4 else if eqb f 9 then x else if eqb f 16 then 1 + x * 3 else 1 + x % 2
+
+unfoldable pub octetsAt : ℕ → ℕ → ℕ → ℕ
+octetsAt i f x = if eqb (fixedOctets i f) 0 then variableOctets i f x else fixedOctets i f
+
+-- ---- the items that flags name, the first flag's FRN given, from a place on: where they end. What is past the end counts as 0
+
+unfoldable pub endFrom : ℕ → List Bool → ℕ → List ℕ → ℕ → ℕ
+endFrom i [] f bs at = at
+endFrom i (false ∷ ts) f bs at = endFrom i ts (f + 1) bs at
+endFrom i (true ∷ ts) f bs at = endFrom i ts (f + 1) bs (at + octetsAt i f (getD bs at 0))
+
+-- those of a set; and those of it that stand before an FRN, which is where the item at the FRN starts
+unfoldable pub endOf : ℕ → ℕ → List ℕ → ℕ → ℕ
+endOf i bits bs at = endFrom i (flags 63 bits) 1 bs at
+
+unfoldable pub startOf : ℕ → ℕ → ℕ → List ℕ → ℕ → ℕ
+startOf i f bits bs at = endOf i (bits / 2 ^ (64 - f) * 2 ^ (64 - f)) bs at
+
+-- ---- the time of a record whose set has been read
+
+-- I017/140 is FRN 7, I018/002 is FRN 15
+abbrev pub timeFrn : ℕ → ℕ
+timeFrn i = if eqb i 0 then 7 else 15
+
+abbrev pub isIn : ℕ → ℕ → Bool
+isIn f bits = eqb (bits / 2 ^ (63 - f) % 2) 1
+
+-- a GICB_extraction of category 018; the message type is FRN 3
+abbrev pub isUntimed : ℕ → ℕ → Bool
+isUntimed i kind = eqb i 1 && eqb kind 64
+
+unfoldable pub clockAt : List ℕ → ℕ → Option ℕ
+clockAt bs at = if leb (at + 3) (length bs) then some (getD bs at 0 * 65_536 + getD bs (at + 1) 0 * 256 + getD bs (at + 2) 0) else none
+
+unfoldable pub timeIn : ℕ → ℕ → List ℕ → ℕ → Option ℕ
+timeIn i bits bs at =
+    if isIn (timeFrn i) bits
+    then if isUntimed i (getD bs (startOf i 3 bits bs at) 0) then none else clockAt bs (startOf i (timeFrn i) bits bs at)
+    else none
+
+-- ---- a record
+
+abbrev pub sized : ℕ → Option ℕ → Measured
+sized n none = record { size = n; timed = false; time = 0 }
+sized n (some t) = record { size = n; timed = true; time = t }
+
+-- size 0 where it has no FSPEC of its profile, or ends past the octets
+abbrev pub measureBy : ℕ → List ℕ → Answer (ℕ × ℕ) → Measured
+measureBy i bs (refused n p) = sized 0 none
+measureBy i bs (ok (bits, used)) = if leb (endOf i bits bs used) (length bs) then sized (endOf i bits bs used) (timeIn i bits bs used) else sized 0 none
+
+unfoldable pub measureIn : ℕ → List ℕ → Measured
+measureIn i bs = measureBy i bs (setAt i bs)
+
+-- the record that starts octets, of a category
+unfoldable pub measureOf : ℕ → List ℕ → Measured
+measureOf cat bs = measureIn (profileIn cat categories) bs
