@@ -1,6 +1,16 @@
-// Item by item.
+// Item by item, in one pass: the items before the time, and from there on the others.
+use items::profile_of;
+use sets::ItemSet;
+use sets::SetRead;
+use steps::digit_of;
+use steps::octet;
 ghost use mathlib.Core.Path.{_≡_};
-ghost use Rattle.measuring.specs.Measure.{measureOf};
+ghost use mathlib.Core.Bool.{true};
+ghost use mathlib.Core.Option.{none};
+ghost use Prim.Native.Nat.{_+_, _-_, _*_, _/_, _^_, _≤_, _<_};
+ghost use lib.ListN.{length, getD};
+ghost use Rattle.rules.specs.Answer.{ok};
+ghost use Rattle.measuring.specs.Measure.{fixedOctets, variableOctets, octetsAt, endOf, startOf, timeFrn, isUntimed, clockAt, sized, measureBy, measureOf};
 
 // How many octets a record has, 0 where it has no FSPEC of its category or ends past what is lent; and its time of day, in 1/128 s, where it counts as
 // timed, 0 where not.
@@ -10,13 +20,176 @@ pub struct Measured {
     pub time: u64,
 }
 
+// The octets of the item at an FRN where it is one part; 0 where it is not.
+fn fixed_octets(profile: usize, frn: usize) -> usize
+    ensures { λ r. ⌜ r ≡ fixedOctets profile frn ⌝ }
+{
+    digit_of(
+        profile,
+        frn,
+        0x2098_9669_8290,
+        0x1008_7CC4_8111_9290,
+        0x4A4_963E_6927,
+    )
+}
+
+// By its first octet, where it is not.
+fn variable_octets(profile: usize, frn: usize, x: usize) -> usize
+    requires { ⌜ x < 256 ⌝ }
+    ensures { λ r. ⌜ r ≡ variableOctets profile frn x ⌝ }
+{
+    if profile == 0 {
+        if frn == 4 {
+            return 1 + x * 2; // I017/350  5.2.14
+        }
+        return 1 + x * 3; // I017/210  5.2.9
+    }
+    if frn == 7 {
+        return 1 + x * 4; // I018/017  5.2.17
+    }
+    if frn == 9 {
+        return x; // I018/019  5.2.19
+    }
+    if frn == 16 {
+        return 1 + x * 3; // I018/006  5.2.6
+    }
+    1 + x % 2
+}
+
+// The octet at a place, 0 past the end.
+fn octet_at(part: &[u8], at: usize) -> usize
+    ensures { λ r. ⌜ (r ≡ getD (now (part .entry)) at 0) × (r < 256) ⌝ }
+{
+    if part.len() <= at {
+        return 0;
+    }
+    octet(part[at])
+}
+
+// Of the item at an FRN that starts at a place.
+fn octets_at(profile: usize, frn: usize, part: &[u8], at: usize) -> usize
+    ensures { λ r. ⌜ r ≡ octetsAt profile frn (getD (now (part .entry)) at 0) ⌝ }
+{
+    let n = fixed_octets(profile, frn);
+    if n != 0 {
+        return n;
+    }
+    variable_octets(profile, frn, octet_at(part, at))
+}
+
+// Where the items of a set end, from a place on.
+fn items_from(profile: usize, bits: u64, part: &[u8], from: usize) -> usize
+    requires { ⌜ (bits < 2 ^ 63) × (from < 0x8000_0000_0001_0000) ⌝ }
+    ensures { λ r. ⌜ r ≡ endOf profile bits (now (part .entry)) from ⌝ }
+{
+    let mut left = bits;
+    let mut at = from;
+    while left != 0 {
+        let frn = u64::leading_zeros(left) as usize;
+        at = at + octets_at(profile, frn, part, at);
+        left = left - (1u64 << (63 - frn));
+    }
+    at
+}
+
+// The same; FRN 1 to 3 have five octets together.
+fn items_end(profile: usize, bits: u64, part: &[u8], from: usize) -> usize
+    requires { ⌜ (bits < 2 ^ 63) × (from < 2 ^ 63) ⌝ }
+    ensures { λ r. ⌜ r ≡ endOf profile bits (now (part .entry)) from ⌝ }
+{
+    if bits >> 60 == 7 {
+        return items_from(profile, bits % 0x1000_0000_0000_0000, part, from + 5);
+    }
+    items_from(profile, bits, part, from)
+}
+
+// Those of a set that stand before an FRN.
+fn before(bits: u64, frn: usize) -> u64
+    requires { ⌜ (1 ≤ frn) × (frn ≤ 63) ⌝ }
+    ensures { λ r. ⌜ r ≡ bits / 2 ^ (64 - frn) * 2 ^ (64 - frn) ⌝ }
+{
+    (bits >> (64 - frn)) << (64 - frn)
+}
+
+// Whether the record is a GICB_extraction of category 018.
+fn is_untimed(profile: usize, bits: u64, part: &[u8], from: usize) -> bool
+    requires { ⌜ (bits < 2 ^ 63) × (from < 2 ^ 63) ⌝ }
+    ensures { λ r. ⌜ r ≡ isUntimed profile (getD (now (part .entry)) (startOf profile 3 bits (now (part .entry)) from) 0) ⌝ }
+{
+    if profile != 1 {
+        return false;
+    }
+    octet_at(part, items_from(profile, before(bits, 3), part, from)) == 64
+}
+
+// A record of so many octets that is not timed.
+fn untimed(size: usize) -> Measured
+    ensures { λ r. ⌜ r ≡ sized size none ⌝ }
+{
+    Measured {
+        size: size,
+        timed: false,
+        time: 0,
+    }
+}
+
+// An octet of a time of day.
+fn wide(x: u8) -> u64
+    ensures { λ r. ⌜ (r ≡ x) × (r < 256) ⌝ }
+{
+    x as u64
+}
+
+// One of so many octets whose time stands at a place.
+fn timed(size: usize, part: &[u8], at: usize) -> Measured
+    requires { ⌜ at < 0x8000_0000_0002_0000 ⌝ }
+    ensures { λ r. ⌜ r ≡ sized size (clockAt (now (part .entry)) at) ⌝ }
+{
+    if part.len() < at + 3 {
+        return untimed(size);
+    }
+    Measured {
+        size: size,
+        timed: true,
+        time: wide(part[at]) * 65536 + wide(part[at + 1]) * 256 + wide(part[at + 2]),
+    }
+}
+
+// The FRN of the time: I017/140, I018/002.
+fn time_frn(profile: usize) -> usize
+    ensures { λ r. ⌜ r ≡ timeFrn profile ⌝ }
+{
+    if profile == 0 { 7 } else { 15 }
+}
+
+// A record whose set has been read.
+fn measure_set(profile: usize, bits: u64, part: &[u8], from: usize) -> Measured
+    requires { ⌜ (bits < 2 ^ 63) × (from < 2 ^ 63) ⌝ }
+    ensures { λ r. ⌜ r ≡ measureBy profile (now (part .entry)) (ok (bits, from)) ⌝ }
+{
+    let frn = time_frn(profile);
+    let early = before(bits, frn);
+    let start = items_end(profile, early, part, from);
+    let end = items_from(profile, bits - early, part, start);
+    if part.len() < end {
+        return untimed(0);
+    }
+    if (bits >> (63 - frn)) % 2 != 1 {
+        return untimed(end);
+    }
+    if is_untimed(profile, bits, part, from) {
+        return untimed(end);
+    }
+    timed(end, part, start)
+}
+
 // The record at the start of a part.
 pub fn measure(category: u8, part: &[u8]) -> Measured
     ensures { λ r. ⌜ r ≡ measureOf category (now (part .entry)) ⌝ }
 {
-    Measured {
-        size: 0,
-        timed: false,
-        time: 0,
-    }
+    let profile = profile_of(category);
+    let SetRead::Items { set, octets } = ItemSet::from_octets(profile, part) else {
+        return untimed(0);
+    };
+    measure_set(profile, set.bits, part, octets)
 }

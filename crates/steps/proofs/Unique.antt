@@ -7,9 +7,13 @@ use Prim.Native.Nat.{ℕ, _<_}
 use mathlib.Core.Path.{_≡_, sym, _∙_}
 use mathlib.Core.Bool.{Bool}
 use Rattle.steps.specs.Item.{asks}
+use Rattle.steps.specs.Told.{digitOf}
 
 pub one-octet : (x a b : ℕ) → (a ≡ x) × (a < 256) → (b ≡ x) × (b < 256) → a ≡ b
 one-octet x a b p q = p .0 ∙ sym (q .0)
 
 pub one-is-kept : (low high n : ℕ) (a b : Bool) → a ≡ asks low high n → b ≡ asks low high n → a ≡ b
 one-is-kept low high n a b p q = p ∙ sym q
+
+pub one-digit-of : (profile frn first low high a b : ℕ) → a ≡ digitOf profile frn first low high → b ≡ digitOf profile frn first low high → a ≡ b
+one-digit-of profile frn first low high a b p q = p ∙ sym q

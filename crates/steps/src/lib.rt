@@ -2,6 +2,7 @@
 // does not tell is left to the exact check.
 mod told;
 
+pub use told::digit_of;
 pub use told::told_item;
 ghost use mathlib.Core.Path.{_≡_};
 ghost use mathlib.Core.Bool.{true};

@@ -22,7 +22,7 @@ fn digit(word: u64, at: usize) -> usize
 }
 
 // The digit of an FRN: of the first number for profile 0, and else of the second, from FRN 21 on of the third.
-fn digit_of(profile: usize, frn: usize, first: u64, low: u64, high: u64) -> usize
+pub fn digit_of(profile: usize, frn: usize, first: u64, low: u64, high: u64) -> usize
     ensures { λ r. ⌜ r ≡ digitOf profile frn first low high ⌝ }
 {
     if profile == 0 {

@@ -1,0 +1,317 @@
+-- Where the items of a set end.
+--
+-- In order: the octets of an item; a time; flags end to end; the next item of a set; FRN 1 to 3; the items before an FRN and from it on; what is measured,
+-- by cases. Assumes nothing.
+use Prim.Native.Nat.{ℕ, zero, suc, _+_, _-_, _*_, _/_, _%_, _^_, _≤_, _<_}
+use mathlib.Core.Path.{_≡_, refl, sym, ap, ap₂, _∙_, subst}
+use mathlib.Core.Bool.{Bool, true, false, _&&_}
+use mathlib.Core.Option.{Option, none, some}
+use mathlib.Core.Logic.{⊎-elim}
+use mathlib.Core.List.{List, [], _∷_, _++_}
+use native.Mathlib.Omega.{arith}
+use native.Mathlib.Nat.{mod-lt, mod-eq-of-lt, mod-eq-sub-mod, div-eq-of-lt, pow-suc, add-zero, one-mul}
+use lib.Count.{leadingZeros, leading-top}
+use lib.Pow.{pow-pos, pow-mono, pow-add, split, high, low, shr-lt, shl-exact}
+use lib.Dec.{eqb, leb, ltb, eqb·suc-zero}
+use lib.ListN.{length, getD}
+use borrow.Author.Tests.{le-leb, lt-leb, eq-eqb, ne-eqb}
+use Rattle.rules.specs.Answer.{ok, if_then_else_}
+use Rattle.rules.specs.Presence.{flags}
+use Rattle.rules.specs.Entry.{categories}
+use Rattle.rules.proofs.AnswerLaws.{if-true, if-false, Octets}
+use Rattle.rules.proofs.PresenceLaws.{flags-length}
+use Rattle.layouts.proofs.ReadLaws.{le-or-lt}
+use Rattle.items.specs.Answers.{profileIn}
+use Rattle.sets.specs.Sets.{setAt}
+use Rattle.sets.specs.Answers.{setOf}
+use Rattle.sets.specs.declared.ItemSet.{ItemSet}
+use Rattle.sets.specs.declared.SetRead.{SetRead}
+use Rattle.sets.specs.declared.SetRead.the-variants as set
+use Rattle.sets.proofs.FlagLaws.{flags-split}
+use Rattle.steps.specs.Told.{digitAt, digitOf}
+use Rattle.steps.proofs.ItemLaws.{octet-at}
+use Rattle.measuring.specs.Measure.{fixedOctets, variableOctets, octetsAt, endFrom, endOf, startOf, timeFrn, isIn, isUntimed, clockAt, timeIn, sized, measureBy, measureIn, measureOf}
+
+-- ---- the octets of an item
+
+if-most : (t : Bool) (a b m : ℕ) → a ≤ m → b ≤ m → (if t then a else b) ≤ m
+unfolding if_then_else_
+if-most true a b m h k = h
+if-most false a b m h k = k
+
+digit-most : (w k : ℕ) → digitAt w k ≤ 1_021
+unfolding digitAt
+digit-most w k = if-most (ltb k 21) _ _ 1_021 (omega arith) (omega arith)
+
+-- 255 parts of four octets after the count
+octets-most : (i f x : ℕ) → x < 256 → octetsAt i f x ≤ 1_021
+unfolding octetsAt fixedOctets variableOctets digitOf
+octets-most i f x h =
+    if-most (eqb (fixedOctets i f) 0) _ _ 1_021
+    (if-most (eqb i 0) _ _ 1_021
+    (if-most (eqb f 4) _ _ 1_021 (omega arith) (omega arith))
+    (if-most (eqb f 7) _ _ 1_021 (omega arith) (if-most (eqb f 9) _ _ 1_021 (omega arith) (if-most (eqb f 16) _ _ 1_021 (omega arith) (omega arith)))))
+    (if-most (eqb i 0) _ _ 1_021 (digit-most _ f) (if-most (ltb f 21) _ _ 1_021 (digit-most _ f) (digit-most _ (f - 21))))
+
+pub fixed-is : (i f x : ℕ) {n : ℕ} → n ≡ fixedOctets i f → (n ≡ 0 → ⊥) → n ≡ octetsAt i f x
+unfolding octetsAt
+fixed-is i f x e z = e ∙ sym (if-false _ (ne-eqb (fixedOctets i f) 0 (λ y. z (e ∙ y))) refl)
+
+pub variable-is : (i f x : ℕ) {n : ℕ} → n ≡ fixedOctets i f → n ≡ 0 → variableOctets i f x ≡ octetsAt i f x
+unfolding octetsAt
+variable-is i f x e z = sym (if-true _ (eq-eqb (fixedOctets i f) 0 (sym e ∙ z)) refl)
+
+-- one bit, moved up
+pub bit-is : (f : ℕ) → 1 * 2 ^ (63 - f) % 2 ^ 64 ≡ 2 ^ (63 - f)
+bit-is f = shl-exact 1 (63 - f) 64 (omega arith) (omega arith) ∙ one-mul (2 ^ (63 - f))
+
+-- three octets, the higher first
+module _ (bs : List ℕ) (at : ℕ) where
+  pub clock-past : length bs < at + 3 → none ≡ clockAt bs at
+  unfolding clockAt
+  clock-past h = sym (if-false _ (lt-leb (at + 3) (length bs) h) refl)
+
+  pub clock-there : (n : ℕ) {x y z : ℕ} → at + 3 ≤ length bs → x ≡ getD bs at 0 → y ≡ getD bs (at + 1) 0 → z ≡ getD bs (at + 2) 0
+      → record { size = n; timed = true; time = x * 65_536 + y * 256 + z } ≡ sized n (clockAt bs at)
+  unfolding clockAt
+  clock-there n h a b d =
+      ap (sized n) (ap₂ (λ u w. some (u + w)) (ap₂ (λ u w. u * 65_536 + w * 256) a b) d ∙ sym (if-true _ (le-leb (at + 3) (length bs) h) refl))
+
+-- the set before an FRN
+pub early-few : (bits f : ℕ) {early : ℕ} → early ≡ bits / 2 ^ (64 - f) * 2 ^ (64 - f) → early ≤ bits
+early-few bits f e = omega (arith, e, split bits (64 - f))
+
+-- the FRN of the time, and who has none
+frn-of : (t : Bool) → (1 ≤ (if t then 7 else 15)) × ((if t then 7 else 15) ≤ 15)
+unfolding if_then_else_
+frn-of true = (omega arith, omega arith)
+frn-of false = (omega arith, omega arith)
+
+pub frn-few : (i : ℕ) {f : ℕ} → f ≡ timeFrn i → (1 ≤ f) × (f ≤ 15)
+frn-few i e = (omega (arith, e, frn-of (eqb i 0) .0), omega (arith, e, frn-of (eqb i 0) .1))
+
+pub not-018 : (i : ℕ) (t : Bool) → (i ≡ 1 → ⊥) → false ≡ eqb i 1 && t
+not-018 i t h = rw (ne-eqb i 1 h)
+
+module _ (i : ℕ) (bs : List ℕ) where
+  -- ---- flags end to end
+
+  pub end-least : (ts : List Bool) (f at : ℕ) → at ≤ endFrom i ts f bs at
+  unfolding endFrom
+  end-least [] f at = omega arith
+  end-least (false ∷ ts) f at = end-least ts (f + 1) at
+  end-least (true ∷ ts) f at = omega (arith, end-least ts (f + 1) (at + octetsAt i f (getD bs at 0)))
+
+  pub end-most : Octets bs → (ts : List Bool) (f at : ℕ) → endFrom i ts f bs at ≤ at + 1_021 * length ts
+  unfolding endFrom
+  end-most o [] f at = omega arith
+  end-most o (false ∷ ts) f at = omega (arith, end-most o ts (f + 1) at)
+  end-most o (true ∷ ts) f at = omega (arith, end-most o ts (f + 1) (at + octetsAt i f (getD bs at 0)), octets-most i f (getD bs at 0) (octet-at bs o at))
+
+  pub end-append : (ts us : List Bool) (f at : ℕ) → endFrom i (ts ++ us) f bs at ≡ endFrom i us (f + length ts) bs (endFrom i ts f bs at)
+  unfolding endFrom
+  end-append [] us f at = ap (λ x. endFrom i us x bs at) (sym (add-zero f))
+  end-append (false ∷ ts) us f at =
+      let e : f + 1 + length ts ≡ f + suc (length ts) = omega arith in
+      end-append ts us (f + 1) at ∙ ap (λ x. endFrom i us x bs (endFrom i ts (f + 1) bs at)) e
+  end-append (true ∷ ts) us f at =
+      let e : f + 1 + length ts ≡ f + suc (length ts) = omega arith in
+      let to : ℕ = at + octetsAt i f (getD bs at 0) in
+      end-append ts us (f + 1) to ∙ ap (λ x. endFrom i us x bs (endFrom i ts (f + 1) bs to)) e
+
+  end-none : (k f at : ℕ) → endFrom i (flags k 0) f bs at ≡ at
+  unfolding endFrom flags
+  end-none zero f at = refl
+  end-none (suc k) f at =
+      let e : 0 % 2 ^ k ≡ 0 = mod-eq-of-lt (pow-pos k) in
+      rw (lt-leb (2 ^ k) 0 (pow-pos k), e) (end-none k (f + 1) at)
+
+  -- the higher bits of a number, then the lower
+  end-split : (j k n f at : ℕ) → n < 2 ^ (j + k) → endFrom i (flags (j + k) n) f bs at ≡ endFrom i (flags k (n % 2 ^ k)) (f + j) bs (endFrom i (flags j (n / 2 ^ k)) f bs at)
+  end-split j k n f at h =
+      ap (λ ts. endFrom i ts f bs at) (flags-split j k n h)
+      ∙ end-append (flags j (n / 2 ^ k)) (flags k (n % 2 ^ k)) f at
+      ∙ ap (λ x. endFrom i (flags k (n % 2 ^ k)) (f + x) bs (endFrom i (flags j (n / 2 ^ k)) f bs at)) (flags-length j (n / 2 ^ k))
+
+  end-blank : (j k n f at : ℕ) → n < 2 ^ k → endFrom i (flags (j + k) n) f bs at ≡ endFrom i (flags k n) (f + j) bs at
+  end-blank j k n f at h =
+      let p : 2 ^ k ≤ 2 ^ (j + k) = pow-mono (omega arith) in
+      end-split j k n f at (omega arith)
+      ∙ ap₂ (λ x y. endFrom i (flags k x) (f + j) bs (endFrom i (flags j y) f bs at)) (mod-eq-of-lt h) (div-eq-of-lt h)
+      ∙ ap (endFrom i (flags k n) (f + j) bs) (end-none j f at)
+
+  -- ---- the next item of a set: the highest bit that is left
+
+  pub record Next (left at f : ℕ) : Type 0 where
+    pub few : f ≤ 63
+    pub there : 2 ^ (63 - f) ≤ left
+    pub on : endOf i left bs at ≡ endOf i (left - 2 ^ (63 - f)) bs (at + octetsAt i f (getD bs at 0))
+
+  pub next : (left at : ℕ) → left < 2 ^ 63 → (left ≡ 0 → ⊥) → Next left at (leadingZeros 64 left)
+  unfolding endOf endFrom flags
+  next left at h z =
+      let f : ℕ = leadingZeros 64 left in
+      let t = leading-top 64 left (⊎-elim (λ (y : left ≤ 0). absurd (z (omega arith))) (λ y. y) (le-or-lt left 0)) (omega arith) in
+      let j : ℕ = t .0 in
+      let a : f + suc j ≡ 64 = t .1 in
+      let b : j < 63 = ⊎-elim (λ (z : 63 ≤ j). absurd (let p : 2 ^ 63 ≤ 2 ^ j = pow-mono z in omega (arith, t .2))) (λ z. z) (le-or-lt 63 j) in
+      let w : 63 - f ≡ j = omega arith in
+      let d : left - 2 ^ j < 2 ^ j = omega (arith, t .3, pow-suc 2 j) in
+      let m : left % 2 ^ j ≡ left - 2 ^ j = mod-eq-sub-mod (t .2) ∙ mod-eq-of-lt d in
+      let to : ℕ = at + octetsAt i f (getD bs at 0) in
+      let e₁ : 63 ≡ 62 - j + suc j = omega arith in
+      let e₂ : 1 + (62 - j) ≡ f = omega arith in
+      let e₃ : f + 1 ≡ 1 + (63 - j) = omega arith in
+      let e₄ : 63 - j + j ≡ 63 = omega arith in
+      record {
+        few = omega arith;
+        there = rw w (t .2);
+        on =
+            ap (λ x. endFrom i (flags x left) 1 bs at) e₁
+            ∙ end-blank (62 - j) (suc j) left 1 at (t .3)
+            ∙ ap (λ x. endFrom i (flags (suc j) left) x bs at) e₂
+            ∙ ap (λ ts. endFrom i ts f bs at) (ap₂ _∷_ (le-leb (2 ^ j) left (t .2)) (ap (flags j) m))
+            ∙ ap (λ x. endFrom i (flags j (left - 2 ^ j)) x bs to) e₃
+            ∙ sym (end-blank (63 - j) j (left - 2 ^ j) 1 to d)
+            ∙ ap₂ (λ x y. endFrom i (flags x (left - 2 ^ y)) 1 bs to) e₄ (sym w);
+      }
+
+  pub ended : (left at : ℕ) → left ≡ 0 → endOf i left bs at ≡ at
+  unfolding endOf
+  ended left at z = ap (λ x. endFrom i (flags 63 x) 1 bs at) z ∙ end-none 63 1 at
+
+  -- a place that the items pass lies before their end, which is not far
+  pub end-far : Octets bs → (bits at : ℕ) → endOf i bits bs at ≤ at + 64_323
+  unfolding endOf
+  end-far o bits at = omega (arith, end-most o (flags 63 bits) 1 at, flags-length 63 bits)
+
+  pub end-past : (bits at : ℕ) → at ≤ endOf i bits bs at
+  unfolding endOf
+  end-past bits at = end-least (flags 63 bits) 1 at
+
+  -- where the loop over the set stands: what is left of the set ends where the whole set does
+  pub record Standing (bits from left at : ℕ) : Type 0 where
+    pub below : left < 2 ^ 63
+    pub same : endOf i left bs at ≡ endOf i bits bs from
+
+  module _ (bits from : ℕ) where
+    pub stand-first : bits < 2 ^ 63 → Standing bits from bits from
+    stand-first h = record { below = h; same = refl }
+
+    module _ (left at : ℕ) (s : Standing bits from left at) where
+      pub stand-next : (f : ℕ) → Next left at f → {n : ℕ} → n ≡ octetsAt i f (getD bs at 0) → Standing bits from (left - 2 ^ (63 - f)) (at + n)
+      stand-next f x e = record { below = omega (arith, s .below); same = ap (λ n. endOf i (left - 2 ^ (63 - f)) bs (at + n)) e ∙ sym (x .on) ∙ s .same }
+
+      pub stand-near : Octets bs → at ≤ from + 64_323
+      stand-near o = omega (arith, end-past left at, s .same, end-far o bits from)
+
+      pub stand-end : left ≡ 0 → at ≡ endOf i bits bs from
+      stand-end z = sym (ended left at z) ∙ s .same
+
+  -- ---- FRN 1 to 3
+
+  first-three : (x y z : ℕ) → octetsAt i 1 x + octetsAt i 2 y + octetsAt i 3 z ≡ 5
+  unfolding octetsAt fixedOctets digitOf digitAt if_then_else_
+  first-three x y z = go i
+    where
+      go : (i : ℕ) → octetsAt i 1 x + octetsAt i 2 y + octetsAt i 3 z ≡ 5
+      go zero = refl
+      go (suc i) = rw eqb·suc-zero
+
+  pub end-three : (bits at : ℕ) → bits / 2 ^ 60 ≡ 7 → endOf i (bits % 2 ^ 60) bs (at + 5) ≡ endOf i bits bs at
+  unfolding endOf endFrom flags
+  end-three bits at b =
+      let to : ℕ = at + octetsAt i 1 (getD bs at 0) in
+      let on : ℕ = to + octetsAt i 2 (getD bs to 0) in
+      let e : at + 5 ≡ on + octetsAt i 3 (getD bs on 0) = omega (arith, first-three (getD bs at 0) (getD bs to 0) (getD bs on 0)) in
+      end-blank 3 60 (bits % 2 ^ 60) 1 (at + 5) (mod-lt bits (pow-pos 60))
+      ∙ ap (endFrom i (flags 60 (bits % 2 ^ 60)) 4 bs) e
+      ∙ ap (λ x. endFrom i (flags 60 (bits % 2 ^ 60)) 4 bs (endFrom i (flags 3 x) 1 bs at)) (sym b)
+      ∙ sym (end-split 3 60 bits 1 at (omega arith))
+
+  -- ---- the items before an FRN, and from it on
+
+  module _ (f bits at : ℕ) (h : bits < 2 ^ 63) (one : 1 ≤ f) (few : f ≤ 63) where
+    sum : f - 1 + (64 - f) ≡ 63
+    sum = omega arith
+
+    below : bits < 2 ^ (f - 1 + (64 - f))
+    below = rw sum h
+
+    late : bits - bits / 2 ^ (64 - f) * 2 ^ (64 - f) ≡ bits % 2 ^ (64 - f)
+    late = omega (arith, split bits (64 - f))
+
+    -- as flags, to the FRN
+    pub start-flags : startOf i f bits bs at ≡ endFrom i (flags (f - 1) (bits / 2 ^ (64 - f))) 1 bs at
+    unfolding startOf endOf
+    start-flags =
+        let k : ℕ = 64 - f in
+        let q : ℕ = bits / 2 ^ k in
+        let z : q * 2 ^ k ≡ q * 2 ^ k + 0 = omega arith in
+        ap (λ x. endFrom i (flags x (q * 2 ^ k)) 1 bs at) (sym sum)
+        ∙ end-split (f - 1) k (q * 2 ^ k) 1 at (omega (arith, early-few bits f refl, below))
+        ∙ ap₂ (λ x y. endFrom i (flags k x) (1 + (f - 1)) bs (endFrom i (flags (f - 1) y) 1 bs at)) (ap (λ x. x % 2 ^ k) z ∙ low q k (pow-pos k)) (ap (λ x. x / 2 ^ k) z ∙ high q k (pow-pos k))
+        ∙ end-none k (1 + (f - 1)) (endFrom i (flags (f - 1) q) 1 bs at)
+
+    pub end-from : endOf i (bits - bits / 2 ^ (64 - f) * 2 ^ (64 - f)) bs (startOf i f bits bs at) ≡ endOf i bits bs at
+    unfolding endOf
+    end-from =
+        let k : ℕ = 64 - f in
+        ap₂ (λ x y. endFrom i (flags 63 x) 1 bs y) late start-flags
+        ∙ ap (λ x. endFrom i (flags x (bits % 2 ^ k)) 1 bs (endFrom i (flags (f - 1) (bits / 2 ^ k)) 1 bs at)) (sym sum)
+        ∙ end-blank (f - 1) k (bits % 2 ^ k) 1 (endFrom i (flags (f - 1) (bits / 2 ^ k)) 1 bs at) (mod-lt bits (pow-pos k))
+        ∙ sym (end-split (f - 1) k bits 1 at below)
+        ∙ ap (λ x. endFrom i (flags x bits) 1 bs at) sum
+
+  -- ---- what is measured, by cases
+
+  pub untimed-is : (bits used : ℕ) {early start x : ℕ} → i ≡ 1 → early ≡ bits / 2 ^ (64 - 3) * 2 ^ (64 - 3) → start ≡ endOf i early bs used → x ≡ getD bs start 0
+      → eqb x 64 ≡ isUntimed i (getD bs (startOf i 3 bits bs used) 0)
+  unfolding startOf
+  untimed-is bits used h a b d = rw (eq-eqb i 1 h) (ap (λ x. eqb x 64) (d ∙ ap (λ x. getD bs x 0) (b ∙ ap (λ x. endOf i x bs used) a)))
+
+  module _ (bits used : ℕ) (b : bits < 2 ^ 63) {f early start end : ℕ} (ef : f ≡ timeFrn i) (ee : early ≡ bits / 2 ^ (64 - f) * 2 ^ (64 - f))
+      (es : start ≡ endOf i early bs used) (en : end ≡ endOf i (bits - early) bs start) where
+    start-is : start ≡ startOf i f bits bs used
+    unfolding startOf
+    start-is = es ∙ ap (λ x. endOf i x bs used) ee
+
+    end-is : end ≡ endOf i bits bs used
+    end-is = en ∙ ap₂ (λ x y. endOf i (bits - x) bs y) ee start-is ∙ end-from f bits used b (frn-few i ef .0) (omega (arith, frn-few i ef .1))
+
+    pub measure-past : length bs < end → sized 0 none ≡ measureBy i bs (ok (bits, used))
+    measure-past h = sym (if-false _ (lt-leb (endOf i bits bs used) (length bs) (subst (λ x. length bs < x) end-is h)) refl)
+
+    module _ (h : end ≤ length bs) where
+      measure-there : (t : Option ℕ) → t ≡ timeIn i bits bs used → sized end t ≡ measureBy i bs (ok (bits, used))
+      measure-there t e = ap₂ sized end-is e ∙ sym (if-true _ (le-leb (endOf i bits bs used) (length bs) (subst (λ x. x ≤ length bs) end-is h)) refl)
+
+      pub measure-absent : (bits / 2 ^ (63 - f) % 2 ≡ 1 → ⊥) → sized end none ≡ measureBy i bs (ok (bits, used))
+      unfolding timeIn
+      measure-absent z = measure-there none (sym (if-false _ (ap (λ x. isIn x bits) (sym ef) ∙ ne-eqb (bits / 2 ^ (63 - f) % 2) 1 z) refl))
+
+      module _ (z : bits / 2 ^ (63 - f) % 2 ≡ 1) {u : Bool} (eu : u ≡ isUntimed i (getD bs (startOf i 3 bits bs used) 0)) where
+        timed-in : isIn (timeFrn i) bits ≡ true
+        timed-in = ap (λ x. isIn x bits) (sym ef) ∙ eq-eqb (bits / 2 ^ (63 - f) % 2) 1 z
+
+        pub measure-untimed : u ≡ true → sized end none ≡ measureBy i bs (ok (bits, used))
+        unfolding timeIn
+        measure-untimed y = measure-there none (sym (if-true _ timed-in (if-true _ (sym eu ∙ y) refl)))
+
+        pub measure-timed : u ≡ false → sized end (clockAt bs start) ≡ measureBy i bs (ok (bits, used))
+        unfolding timeIn
+        measure-timed y =
+            measure-there (clockAt bs start)
+            (ap (clockAt bs) (start-is ∙ ap (λ x. startOf i x bits bs used) ef) ∙ sym (if-true _ timed-in (if-false _ (sym eu ∙ y) refl)))
+
+-- by the set that was read
+module _ (cat : ℕ) (bs : List ℕ) {i : ℕ} (s : SetRead) (ei : i ≡ profileIn cat categories) (es : setOf s ≡ setAt i bs) where
+  by-set : measureBy i bs (setOf s) ≡ measureOf cat bs
+  unfolding measureOf measureIn
+  by-set = ap (measureBy i bs) es ∙ ap (λ x. measureIn x bs) ei
+
+  pub measure-no-set : (n : ℕ) → s ≡ set.Refused n → sized 0 none ≡ measureOf cat bs
+  measure-no-set n e = ap (λ x. measureBy i bs (setOf x)) (sym e) ∙ by-set
+
+  pub measure-items : (found : ItemSet) (used : ℕ) → s ≡ set.Items found used → measureBy i bs (ok (found .bits, used)) ≡ measureOf cat bs
+  measure-items found used e = ap (λ x. measureBy i bs (setOf x)) (sym e) ∙ by-set
