@@ -1,0 +1,171 @@
+-- An item that is legal has as many octets as are measured by its first: one test of every place of the profiles, and one law of how parts lie.
+--
+-- In order: parts by FX bits; the shapes; every place; the law. Assumes nothing.
+use Prim.Native.Nat.{ℕ, zero, suc, _+_, _-_, _*_, _%_, _≤_, _<_}
+use mathlib.Core.Path.{_≡_, refl, sym, ap, _∙_, subst}
+use mathlib.Core.Bool.{Bool, true, false, _&&_, _||_}
+use mathlib.Core.Logic.{⊎-elim}
+use mathlib.Core.Option.{none}
+use mathlib.Core.List.{List, [], _∷_}
+use native.Mathlib.Omega.{arith}
+use lib.Dec.{eqb, ltb}
+use lib.ListN.{length, getD, take, drop}
+use borrow.Author.Tests.{eqb-true, eqb-false, eq-eqb, le-ltb}
+use Rattle.rules.specs.Answer.{ok, if_then_else_}
+use Rattle.rules.specs.Layout.{joined}
+use Rattle.rules.specs.Presence.{placeAt}
+use Rattle.rules.specs.Record.{Place}
+use Rattle.rules.specs.Entry.{categories}
+use Rattle.rules.specs.Category017.{category017}
+use Rattle.rules.specs.Category018.{category018}
+use Rattle.rules.proofs.AnswerLaws.{refused-ok, ok-inj, bind-elim, need-elim, if-inv, expect-elim, none-some, both-left, both-right, Octets}
+use Rattle.tables.specs.declared.tables.LayoutRow.{LayoutRow}
+use Rattle.tables.specs.Tables.{groups, layouts, groupAt, layoutAt, placeRowAt}
+use Rattle.tables.proofs.TableLaws.{profile-past}
+use Rattle.layouts.specs.Read.{Shaped, chain, listShape, shapeBy, shapeOf, wholeOf, wholeSize}
+use Rattle.layouts.proofs.ReadLaws.{le-or-lt}
+use Rattle.items.specs.Answers.{checkAt}
+use Rattle.items.proofs.CheckLaws.{check-place}
+use Rattle.records.proofs.PlaceLaws.{check-few}
+use Rattle.steps.specs.Told.{allBelow, digitAt, digitOf}
+use Rattle.steps.proofs.ItemLaws.{octet-at}
+use Rattle.steps.proofs.ToldLaws.{all-below, other}
+use Rattle.measuring.specs.Measure.{fixedOctets, variableOctets, octetsAt}
+
+-- ---- parts by FX bits: two at most, of an octet each
+
+abbrev Short : ℕ → ℕ → Type 0
+Short a e = (a + 2 ≡ e) × (groupAt a .0 ≡ 1) × (groupAt (a + 1) .0 ≡ 1)
+
+first-octet : (bs : List ℕ) → joined (take 1 bs) ≡ getD bs 0 0
+unfolding joined
+first-octet [] = refl
+first-octet (b ∷ bs) = omega arith
+
+-- the last of them
+chain-one : (a : ℕ) (bs : List ℕ) (s : Shaped) → chain a 1 bs ≡ ok s → s .1 ≡ groupAt a .0
+unfolding chain
+chain-one a bs s h =
+    need-elim _ _ _ h λ t h₁.
+    ⊎-elim
+    (λ (e, g). ap (λ x. x .1) (sym (ok-inj g)))
+    (λ (e, g). bind-elim _ _ g λ y q _. refused-ok q)
+    (if-inv (eqb (joined (take (groupAt a .0) bs) % 2) 0) _ _ h₁)
+
+chain-two : (a : ℕ) (bs : List ℕ) (s : Shaped) → groupAt a .0 ≡ 1 → groupAt (a + 1) .0 ≡ 1 → chain a 2 bs ≡ ok s → s .1 ≡ 1 + getD bs 0 0 % 2
+unfolding chain
+chain-two a bs s one two h =
+    let f : joined (take (groupAt a .0) bs) ≡ getD bs 0 0 = ap (λ n. joined (take n bs)) one ∙ first-octet bs in
+    need-elim _ _ _ h λ t h₁.
+    ⊎-elim
+    (λ (e, g).
+    let z : joined (take (groupAt a .0) bs) % 2 ≡ 0 = eqb-true _ _ e in
+    let n : groupAt a .0 ≡ s .1 = ap (λ x. x .1) (ok-inj g) in
+    omega (arith, one, f))
+    (λ (e, g).
+    bind-elim _ _ g λ y q g₁.
+    let z : joined (take (groupAt a .0) bs) % 2 ≡ 0 → ⊥ = eqb-false _ _ e in
+    let n : y .1 + groupAt a .0 ≡ s .1 = ap (λ x. x .1) (ok-inj g₁) in
+    omega (arith, one, two, f, chain-one (a + 1) (drop (groupAt a .0) bs) y q))
+    (if-inv (eqb (joined (take (groupAt a .0) bs) % 2) 0) _ _ h₁)
+
+-- ---- the shapes: the octets of an item by how its parts lie, its group and its first octet
+
+abbrev octetsBy : ℕ → ℕ → ℕ → ℕ
+octetsBy zero a x = 0
+octetsBy (suc zero) a x = groupAt a .0
+octetsBy (suc (suc zero)) a x = 1 + x * groupAt a .0
+octetsBy (suc (suc (suc zero))) a x = x
+octetsBy (suc (suc (suc (suc k)))) a x = 1 + x % 2
+
+shape-size : (k lo hi a e : ℕ) (bs : List ℕ) (s : Shaped) → (4 ≤ k → Short a e) → shapeBy k lo hi a e bs ≡ ok s → s .1 ≡ octetsBy k a (getD bs 0 0)
+unfolding shapeBy listShape
+shape-size zero lo hi a e bs s w h = refused-ok h
+shape-size (suc zero) lo hi a e bs s w h =
+    need-elim _ _ _ h λ t g.
+    ap (λ x. x .1) (sym (ok-inj g))
+shape-size (suc (suc zero)) lo hi a e bs s w h =
+    need-elim _ _ _ h λ t h₁.
+    need-elim _ _ _ h₁ λ t₁ h₂.
+    need-elim _ _ _ h₂ λ t₂ h₃.
+    need-elim _ _ _ h₃ λ t₃ g.
+    ap (λ x. x .1) (sym (ok-inj g))
+shape-size (suc (suc (suc zero))) lo hi a e bs s w h =
+    need-elim _ _ _ h λ t h₁.
+    need-elim _ _ _ h₁ λ t₁ h₂.
+    need-elim _ _ _ h₂ λ t₂ g.
+    ap (λ x. x .1) (sym (ok-inj g))
+shape-size (suc (suc (suc (suc k)))) lo hi a e bs s w h =
+    let v : Short a e = w (omega arith) in
+    let n : e - a ≡ 2 = omega (arith, v .0) in
+    chain-two a bs s (v .1) (v .2) (subst (λ x. chain a x bs ≡ ok s) n h)
+
+row-size : (l : LayoutRow) (bs : List ℕ) (n : ℕ) → (4 ≤ l .0 → Short (l .3) (l .4)) → wholeSize l bs ≡ ok n → n ≡ octetsBy (l .0) (l .3) (getD bs 0 0)
+unfolding wholeSize wholeOf shapeOf
+row-size l bs n w h =
+    bind-elim _ _ h λ s p h₁.
+    bind-elim _ _ p λ r q p₁.
+    need-elim _ _ _ p₁ λ t g.
+    sym (ok-inj h₁) ∙ ap (λ x. x .1) (sym (ok-inj g)) ∙ shape-size (l .0) (l .1) (l .2) (l .3) (l .4) bs r w q
+
+-- ---- every place: there is no item there, or its octets are those of its row
+
+abbrev isShort : ℕ → ℕ → Bool
+isShort a e = eqb (a + 2) e && (eqb (groupAt a .0) 1 && eqb (groupAt (a + 1) .0) 1)
+
+short-of : (a e : ℕ) → isShort a e ≡ true → Short a e
+short-of a e h =
+    let b = eqb (groupAt a .0) 1 in
+    let d = eqb (groupAt (a + 1) .0) 1 in
+    let g : b && d ≡ true = both-right (eqb (a + 2) e) (b && d) h in
+    (eqb-true _ _ (both-left (eqb (a + 2) e) (b && d) h), eqb-true _ _ (both-left b d g), eqb-true _ _ (both-right b d g))
+
+abbrev rowOf : ℕ → ℕ → LayoutRow
+rowOf i f = layoutAt (placeRowAt (i * 36 + f) .0)
+
+abbrev sameOctets : ℕ → ℕ → LayoutRow → Bool
+sameOctets i f l = allBelow 256 (λ x. eqb (octetsAt i f x) (octetsBy (l .0) (l .3) x))
+
+abbrev soundSize : ℕ → ℕ → LayoutRow → Bool
+soundSize i f l = eqb (l .0) 0 || ((ltb (l .0) 4 || isShort (l .3) (l .4)) && sameOctets i f l)
+
+all-sizes : allBelow 2 (λ i. allBelow 36 (λ f. soundSize i f (rowOf i f))) ≡ true
+unfolding octetsAt fixedOctets variableOctets digitOf digitAt if_then_else_ groupAt layoutAt placeRowAt groups layouts categories category017 category018
+all-sizes = refl
+
+-- ---- the law
+
+size-here : (i f : ℕ) (bs : List ℕ) (n : ℕ) → i < 2 → f < 36 → Octets bs → checkAt i f bs ≡ ok n → n ≡ octetsAt i f (getD bs 0 0)
+unfolding wholeSize wholeOf shapeOf shapeBy
+size-here i f bs n h k o c =
+    let l : LayoutRow = rowOf i f in
+    let w : wholeSize l bs ≡ ok n = check-place i f bs h k o ∙ c in
+    let t : soundSize i f l ≡ true = all-below 36 (λ g. soundSize i g (rowOf i g)) f (all-below 2 (λ j. allBelow 36 (λ g. soundSize j g (rowOf j g))) i all-sizes h) k in
+    let a : Bool = ltb (l .0) 4 || isShort (l .3) (l .4) in
+    let g : a && sameOctets i f l ≡ true = other (eqb (l .0) 0) (a && sameOctets i f l) t (λ e. none-there l (eqb-true (l .0) 0 e) w) in
+    row-size l bs n (λ m. short-of (l .3) (l .4) (other (ltb (l .0) 4) (isShort (l .3) (l .4)) (both-left a (sameOctets i f l) g) (λ e. at-least (l .0) m e))) w
+    ∙ sym (eqb-true _ _ (all-below 256 (λ x. eqb (octetsAt i f x) (octetsBy (l .0) (l .3) x)) (getD bs 0 0) (both-right a (sameOctets i f l) g) (octet-at bs o 0)))
+  where
+    none-there : (l : LayoutRow) → l .0 ≡ 0 → wholeSize l bs ≡ ok n → ⊥
+    none-there l e w =
+        bind-elim _ _ w λ s p _.
+        bind-elim _ _ p λ r q _.
+        refused-ok (subst (λ x. shapeBy x (l .1) (l .2) (l .3) (l .4) bs ≡ ok r) e q)
+
+    at-least : (k : ℕ) → 4 ≤ k → ltb k 4 ≡ true → ⊥
+    at-least k m e = let z : _≡_ {A = ℕ} 0 1 = cc (le-ltb k 4 m, e) in absurd (omega arith)
+
+pub size-law : (i f : ℕ) (bs : List ℕ) (n : ℕ) → Octets bs → checkAt i f bs ≡ ok n → n ≡ octetsAt i f (getD bs 0 0)
+unfolding checkAt
+size-law i f bs n o c =
+    ⊎-elim
+    (λ (h : 2 ≤ i).
+    bind-elim _ _ c λ p q _.
+    expect-elim _ _ q λ e.
+    none-some (sym (ap (λ ps. placeAt ps f) (profile-past i h) ∙ none-in f) ∙ e))
+    (λ (h : i < 2). size-here i f bs n h (omega (arith, check-few i f bs n c .1)) o c)
+    (le-or-lt 2 i)
+  where
+    none-in : (f : ℕ) → placeAt {P = Place} [] f ≡ none
+    none-in zero = refl
+    none-in (suc f) = refl
