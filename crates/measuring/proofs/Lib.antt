@@ -1,3 +1,4 @@
 pub mod EndLaws
 pub mod SizeLaws
+pub mod MeasureLaws
 pub mod Unique
