@@ -1,4 +1,5 @@
 pub mod EndLaws
 pub mod SizeLaws
 pub mod MeasureLaws
+pub mod TimeLaws
 pub mod Unique
