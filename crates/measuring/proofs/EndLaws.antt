@@ -11,8 +11,8 @@ use mathlib.Core.List.{List, [], _∷_, _++_}
 use native.Mathlib.Omega.{arith}
 use native.Mathlib.Nat.{mod-lt, mod-eq-of-lt, mod-eq-sub-mod, div-eq-of-lt, pow-suc, add-zero, one-mul}
 use lib.Count.{leadingZeros, leading-top}
-use lib.Pow.{pow-pos, pow-mono, pow-add, split, high, low, shr-lt, shl-exact}
-use lib.Dec.{eqb, leb, ltb, eqb·suc-zero}
+use lib.Pow.{pow-pos, pow-mono, split, high, low, shl-exact}
+use lib.Dec.{eqb, ltb, eqb·suc-zero}
 use lib.ListN.{length, getD}
 use borrow.Author.Tests.{le-leb, lt-leb, eq-eqb, ne-eqb}
 use Rattle.rules.specs.Answer.{ok, if_then_else_}
@@ -127,7 +127,8 @@ module _ (i : ℕ) (bs : List ℕ) where
       rw (lt-leb (2 ^ k) 0 (pow-pos k), e) (end-none k (f + 1) at)
 
   -- the higher bits of a number, then the lower
-  end-split : (j k n f at : ℕ) → n < 2 ^ (j + k) → endFrom i (flags (j + k) n) f bs at ≡ endFrom i (flags k (n % 2 ^ k)) (f + j) bs (endFrom i (flags j (n / 2 ^ k)) f bs at)
+  end-split : (j k n f at : ℕ) → n < 2 ^ (j + k)
+      → endFrom i (flags (j + k) n) f bs at ≡ endFrom i (flags k (n % 2 ^ k)) (f + j) bs (endFrom i (flags j (n / 2 ^ k)) f bs at)
   end-split j k n f at h =
       ap (λ ts. endFrom i ts f bs at) (flags-split j k n h)
       ∙ end-append (flags j (n / 2 ^ k)) (flags k (n % 2 ^ k)) f at
@@ -250,7 +251,8 @@ module _ (i : ℕ) (bs : List ℕ) where
         let z : q * 2 ^ k ≡ q * 2 ^ k + 0 = omega arith in
         ap (λ x. endFrom i (flags x (q * 2 ^ k)) 1 bs at) (sym sum)
         ∙ end-split (f - 1) k (q * 2 ^ k) 1 at (omega (arith, early-few bits f refl, below))
-        ∙ ap₂ (λ x y. endFrom i (flags k x) (1 + (f - 1)) bs (endFrom i (flags (f - 1) y) 1 bs at)) (ap (λ x. x % 2 ^ k) z ∙ low q k (pow-pos k)) (ap (λ x. x / 2 ^ k) z ∙ high q k (pow-pos k))
+        ∙ ap₂ (λ x y. endFrom i (flags k x) (1 + (f - 1)) bs (endFrom i (flags (f - 1) y) 1 bs at))
+        (ap (λ x. x % 2 ^ k) z ∙ low q k (pow-pos k)) (ap (λ x. x / 2 ^ k) z ∙ high q k (pow-pos k))
         ∙ end-none k (1 + (f - 1)) (endFrom i (flags (f - 1) q) 1 bs at)
 
     pub end-from : endOf i (bits - bits / 2 ^ (64 - f) * 2 ^ (64 - f)) bs (startOf i f bits bs at) ≡ endOf i bits bs at
@@ -265,34 +267,44 @@ module _ (i : ℕ) (bs : List ℕ) where
 
   -- ---- what is measured, by cases
 
-  pub untimed-is : (bits used : ℕ) {early start x : ℕ} → i ≡ 1 → early ≡ bits / 2 ^ (64 - 3) * 2 ^ (64 - 3) → start ≡ endOf i early bs used → x ≡ getD bs start 0
-      → eqb x 64 ≡ isUntimed i (getD bs (startOf i 3 bits bs used) 0)
+  pub untimed-is : (bits used : ℕ) {early start x : ℕ} → i ≡ 1 → early ≡ bits / 2 ^ (64 - 3) * 2 ^ (64 - 3) → start ≡ endOf i early bs used
+      → x ≡ getD bs start 0 → eqb x 64 ≡ isUntimed i (getD bs (startOf i 3 bits bs used) 0)
   unfolding startOf
   untimed-is bits used h a b d = rw (eq-eqb i 1 h) (ap (λ x. eqb x 64) (d ∙ ap (λ x. getD bs x 0) (b ∙ ap (λ x. endOf i x bs used) a)))
 
-  module _ (bits used : ℕ) (b : bits < 2 ^ 63) {f early start end : ℕ} (ef : f ≡ timeFrn i) (ee : early ≡ bits / 2 ^ (64 - f) * 2 ^ (64 - f))
-      (es : start ≡ endOf i early bs used) (en : end ≡ endOf i (bits - early) bs start) where
-    start-is : start ≡ startOf i f bits bs used
-    unfolding startOf
-    start-is = es ∙ ap (λ x. endOf i x bs used) ee
+  -- a record whose items were passed: where its time's item starts, and where all end
+  pub record Passed (bits used f start end : ℕ) : Type 0 where
+    pub frn : f ≡ timeFrn i
+    pub starts : start ≡ startOf i f bits bs used
+    pub ends : end ≡ endOf i bits bs used
 
-    end-is : end ≡ endOf i bits bs used
-    end-is = en ∙ ap₂ (λ x y. endOf i (bits - x) bs y) ee start-is ∙ end-from f bits used b (frn-few i ef .0) (omega (arith, frn-few i ef .1))
+  pub passed : (bits used : ℕ) {f early start end : ℕ} → bits < 2 ^ 63 → f ≡ timeFrn i → early ≡ bits / 2 ^ (64 - f) * 2 ^ (64 - f) → start ≡ endOf i early bs used
+      → end ≡ endOf i (bits - early) bs start → Passed bits used f start end
+  unfolding startOf
+  passed bits used {f} {early} {start} b ef ee es en =
+      let s : start ≡ startOf i f bits bs used = es ∙ ap (λ x. endOf i x bs used) ee in
+      record {
+        frn = ef;
+        starts = s;
+        ends = en ∙ ap₂ (λ x y. endOf i (bits - x) bs y) ee s ∙ end-from f bits used b (frn-few i ef .0) (omega (arith, frn-few i ef .1));
+      }
 
+  module _ (bits used : ℕ) {f start end : ℕ} (s : Passed bits used f start end) where
     pub measure-past : length bs < end → sized 0 none ≡ measureBy i bs (ok (bits, used))
-    measure-past h = sym (if-false _ (lt-leb (endOf i bits bs used) (length bs) (subst (λ x. length bs < x) end-is h)) refl)
+    measure-past h = sym (if-false _ (lt-leb (endOf i bits bs used) (length bs) (subst (λ x. length bs < x) (s .ends) h)) refl)
 
     module _ (h : end ≤ length bs) where
       measure-there : (t : Option ℕ) → t ≡ timeIn i bits bs used → sized end t ≡ measureBy i bs (ok (bits, used))
-      measure-there t e = ap₂ sized end-is e ∙ sym (if-true _ (le-leb (endOf i bits bs used) (length bs) (subst (λ x. x ≤ length bs) end-is h)) refl)
+      measure-there t e =
+          ap₂ sized (s .ends) e ∙ sym (if-true _ (le-leb (endOf i bits bs used) (length bs) (subst (λ x. x ≤ length bs) (s .ends) h)) refl)
 
       pub measure-absent : (bits / 2 ^ (63 - f) % 2 ≡ 1 → ⊥) → sized end none ≡ measureBy i bs (ok (bits, used))
       unfolding timeIn
-      measure-absent z = measure-there none (sym (if-false _ (ap (λ x. isIn x bits) (sym ef) ∙ ne-eqb (bits / 2 ^ (63 - f) % 2) 1 z) refl))
+      measure-absent z = measure-there none (sym (if-false _ (ap (λ x. isIn x bits) (sym (s .frn)) ∙ ne-eqb (bits / 2 ^ (63 - f) % 2) 1 z) refl))
 
       module _ (z : bits / 2 ^ (63 - f) % 2 ≡ 1) {u : Bool} (eu : u ≡ isUntimed i (getD bs (startOf i 3 bits bs used) 0)) where
         timed-in : isIn (timeFrn i) bits ≡ true
-        timed-in = ap (λ x. isIn x bits) (sym ef) ∙ eq-eqb (bits / 2 ^ (63 - f) % 2) 1 z
+        timed-in = ap (λ x. isIn x bits) (sym (s .frn)) ∙ eq-eqb (bits / 2 ^ (63 - f) % 2) 1 z
 
         pub measure-untimed : u ≡ true → sized end none ≡ measureBy i bs (ok (bits, used))
         unfolding timeIn
@@ -302,7 +314,7 @@ module _ (i : ℕ) (bs : List ℕ) where
         unfolding timeIn
         measure-timed y =
             measure-there (clockAt bs start)
-            (ap (clockAt bs) (start-is ∙ ap (λ x. startOf i x bits bs used) ef) ∙ sym (if-true _ timed-in (if-false _ (sym eu ∙ y) refl)))
+            (ap (clockAt bs) (s .starts ∙ ap (λ x. startOf i x bits bs used) (s .frn)) ∙ sym (if-true _ timed-in (if-false _ (sym eu ∙ y) refl)))
 
 -- by the set that was read
 module _ (cat : ℕ) (bs : List ℕ) {i : ℕ} (s : SetRead) (ei : i ≡ profileIn cat categories) (es : setOf s ≡ setAt i bs) where

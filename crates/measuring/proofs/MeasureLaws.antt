@@ -2,11 +2,11 @@
 --
 -- In order: a walk over the items beside their measure; the record. Assumes nothing.
 use Prim.Native.Nat.{ℕ, zero, suc, _+_, _-_, _/_, _%_, _^_, _≤_, _<_}
-use mathlib.Core.Path.{_≡_, refl, sym, ap, ap₂, _∙_, subst}
+use mathlib.Core.Path.{_≡_, refl, sym, ap, _∙_, subst}
 use mathlib.Core.Bool.{Bool, true, false, false≢true}
 use mathlib.Core.List.{List, [], _∷_}
 use native.Mathlib.Omega.{arith}
-use native.Mathlib.Nat.{add-zero, mod-eq-of-lt}
+use native.Mathlib.Nat.{add-zero, zero-add, mod-eq-of-lt}
 use lib.ListN.{length, getD, take, drop, set, length-drop, length-set, getD-replicate}
 use lib.Seq.{take-at, drop-drop, getD-drop, getD-set-same, getD-set-other}
 use Rattle.rules.specs.Answer.{ok}
@@ -69,7 +69,8 @@ module _ (i k : ℕ) (bs : List ℕ) (o : Octets bs) (b : k + length bs < 65_536
       there = on;
     }
 
-  comes : (ts : List Bool) (j at : ℕ) (w v : Came) → w .here ≡ k + at → length (w .starts) ≡ 35 → at ≤ length bs → walk i ts (j + 1) (drop at bs) w ≡ ok v → Comes ts j at w v
+  comes : (ts : List Bool) (j at : ℕ) (w v : Came) → w .here ≡ k + at → length (w .starts) ≡ 35 → at ≤ length bs
+      → walk i ts (j + 1) (drop at bs) w ≡ ok v → Comes ts j at w v
   unfolding walk endFrom
   comes [] j at w v e n l h =
       let s : w ≡ v = ok-inj h in
@@ -92,7 +93,8 @@ module _ (i k : ℕ) (bs : List ℕ) (o : Octets bs) (b : k + length bs < 65_536
       off c zero z = c .earlier (j + 0) (omega arith)
       off c (suc g) z = let m : j + 1 + g ≡ j + suc g = omega arith in subst (λ x. getD (v .starts) x 0 ≡ getD (w .starts) x 0) m (c .absent g z)
 
-      on : Comes ts (j + 1) at w v → (g : ℕ) → getD (false ∷ ts) g false ≡ true → j + g < 35 → getD (v .starts) (j + g) 0 ≡ k + endFrom i (take g (false ∷ ts)) (j + 1) bs at
+      on : Comes ts (j + 1) at w v → (g : ℕ) → getD (false ∷ ts) g false ≡ true → j + g < 35
+          → getD (v .starts) (j + g) 0 ≡ k + endFrom i (take g (false ∷ ts)) (j + 1) bs at
       on c zero z q = absurd (false≢true z)
       on c (suc g) z q = let m : j + 1 + g ≡ j + suc g = omega arith in ap (λ x. getD (v .starts) x 0) (sym m) ∙ c .there g z (omega arith)
   comes (true ∷ ts) j at w v e n l h =
@@ -142,7 +144,8 @@ module _ (i k : ℕ) (bs : List ℕ) (o : Octets bs) (b : k + length bs < 65_536
       bind-elim _ _ h₂ λ _ _ h₃.
       let c : Comes (flags 63 (x .0)) 0 (x .1) (startAt (k + x .1)) w = comes (flags 63 (x .0)) 0 (x .1) (startAt (k + x .1)) w refl refl (t .1) q in
       let e : record { start = k; starts = w .starts; end = w .here; count = w .count } ≡ m = ok-inj h₃ in
-      let at : (g : ℕ) → getD (m .starts) g 0 ≡ getD (w .starts) (0 + g) 0 = λ g. ap (λ r. getD (r .starts) g 0) (sym e) ∙ ap (λ y. getD (w .starts) y 0) (let z : g ≡ 0 + g = omega arith in z) in
+      let at : (g : ℕ) → getD (m .starts) g 0 ≡ getD (w .starts) (0 + g) 0 =
+      λ g. ap (λ r. getD (r .starts) g 0) (sym e) ∙ ap (λ y. getD (w .starts) y 0) (sym (zero-add g)) in
       record {
         bits = x .0;
         used = x .1;

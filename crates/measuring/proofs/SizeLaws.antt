@@ -3,14 +3,14 @@
 -- In order: parts by FX bits; the shapes; every place; the law. Assumes nothing.
 use Prim.Native.Nat.{ℕ, zero, suc, _+_, _-_, _*_, _%_, _≤_, _<_}
 use mathlib.Core.Path.{_≡_, refl, sym, ap, _∙_, subst}
-use mathlib.Core.Bool.{Bool, true, false, _&&_, _||_}
+use mathlib.Core.Bool.{Bool, true, _&&_, _||_}
 use mathlib.Core.Logic.{⊎-elim}
 use mathlib.Core.Option.{none}
 use mathlib.Core.List.{List, [], _∷_}
 use native.Mathlib.Omega.{arith}
 use lib.Dec.{eqb, ltb}
-use lib.ListN.{length, getD, take, drop}
-use borrow.Author.Tests.{eqb-true, eqb-false, eq-eqb, le-ltb}
+use lib.ListN.{getD, take, drop}
+use borrow.Author.Tests.{eqb-true, eqb-false, le-ltb}
 use Rattle.rules.specs.Answer.{ok, if_then_else_}
 use Rattle.rules.specs.Layout.{joined}
 use Rattle.rules.specs.Presence.{placeAt}
@@ -140,11 +140,13 @@ unfolding wholeSize wholeOf shapeOf shapeBy
 size-here i f bs n h k o c =
     let l : LayoutRow = rowOf i f in
     let w : wholeSize l bs ≡ ok n = check-place i f bs h k o ∙ c in
-    let t : soundSize i f l ≡ true = all-below 36 (λ g. soundSize i g (rowOf i g)) f (all-below 2 (λ j. allBelow 36 (λ g. soundSize j g (rowOf j g))) i all-sizes h) k in
+    let t : soundSize i f l ≡ true =
+    all-below 36 (λ g. soundSize i g (rowOf i g)) f (all-below 2 (λ j. allBelow 36 (λ g. soundSize j g (rowOf j g))) i all-sizes h) k in
     let a : Bool = ltb (l .0) 4 || isShort (l .3) (l .4) in
     let g : a && sameOctets i f l ≡ true = other (eqb (l .0) 0) (a && sameOctets i f l) t (λ e. none-there l (eqb-true (l .0) 0 e) w) in
     row-size l bs n (λ m. short-of (l .3) (l .4) (other (ltb (l .0) 4) (isShort (l .3) (l .4)) (both-left a (sameOctets i f l) g) (λ e. at-least (l .0) m e))) w
-    ∙ sym (eqb-true _ _ (all-below 256 (λ x. eqb (octetsAt i f x) (octetsBy (l .0) (l .3) x)) (getD bs 0 0) (both-right a (sameOctets i f l) g) (octet-at bs o 0)))
+    ∙ sym
+    (eqb-true _ _ (all-below 256 (λ x. eqb (octetsAt i f x) (octetsBy (l .0) (l .3) x)) (getD bs 0 0) (both-right a (sameOctets i f l) g) (octet-at bs o 0)))
   where
     none-there : (l : LayoutRow) → l .0 ≡ 0 → wholeSize l bs ≡ ok n → ⊥
     none-there l e w =

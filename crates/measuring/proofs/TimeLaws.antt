@@ -1,7 +1,7 @@
 -- What is measured of a record that is legal is its length and its time, as the rules have them (document 02, W-201).
 --
 -- In order: the categories; octets that lie in others; an item of one number; a record that was read; its time; its length; the theorem. Assumes nothing.
-use Prim.Native.Nat.{ℕ, zero, suc, _+_, _*_, _≤_, _<_}
+use Prim.Native.Nat.{ℕ, suc, _+_, _*_, _≤_, _<_}
 use mathlib.Core.Path.{_≡_, refl, sym, ap, ap₂, _∙_, subst}
 use mathlib.Core.Bool.{Bool, true, false, _||_}
 use mathlib.Core.Logic.{⊎-elim}
@@ -13,7 +13,7 @@ use lib.Dec.{leb, leb→le, eqb}
 use lib.ListN.{length, getD, drop, length-append, List·getD-append}
 use lib.Seq.{getD-append-add}
 use lib.IntN.{pos}
-use borrow.Author.Tests.{eqb-true, le-leb}
+use borrow.Author.Tests.{le-leb}
 use Rattle.rules.specs.Answer.{ok, _>>=_, if_then_else_, later, octetsOf}
 use Rattle.rules.specs.Field.{value, unsigned}
 use Rattle.rules.specs.Layout.{Layout, Values, concat, item, joined, writeItem}
@@ -25,7 +25,7 @@ use Rattle.rules.specs.Category018.{category018}
 use Rattle.rules.specs.Entry.{RecordMap, Laid, categories, layoutAs, laid, laidAs, laidItems, mapOf}
 use Rattle.rules.specs.Entry as entry
 use Rattle.rules.specs.Merge.{numberIn, isOneOf, recordTime}
-use Rattle.rules.proofs.AnswerLaws.{refused-ok, ok-inj, bind-in, bind-elim, if-inv, if-true, if-false, some-inj, none-some, later-in, T-true, octetsOf-ok, Octets, Split}
+use Rattle.rules.proofs.AnswerLaws.{refused-ok, bind-in, bind-elim, if-inv, if-true, if-false, some-inj, none-some, later-in, T-true, octetsOf-ok, Octets, Split}
 use Rattle.rules.proofs.Tables.{category-every, distinct, tables-distinct, tables-few}
 use Rattle.rules.proofs.RecordLaws.{record-laws}
 use Rattle.rules.proofs.EntryLaws.{Lies, lies-second, itemOctets, RecordWritten, record-written, ItemFound, item-found, indexAs, start-found, start-absent}
@@ -127,15 +127,16 @@ data Seen (bs : List ℕ) (t : Bool) (s n : ℕ) : Option Values → Type 0 wher
   absent : t ≡ false → Seen bs t s n none
   there : (u : List ℕ) → t ≡ true → Lies bs s u → length u ≡ n → Seen bs t s n (some ((pos (joined u) ∷ []) ∷ []))
 
-same-type : (bs : List ℕ) (t : Bool) (s kind : ℕ) (x : Option Values) → Seen bs t s 1 x → typeOf x ≡ ok kind → (p : ℕ → Bool) (us : List ℕ) → ((k : ℕ) → p k ≡ has k us)
-    → p (getD bs s 0) ≡ isOneOf (typeOf x) us
+same-type : (bs : List ℕ) (t : Bool) (s kind : ℕ) (x : Option Values) → Seen bs t s 1 x → typeOf x ≡ ok kind
+    → (p : ℕ → Bool) (us : List ℕ) → ((k : ℕ) → p k ≡ has k us) → p (getD bs s 0) ≡ isOneOf (typeOf x) us
 unfolding typeOf
 same-type bs t s kind none (absent z) e p us h = refused-ok e
 same-type bs t s kind (some v) (there u z l n) e p us h =
     let d : s + 0 ≡ s = omega arith in
     ap p (ap (λ k. getD bs k 0) (sym d) ∙ lies-at l 0 (omega arith) ∙ one-joined u n) ∙ h (joined u)
 
-same-time : (bs : List ℕ) (t : Bool) (s : ℕ) (x : Option Values) → Seen bs t s 3 x → (k : Bool) → (if t then (if k then none else clockAt bs s) else none) ≡ (if k then none else numberIn x)
+same-time : (bs : List ℕ) (t : Bool) (s : ℕ) (x : Option Values) → Seen bs t s 3 x → (k : Bool)
+    → (if t then (if k then none else clockAt bs s) else none) ≡ (if k then none else numberIn x)
 unfolding clockAt if_then_else_
 same-time bs t s none (absent z) true = rw z
 same-time bs t s none (absent z) false = rw z
@@ -232,7 +233,8 @@ module _ (i : ℕ) (c : Category) (bs : List ℕ) (r : Record) (rest : List ℕ)
       bind-elim _ _ (split .writes) λ s p _.
       bind-elim _ _ p λ kind e _.
       ap (λ u. if isIn (timeFrn i) (lay .bits) then (if u then none else clockAt bs (start (timeFrn i))) else none) (type-known kind e)
-      ∙ same-time bs (isIn (timeFrn i) (lay .bits)) (start (timeFrn i)) (valueOf (c .time) (items c r)) time-seen (isOneOf (typeOf (valueOf 0 (items c r))) (c .untimed))
+      ∙ same-time bs (isIn (timeFrn i) (lay .bits)) (start (timeFrn i)) (valueOf (c .time) (items c r)) time-seen
+      (isOneOf (typeOf (valueOf 0 (items c r))) (c .untimed))
 
   -- ---- its length
 

@@ -5,10 +5,9 @@ use sets::SetRead;
 use steps::digit_of;
 use steps::octet;
 ghost use mathlib.Core.Path.{_≡_};
-ghost use mathlib.Core.Bool.{true};
 ghost use mathlib.Core.Option.{none};
-ghost use Prim.Native.Nat.{_+_, _-_, _*_, _/_, _^_, _≤_, _<_};
-ghost use lib.ListN.{length, getD};
+ghost use Prim.Native.Nat.{_-_, _*_, _/_, _^_, _≤_, _<_};
+ghost use lib.ListN.{getD};
 ghost use Rattle.rules.specs.Answer.{ok};
 ghost use Rattle.measuring.specs.Measure.{fixedOctets, variableOctets, octetsAt, endOf, startOf, timeFrn, isUntimed, clockAt, sized, measureBy, measureOf};
 

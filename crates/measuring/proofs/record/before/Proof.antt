@@ -1,6 +1,6 @@
 -- `record::before` meets its contract: the bits that are moved down and up again fit. Assumes nothing.
-use Prim.Native.Nat.{_+_, _-_, _^_, _<_}
-use mathlib.Core.Path.{_≡_, sym, subst}
+use Prim.Native.Nat.{_+_, _-_}
+use mathlib.Core.Path.{_≡_}
 use native.Mathlib.Omega.{arith}
 use lib.Pow.{shl-exact, shr-lt}
 use borrow.Author.Needs.{needs}

@@ -1,7 +1,6 @@
 -- `record::timed` meets its contract: three octets, the higher first. Assumes nothing.
-use Prim.Native.Nat.{_+_, _*_}
-use mathlib.Core.Path.{ap, ap₂, sym, _∙_}
-use Rattle.measuring.specs.Measure.{sized, clockAt}
+use mathlib.Core.Path.{ap, _∙_}
+use Rattle.measuring.specs.Measure.{sized}
 use Rattle.measuring.proofs.EndLaws.{clock-past, clock-there}
 use borrow.Author.Needs.{needs}
 use Rattle.measuring.proofs.record.timed.Statement.{statement}
