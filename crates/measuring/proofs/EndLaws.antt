@@ -1,7 +1,7 @@
 -- Where the items of a set end.
 --
--- In order: the octets of an item; a time; flags end to end; the next item of a set; FRN 1 to 3; the items before an FRN and from it on; what is measured,
--- by cases. Assumes nothing.
+-- In order: the octets of an item; numbers as the code has them; flags end to end; the next item of a set; FRN 1 to 3; the items before an FRN and from it
+-- on; what is measured, by cases. Assumes nothing.
 use Prim.Native.Nat.{ℕ, zero, suc, _+_, _-_, _*_, _/_, _%_, _^_, _≤_, _<_}
 use mathlib.Core.Path.{_≡_, refl, sym, ap, ap₂, _∙_, subst}
 use mathlib.Core.Bool.{Bool, true, false, _&&_}
@@ -60,6 +60,8 @@ fixed-is i f x e z = e ∙ sym (if-false _ (ne-eqb (fixedOctets i f) 0 (λ y. z 
 pub variable-is : (i f x : ℕ) {n : ℕ} → n ≡ fixedOctets i f → n ≡ 0 → variableOctets i f x ≡ octetsAt i f x
 unfolding octetsAt
 variable-is i f x e z = sym (if-true _ (eq-eqb (fixedOctets i f) 0 (sym e ∙ z)) refl)
+
+-- ---- numbers as the code has them
 
 -- one bit, moved up
 pub bit-is : (f : ℕ) → 1 * 2 ^ (63 - f) % 2 ^ 64 ≡ 2 ^ (63 - f)
