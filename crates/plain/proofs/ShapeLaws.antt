@@ -94,7 +94,8 @@ set-front i zero xs ys bits used r h = h
 set-front i (suc l) [] ys bits used r h = refused-ok h
 set-front i (suc l) (x ∷ xs) ys bits used r h = either (eqb (x % 2) 0) (ended i x (bits + x / 2 * 2 ^ (56 - 7 * used)) (used + 1)) (set-front i l xs ys (bits + x / 2 * 2 ^ (56 - 7 * used)) (used + 1) r) h
 
-fspec-told : (i n a word : ℕ) (bs : List ℕ) (r : ℕ × ℕ) → Octets bs → n ≤ 5 → 5 ≤ length bs → word ≡ lowNumber 5 bs → word % 2 ^ (8 * n) ≡ a % 2 ^ (8 * n)
+-- octets that start with a shape's have its set
+pub fspec-told : (i n a word : ℕ) (bs : List ℕ) (r : ℕ × ℕ) → Octets bs → n ≤ 5 → 5 ≤ length bs → word ≡ lowNumber 5 bs → word % 2 ^ (8 * n) ≡ a % 2 ^ (8 * n)
     → setFrom i (length (categoryAt i .profile)) (lowOctets n a) 0 0 ≡ ok r → setAt i bs ≡ ok r
 fspec-told i n a word bs r o l m w e h =
     let same : lowOctets n a ≡ take n bs = same-octets n a word (sym e) ∙ ap (lowOctets n) w ∙ low-octets n 5 bs o l m in

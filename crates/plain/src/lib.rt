@@ -10,3 +10,6 @@ pub use lent::Sets;
 pub use lent::Types;
 pub use lent::set_table;
 pub use lent::type_table;
+pub use shape::first_five;
+pub use shape::long;
+pub use shape::slot_of;

@@ -13,14 +13,15 @@ ghost use Rattle.steps.specs.Item.{Plainly, soundSteps};
 ghost use Rattle.plain.specs.Record.{soundTypes, endAt};
 ghost use Rattle.plain.specs.Shape.{lowNumber, soundShape, soundSets, Fronts, OfType};
 
-fn long(x: u64) -> usize
+// A number of a table, as a size.
+pub fn long(x: u64) -> usize
     ensures { λ r. ⌜ r ≡ x ⌝ }
 {
     x as usize
 }
 
 // The first five octets as one number, the first one lowest.
-fn first_five(part: &[u8]) -> usize
+pub fn first_five(part: &[u8]) -> usize
     requires { ⌜ 5 ≤ length (now part) ⌝ }
     ensures { λ r. ⌜ r ≡ lowNumber 5 (now (part .entry)) ⌝ }
 {
@@ -33,7 +34,7 @@ fn first_five(part: &[u8]) -> usize
 
 // Where in the table a shape would stand. Adding 1 to the octets with every bit but FX set runs through those that have FX, so that the octets after the
 // FSPEC are left out; the factor was searched for: it gives no two shapes the same place. Any place would do: the shape is compared.
-fn slot_of(five: usize, profile: usize) -> usize
+pub fn slot_of(five: usize, profile: usize) -> usize
     ensures { λ r. ⌜ r < 64 ⌝ }
 {
     let others = (five | 0xFE_FEFE_FEFE) % 0x100_0000_0000;
