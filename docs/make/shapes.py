@@ -1,9 +1,11 @@
-"""Makes the shapes of crates/plain/src/lent.rt from tables.py, and holds the file to them.
+"""Makes the shapes of crates/plain/src/lent.rt and crates/measuring/src/shape.rt from tables.py, and
+holds the files to them.
 
-    python3 docs/make/shapes.py [--print]
+    python3 docs/make/shapes.py [--print plain|measuring]
 
-A shape is an FSPEC that is legal for some message type of at most six optional items. The proof of
-`set_table` has that no row says what the rules do not have; here it is seen that every shape is there,
+A shape is an FSPEC that is legal for some message type of at most six optional items; to be measured
+it has no time item, no extended one, and one list or led item at most. The proofs of `set_table` and
+`shapes` have that no row says what the rules do not have; here it is seen that every shape is there,
 at the place where `slot_of` of crates/plain/src/shape.rt looks for it, and says all that it can: a
 row that is missing, or stands elsewhere, would only be slow. Each difference is a line; with one or
 more the exit status is 1.
@@ -17,8 +19,9 @@ import sys
 import tables
 from tables import SIGNED, SPARE
 
-PLAIN = pathlib.Path(__file__).resolve().parents[2] / "crates" / "plain" / "src"
+CRATES = pathlib.Path(__file__).resolve().parents[2] / "crates"
 SLOTS = 64
+TIMES = {17: "140", 18: "002"}
 ANY_BITS = (0x00_000000, 0x28_FFFFFF)
 
 
@@ -62,9 +65,15 @@ def fspec(frns):
     return sum(octet << 8 * k for k, octet in enumerate(octets)), count
 
 
-def row(profile, category, frns, types):
+def items_at(category):
+    """The items of a category by their FRNs."""
     items = tables.items(category)
-    item_at = {frn: items[reference] for frn, reference in tables.usable(category).items()}
+    return {frn: items[reference] for frn, reference in tables.usable(category).items()}
+
+
+def checked(profile, category, frns, types):
+    """The four words of a shape in crates/plain."""
+    item_at = items_at(category)
     raw, used = fspec(frns)
     left = list(frns)
 
@@ -82,62 +91,101 @@ def row(profile, category, frns, types):
     else:
         at, word, (low, high), tail = used, 0, ANY_BITS, before
     rest = sum(1 << 63 - frn for frn in left)
-    words = (
+    return (
         "0x%X_%02X_%02X_%X_%010X" % (profile, tail, at, used, raw),
         "0x%04X_%010X" % (word, sum(1 << number for number, _ in types)),
         "0x%02X_%06X_%02X_%06X" % (high >> 24, high & 0xFFFFFF, low >> 24, low & 0xFFFFFF),
         "0x" + "_".join(re.findall("....", "%016X" % rest)) if rest else "0",
     )
-    octets = " ".join("%02X" % (raw >> 8 * k & 255) for k in range(used))
-    says = "category %03d, FSPEC %s: type %s" % (category.number, octets, ", ".join(name for _, name in types))
-    return raw, words, says
 
 
-def made(factor, down):
+def measured(profile, category, frns, types):
+    """The two words of a shape in crates/measuring, or nothing where it is not measured by one octet at most."""
+    raw, used = fspec(frns)
+    base, lists = used, []
+    for item in map(items_at(category).get, frns):
+        if item.form == "extended" or item.reference == TIMES[category.number]:
+            return None
+        if item.form != "fixed":
+            lists.append((base, item.octets))
+        base += {"fixed": item.octets, "list": 1, "led": 0}[item.form]
+    if len(lists) > 1:
+        return None
+    place, part = lists[0] if lists else (0, 0)
+    return "0x%X_0000_%X_%010X" % (profile, used, raw), "0x%02X_%02X_%X" % (base, place, part)
+
+
+# The tables: where each stands, from what words on, and what makes a row of it.
+TABLES = {
+    "plain": ("lent.rt", "const SETS", checked),
+    "measuring": ("shape.rt", "const SHAPES", measured),
+}
+
+
+def shapes_of(category, number):
+    """The shapes of a category, each with the message types that have it, numbered from a number on."""
+    frn_of = {reference: frn for frn, reference in tables.usable(category).items()}
+    shapes = {}
+    for message in category.messages:
+        number += 1
+        name = "%d" % message.number if category.number == 17 else "0x%02X" % message.number
+        optional = message.optional.split()
+        if len(optional) > 6:
+            continue
+        must = {frn_of[reference] for reference in message.compulsory.split()}
+        for count in range(len(optional) + 1):
+            for some in itertools.combinations(optional, count):
+                frns = tuple(sorted(must | {frn_of[reference] for reference in some}))
+                shapes.setdefault(frns, []).append((number, name))
+    return shapes
+
+
+def made(factor, down, words_of):
     """The 64 rows, each with what stands beside it."""
     slots = [None] * SLOTS
     number = 0
     for profile, category in enumerate(tables.CATEGORIES.values()):
-        frn_of = {reference: frn for frn, reference in tables.usable(category).items()}
-        shapes = {}
-        for message in category.messages:
-            number += 1
-            name = "%d" % message.number if category.number == 17 else "0x%02X" % message.number
-            optional = message.optional.split()
-            if len(optional) > 6:
-                continue
-            must = {frn_of[reference] for reference in message.compulsory.split()}
-            for count in range(len(optional) + 1):
-                for some in itertools.combinations(optional, count):
-                    frns = tuple(sorted(must | {frn_of[reference] for reference in some}))
-                    shapes.setdefault(frns, []).append((number, name))
-        for frns, types in shapes.items():
-            raw, words, says = row(profile, category, frns, types)
+        for frns, types in shapes_of(category, number).items():
+            raw, used = fspec(frns)
+            octets = " ".join("%02X" % (raw >> 8 * k & 255) for k in range(used))
+            says = "category %03d, FSPEC %s: type %s" % (category.number, octets, ", ".join(name for _, name in types))
+            words = words_of(profile, category, frns, types)
             slot = ((raw + profile) * factor >> down) % SLOTS
-            if slots[slot]:
+            if words and slots[slot]:
                 sys.exit("%s: its place is taken" % says)
-            slots[slot] = words, says
+            slots[slot] = slots[slot] or words and (words, says)
+        number += len(category.messages)
     spare = next(s for s in slots if s and s[1].startswith("category 018, FSPEC E0:"))
     return [s or (spare[0], "no shape: category 018, FSPEC E0 again") for s in slots]
 
 
-def main():
-    code = (PLAIN / "shape.rt").read_text()
-    factor, down = map(int, re.search(r"\* (\d+) >> (\d+)\) %% %d" % SLOTS, code).groups())
-    rows = made(factor, down)
-    if "--print" in sys.argv:
-        for words, says in rows:
-            print("    %s, // %s\n    %s,\n    %s,\n    %s," % ((words[0], says) + words[1:]))
-        return 0
-    text = (PLAIN / "lent.rt").read_text()
-    there = re.findall(r"^    (\w+),(?: // (.*))?$", text[text.index("const SETS"):], re.M)[-4 * SLOTS:]
+def held(crate, rows):
+    """How many rows of a crate's table are not as they are made."""
+    file, start, _ = TABLES[crate]
+    width = len(rows[0][0])
+    text = (CRATES / crate / "src" / file).read_text()
+    text = text[text.index(start):]
+    there = re.findall(r"^    (\w+),(?: // (.*))?$", text[:text.index("];")], re.M)[-width * SLOTS:]
     wrong = 0
     for slot, (words, says) in enumerate(rows):
-        here = there[4 * slot:4 * slot + 4]
+        here = there[width * slot:width * (slot + 1)]
         if tuple(w for w, _ in here) != words or here[0][1] != says:
             wrong += 1
-            print("shape %d: the file has %s, tables.py makes %s // %s" % (slot, here, words, says))
-    print("shapes: %d rows held to tables.py, %d differences" % (SLOTS, wrong))
+            print("%s, shape %d: the file has %s, tables.py makes %s // %s" % (crate, slot, here, words, says))
+    return wrong
+
+
+def main():
+    code = (CRATES / "plain" / "src" / "shape.rt").read_text()
+    factor, down = map(int, re.search(r"\* (\d+) >> (\d+)\) %% %d" % SLOTS, code).groups())
+    rows = {crate: made(factor, down, words_of) for crate, (_, _, words_of) in TABLES.items()}
+    if "--print" in sys.argv:
+        for words, says in rows[sys.argv[-1]]:
+            print("    %s, // %s" % (words[0], says))
+            print("\n".join("    %s," % word for word in words[1:]))
+        return 0
+    wrong = sum(held(crate, rows[crate]) for crate in rows)
+    print("shapes: %d rows of each of %d tables held to tables.py, %d differences" % (SLOTS, len(rows), wrong))
     return 1 if wrong else 0
 
 

@@ -3,3 +3,4 @@ pub mod SizeLaws
 pub mod MeasureLaws
 pub mod TimeLaws
 pub mod Unique
+pub mod ShapeLaws

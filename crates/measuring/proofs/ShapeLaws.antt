@@ -1,0 +1,186 @@
+-- A record of a known shape has the size that the shape's row tells, and no time.
+--
+-- In order: an item, by its first octet; the items of flags; a record; the table. Assumes nothing.
+use Prim.Native.Nat.{ℕ, zero, suc, _+_, _-_, _*_, _/_, _%_, _^_, _≤_, _<_}
+use mathlib.Core.Path.{_≡_, refl, sym, ap, ap₂, _∙_, subst}
+use mathlib.Core.Bool.{Bool, true, false, cond, not, _&&_, false≢true}
+use mathlib.Core.Option.{none}
+use mathlib.Core.List.{List, [], _∷_}
+use native.Mathlib.Omega.{arith}
+use native.Mathlib.Nat.{add-zero, mul-zero, mul-le-mul-left}
+use lib.Dec.{leb, ltb, eqb}
+use lib.ListN.{length, getD}
+use mir.Syntax.{w8}
+use mir.Val.{Fits}
+use borrow.Author.Tests.{leb-true, ltb-true, eqb-true, ne-eqb, le-leb, not-true}
+use Rattle.rules.specs.Answer.{Answer, ok, refused, if_then_else_}
+use Rattle.rules.specs.Presence.{flags}
+use Rattle.rules.proofs.AnswerLaws.{if-true, if-false, both-left, both-right}
+use Rattle.sets.specs.Sets.{categoryAt, setAt}
+use Rattle.sets.specs.Steps.{setFrom}
+use Rattle.sets.proofs.SetLaws.{octets-all}
+use Rattle.steps.specs.Told.{allBelow}
+use Rattle.steps.proofs.ToldLaws.{all-below}
+use Rattle.plain.specs.Shape.{lowNumber, lowOctets, usedOf, profileOf}
+use Rattle.plain.proofs.ShapeLaws.{cut-same, fspec-told}
+use Rattle.measuring.specs.Measure.{fixedOctets, variableOctets, octetsAt, endFrom, endOf, timeFrn, isIn, timeIn, sized, measureBy, measureIn}
+use Rattle.measuring.specs.Shape.{isFixed, partOctets, isEven, baseFrom, allFixed, oneList, baseOf, placeOf, partOf, rowBy, soundRow, soundShapes, Sized}
+
+-- ---- an item, by its first octet
+
+-- octets that grow by as many from 0 to 1 as from 1 to 2 do so for each 1
+record Evenly (g : ℕ → ℕ) : Type 0 where
+  grow : eqb (g 2) (g 1 + (g 1 - g 0)) ≡ true → (x : ℕ) → g x ≡ g 0 + x * (g 1 - g 0)
+
+either : (t : Bool) (g h : ℕ → ℕ) → Evenly g → Evenly h → Evenly (λ x. if t then g x else h x)
+unfolding if_then_else_
+either true g h a b = a
+either false g h a b = b
+
+always : (n : ℕ) → Evenly (λ x. n)
+always n = record {
+  grow = λ e x.
+      let d : n - n ≡ 0 = omega arith in
+      sym (ap (λ y. n + x * y) d ∙ ap (λ y. n + y) (mul-zero x) ∙ add-zero n);
+}
+
+counted : (n : ℕ) → Evenly (λ x. 1 + x * n)
+counted n = record {
+  grow = λ e x.
+      let d : 1 + 1 * n - (1 + 0 * n) ≡ n = omega arith in
+      let s : 1 + x * n ≡ 1 + 0 * n + x * n = omega arith in
+      s ∙ ap (λ y. 1 + 0 * n + x * y) (sym d);
+}
+
+led : Evenly (λ x. x)
+led = record { grow = λ e x. omega arith }
+
+extended : Evenly (λ x. 1 + x % 2)
+extended = record { grow = λ e x. absurd (false≢true e) }
+
+octets-even : (i f : ℕ) → Evenly (octetsAt i f)
+unfolding octetsAt variableOctets
+octets-even i f =
+    either _ _ _
+    (either _ _ _ (either _ _ _ (counted 2) (counted 3)) (either _ _ _ (counted 4) (either _ _ _ led (either _ _ _ (counted 3) extended))))
+    (always (fixedOctets i f))
+
+octets-fixed : (i f x : ℕ) → isFixed i f ≡ true → octetsAt i f x ≡ octetsAt i f 0
+unfolding octetsAt
+octets-fixed i f x h = is x ∙ sym (is 0)
+  where
+    is : (y : ℕ) → octetsAt i f y ≡ fixedOctets i f
+    is y = if-false _ (ne-eqb (fixedOctets i f) 0 (λ z. omega (arith, z, ltb-true 0 (fixedOctets i f) h))) refl
+
+-- ---- the items of flags
+
+all-fixed : (i : ℕ) (ts : List Bool) (f : ℕ) (bs : List ℕ) (at : ℕ) → allFixed i ts f ≡ true → endFrom i ts f bs at ≡ at + baseFrom i ts f
+unfolding endFrom
+all-fixed i [] f bs at h = sym (add-zero at)
+all-fixed i (false ∷ ts) f bs at h = all-fixed i ts (f + 1) bs at h
+all-fixed i (true ∷ ts) f bs at h =
+    let x : ℕ = getD bs at 0 in
+    let e : octetsAt i f x ≡ octetsAt i f 0 = octets-fixed i f x (both-left (isFixed i f) (allFixed i ts (f + 1)) h) in
+    let s : at + octetsAt i f x + baseFrom i ts (f + 1) ≡ at + (octetsAt i f 0 + baseFrom i ts (f + 1)) = omega (arith, e) in
+    all-fixed i ts (f + 1) bs (at + octetsAt i f x) (both-right (isFixed i f) (allFixed i ts (f + 1)) h) ∙ s
+
+one-list : (i place part : ℕ) (ts : List Bool) (f : ℕ) (bs : List ℕ) (at : ℕ) → oneList i place part ts f at ≡ true
+    → endFrom i ts f bs at ≡ at + baseFrom i ts f + getD bs place 0 * part
+unfolding endFrom
+one-list i place part [] f bs at h =
+    let none : getD bs place 0 * part ≡ 0 = ap (λ y. getD bs place 0 * y) (eqb-true part 0 h) ∙ mul-zero (getD bs place 0) in
+    omega (arith, none)
+one-list i place part (false ∷ ts) f bs at h = one-list i place part ts (f + 1) bs at h
+one-list i place part (true ∷ ts) f bs at h = go (isFixed i f) refl h (one-list i place part ts (f + 1) bs (at + octetsAt i f 0))
+  where
+    go : (t : Bool) → isFixed i f ≡ t
+        → cond t (oneList i place part ts (f + 1) (at + octetsAt i f 0)) (eqb at place && eqb (partOctets i f) part && isEven i f && allFixed i ts (f + 1)) ≡ true
+        → (oneList i place part ts (f + 1) (at + octetsAt i f 0) ≡ true
+        → endFrom i ts (f + 1) bs (at + octetsAt i f 0) ≡ at + octetsAt i f 0 + baseFrom i ts (f + 1) + getD bs place 0 * part)
+        → endFrom i ts (f + 1) bs (at + octetsAt i f (getD bs at 0)) ≡ at + (octetsAt i f 0 + baseFrom i ts (f + 1)) + getD bs place 0 * part
+    go true e q rest =
+        let s : at + octetsAt i f 0 + baseFrom i ts (f + 1) ≡ at + (octetsAt i f 0 + baseFrom i ts (f + 1)) = omega arith in
+        ap (λ y. endFrom i ts (f + 1) bs (at + y)) (octets-fixed i f (getD bs at 0) e) ∙ rest q ∙ ap (λ y. y + getD bs place 0 * part) s
+    go false e q rest =
+        let a : Bool = eqb at place in
+        let b : Bool = eqb (partOctets i f) part in
+        let c : Bool = isEven i f in
+        let d : Bool = allFixed i ts (f + 1) in
+        let q₁ : a && b && c ≡ true = both-left (a && b && c) d q in
+        let q₂ : a && b ≡ true = both-left (a && b) c q₁ in
+        let x : ℕ = getD bs at 0 in
+        let o : octetsAt i f x ≡ octetsAt i f 0 + getD bs place 0 * part =
+        octets-even i f .grow (both-right (a && b) c q₁) x
+        ∙ ap₂ (λ y z. octetsAt i f 0 + getD bs y 0 * z) (eqb-true at place (both-left a b q₂)) (eqb-true (partOctets i f) part (both-right a b q₂)) in
+        let s : at + octetsAt i f x + baseFrom i ts (f + 1) ≡ at + (octetsAt i f 0 + baseFrom i ts (f + 1)) + getD bs place 0 * part = omega (arith, o) in
+        all-fixed i ts (f + 1) bs (at + octetsAt i f x) (both-right (a && b && c) d q) ∙ s
+
+-- ---- a record
+
+untimed : (i bits : ℕ) (bs : List ℕ) (at : ℕ) → not (isIn (timeFrn i) bits) ≡ true → timeIn i bits bs at ≡ none
+unfolding timeIn
+untimed i bits bs at h = if-false _ (not-true (isIn (timeFrn i) bits) h) refl
+
+sized-of : (n i : ℕ) (bs : List ℕ) → measureIn i bs ≡ sized n none → Sized n i bs
+sized-of zero i bs h = tt
+sized-of (suc n) i bs h = h
+
+measured : (i bits used n : ℕ) (bs : List ℕ) → setAt i bs ≡ ok (bits, used) → not (isIn (timeFrn i) bits) ≡ true → endOf i bits bs used ≡ n → n ≤ length bs
+    → Sized n i bs
+unfolding measureIn
+measured i bits used n bs h t e l =
+    sized-of n i bs
+    (ap (measureBy i bs) h ∙ if-true _ (le-leb (endOf i bits bs used) (length bs) (omega (arith, e, l))) (ap₂ sized e (untimed i bits bs used t)))
+
+-- the parts of a list, as a number that fits
+pub parts-fit : (x k : ℕ) → x < 256 → x * (k % 16) < 4_096
+parts-fit x k h =
+    let l : x * (k % 16) ≤ x * 15 = mul-le-mul-left x (omega arith) in
+    omega arith
+
+-- ---- the table
+
+module _ (t : List ℕ) (s : soundShapes t ≡ true) (k a b : ℕ) (l : k < 64) (ea : a ≡ getD t (2 * k) 0) (eb : b ≡ getD t (2 * k + 1) 0) where
+  abbrev read : Answer (ℕ × ℕ)
+  read = setFrom (profileOf a) (length (categoryAt (profileOf a) .profile)) (lowOctets (usedOf a) a) 0 0
+
+  abbrev within : Bool
+  within = ltb 0 (usedOf a) && leb (usedOf a) 5
+
+  row : soundRow a b ≡ true
+  unfolding soundShapes
+  row = rw (ea, eb) (all-below 64 (λ j. soundRow (getD t (2 * j) 0) (getD t (2 * j + 1) 0)) k s l)
+
+  pub shape-some : 0 < usedOf a
+  unfolding soundRow
+  shape-some = ltb-true 0 (usedOf a) (both-left (ltb 0 (usedOf a)) (leb (usedOf a) 5) (both-left within (rowBy (profileOf a) a b read) row))
+
+  pub shape-few : usedOf a ≤ 5
+  unfolding soundRow
+  shape-few = leb-true (usedOf a) 5 (both-right (ltb 0 (usedOf a)) (leb (usedOf a) 5) (both-left within (rowBy (profileOf a) a b read) row))
+
+  -- octets that start with the shape's FSPEC, of its profile
+  pub shape-told : (i word x : ℕ) (bs : List ℕ) → ((j : ℕ) → Fits w8 (getD bs j 0)) → profileOf a ≡ i → 5 ≤ length bs → word ≡ lowNumber 5 bs
+      → word * 2 ^ (64 - 8 * usedOf a) % 2 ^ 64 ≡ a * 2 ^ (64 - 8 * usedOf a) % 2 ^ 64
+      → x ≡ getD bs (placeOf b) 0 → baseOf b + x * partOf b ≤ length bs → Sized (baseOf b + x * partOf b) i bs
+  unfolding soundRow endOf
+  shape-told i word x bs known ep long ew ec ex fits =
+      subst (λ j. Sized (baseOf b + x * partOf b) j bs) ep (go read refl (both-right within (rowBy (profileOf a) a b read) row))
+    where
+      go : (r : Answer (ℕ × ℕ)) → read ≡ r → rowBy (profileOf a) a b r ≡ true → Sized (baseOf b + x * partOf b) (profileOf a) bs
+      go (refused n p) e y = absurd (false≢true y)
+      go (ok (bits, used)) e y =
+          let ts : List Bool = flags 63 bits in
+          let j : ℕ = profileOf a in
+          let p : Bool = eqb used (usedOf a) in
+          let q : Bool = not (isIn (timeFrn j) bits) in
+          let r : Bool = eqb (baseOf b) (used + baseFrom j ts 1) in
+          let u : Bool = oneList j (placeOf b) (partOf b) ts 1 used in
+          let y₁ : p && q && r ≡ true = both-left (p && q && r) u y in
+          let y₂ : p && q ≡ true = both-left (p && q) r y₁ in
+          let cut : word % 2 ^ (8 * usedOf a) ≡ a % 2 ^ (8 * usedOf a) = cut-same word a (usedOf a) shape-some shape-few ec in
+          let set-is : setAt j bs ≡ ok (bits, used) = fspec-told j (usedOf a) a word bs (bits, used) (octets-all bs known) shape-few long ew cut e in
+          let ends : endFrom j ts 1 bs used ≡ baseOf b + x * partOf b =
+          one-list j (placeOf b) (partOf b) ts 1 bs used (both-right (p && q && r) u y)
+          ∙ ap₂ (λ m n. m + n * partOf b) (sym (eqb-true _ _ (both-right (p && q) r y₁))) (sym ex) in
+          measured j bits used (baseOf b + x * partOf b) bs set-is (both-right p q y₂) ends fits

@@ -1,0 +1,21 @@
+-- `measuring::shape::shapes` meets its contract: no shape says what the profiles do not have. Assumes nothing.
+use mathlib.Core.Path.{refl}
+use Rattle.rules.specs.Answer.{need_or_then_, if_then_else_}
+use Rattle.rules.specs.Presence.{number, flags}
+use Rattle.rules.specs.Category017.{category017}
+use Rattle.rules.specs.Category018.{category018}
+use Rattle.rules.specs.Entry.{categories}
+use Rattle.sets.specs.Sets.{categoryAt, bitsOf}
+use Rattle.sets.specs.Steps.{usableBits, ended, setFrom}
+use Rattle.steps.specs.Told.{digitAt, digitOf}
+use Rattle.measuring.specs.Measure.{fixedOctets, variableOctets, octetsAt}
+use Rattle.measuring.specs.Shape.{soundRow, soundShapes}
+use Rattle.measuring.proofs.shape.shapes.Statement.{statement}
+use Rattle.measuring.proofs.shape.shapes.Tie as tie
+
+returns : tie.Need-returns
+unfolding soundShapes soundRow fixedOctets variableOctets octetsAt digitAt digitOf setFrom ended usableBits need_or_then_ if_then_else_ flags number categoryAt categories category017 category018 bitsOf
+returns c = refl
+
+pub shapes-spec : {M : Type 1} → statement M
+shapes-spec = tie.close (tie.spec returns)

@@ -1,0 +1,86 @@
+-- Shapes: FSPECs that records mostly have, each with the size of a record that has it, by one octet at most. A row of the table says nothing that the
+-- profiles do not have. Assumes nothing.
+--
+-- In order: an item; the items of flags; a row; the table; what an answer tells.
+use Prim.Native.Nat.{ℕ, zero, suc, _+_, _-_, _*_, _/_, _%_}
+use mathlib.Core.Path.{_≡_}
+use mathlib.Core.Bool.{Bool, true, false, cond, not, _&&_}
+use mathlib.Core.Option.{none}
+use mathlib.Core.List.{List, [], _∷_}
+use lib.Dec.{leb, ltb, eqb}
+use lib.ListN.{length, getD}
+use Rattle.rules.specs.Answer.{Answer, ok, refused}
+use Rattle.rules.specs.Presence.{flags}
+use Rattle.sets.specs.Sets.{categoryAt}
+use Rattle.sets.specs.Steps.{setFrom}
+use Rattle.steps.specs.Told.{allBelow}
+use Rattle.plain.specs.Shape.{lowOctets, usedOf, profileOf}
+use Rattle.measuring.specs.Measure.{fixedOctets, octetsAt, timeFrn, isIn, sized, measureIn}
+
+-- ---- an item, at an FRN of a profile
+
+abbrev pub isFixed : ℕ → ℕ → Bool
+isFixed i f = ltb 0 (fixedOctets i f)
+
+-- how many octets it has more for each 1 of its first octet; and that they are as many for each, which FX does not have
+abbrev pub partOctets : ℕ → ℕ → ℕ
+partOctets i f = octetsAt i f 1 - octetsAt i f 0
+
+abbrev pub isEven : ℕ → ℕ → Bool
+isEven i f = eqb (octetsAt i f 2) (octetsAt i f 1 + partOctets i f)
+
+-- ---- the items that flags name, the first flag's FRN given
+
+-- their octets, without the parts of lists
+abbrev pub baseFrom : ℕ → List Bool → ℕ → ℕ
+baseFrom i [] f = 0
+baseFrom i (false ∷ ts) f = baseFrom i ts (f + 1)
+baseFrom i (true ∷ ts) f = octetsAt i f 0 + baseFrom i ts (f + 1)
+
+abbrev pub allFixed : ℕ → List Bool → ℕ → Bool
+allFixed i [] f = true
+allFixed i (false ∷ ts) f = allFixed i ts (f + 1)
+allFixed i (true ∷ ts) f = isFixed i f && allFixed i ts (f + 1)
+
+-- from a place on: all are fixed but one at most, and that stands at a place and has parts of so many octets; of 0 where there is none
+abbrev pub oneList : ℕ → ℕ → ℕ → List Bool → ℕ → ℕ → Bool
+oneList i place part [] f at = eqb part 0
+oneList i place part (false ∷ ts) f at = oneList i place part ts (f + 1) at
+oneList i place part (true ∷ ts) f at =
+    cond (isFixed i f) (oneList i place part ts (f + 1) (at + octetsAt i f 0))
+    (eqb at place && eqb (partOctets i f) part && isEven i f && allFixed i ts (f + 1))
+
+-- ---- a row: the FSPEC, its octets and the profile, in the columns of the shapes of `plain`; the octets of the record without the parts of its list, where
+-- the list stands, the octets of a part
+
+abbrev pub baseOf : ℕ → ℕ
+baseOf k = k / 4_096 % 256
+
+abbrev pub placeOf : ℕ → ℕ
+placeOf k = k / 16 % 256
+
+abbrev pub partOf : ℕ → ℕ
+partOf k = k % 16
+
+-- by its set
+abbrev pub rowBy : ℕ → ℕ → ℕ → Answer (ℕ × ℕ) → Bool
+rowBy i a b (refused n p) = false
+rowBy i a b (ok (bits, used)) =
+    eqb used (usedOf a) && not (isIn (timeFrn i) bits) && eqb (baseOf b) (used + baseFrom i (flags 63 bits) 1)
+    && oneList i (placeOf b) (partOf b) (flags 63 bits) 1 used
+
+unfoldable pub soundRow : ℕ → ℕ → Bool
+soundRow a b =
+    ltb 0 (usedOf a) && leb (usedOf a) 5
+    && rowBy (profileOf a) a b (setFrom (profileOf a) (length (categoryAt (profileOf a) .profile)) (lowOctets (usedOf a) a) 0 0)
+
+-- ---- the table
+
+unfoldable pub soundShapes : List ℕ → Bool
+soundShapes t = allBelow 64 (λ k. soundRow (getD t (2 * k) 0) (getD t (2 * k + 1) 0))
+
+-- ---- what an answer tells: 0 nothing, else the size of a record that has no time
+
+abbrev pub Sized : ℕ → ℕ → List ℕ → Type 0
+Sized zero i bs = Unit {0}
+Sized (suc n) i bs = measureIn i bs ≡ sized (suc n) none
