@@ -21,7 +21,6 @@ from tables import SIGNED, SPARE
 
 CRATES = pathlib.Path(__file__).resolve().parents[2] / "crates"
 SLOTS = 64
-TIMES = {17: "140", 18: "002"}
 ANY_BITS = (0x00_000000, 0x28_FFFFFF)
 
 
@@ -104,7 +103,7 @@ def measured(profile, category, frns, types):
     raw, used = fspec(frns)
     base, lists = used, []
     for item in map(items_at(category).get, frns):
-        if item.form == "extended" or item.reference == TIMES[category.number]:
+        if item.form == "extended" or item.reference == category.time:
             return None
         if item.form != "fixed":
             lists.append((base, item.octets))
