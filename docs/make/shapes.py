@@ -4,7 +4,7 @@ holds the files to them.
     python3 docs/make/shapes.py [--print plain|measuring]
 
 A shape is an FSPEC that is legal for some message type of at most six optional items; to be measured
-it has no time item, no extended one, and one list or led item at most. The proofs of `set_table` and
+it has no extended item, one list or led item at most, and no time after that. The proofs of `set_table` and
 `shapes` have that no row says what the rules do not have; here it is seen that every shape is there,
 at the place where `slot_of` of crates/plain/src/shape.rt looks for it, and says all that it can: a
 row that is missing, or stands elsewhere, would only be slow. Each difference is a line; with one or
@@ -101,17 +101,19 @@ def checked(profile, category, frns, types):
 def measured(profile, category, frns, types):
     """The two words of a shape in crates/measuring, or nothing where it is not measured by one octet at most."""
     raw, used = fspec(frns)
-    base, lists = used, []
+    base, time, lists = used, 0, []
     for item in map(items_at(category).get, frns):
-        if item.form == "extended" or item.reference == category.time:
+        if item.form == "extended" or item.reference == category.time and lists:
             return None
+        if item.reference == category.time:
+            time = base
         if item.form != "fixed":
             lists.append((base, item.octets))
         base += {"fixed": item.octets, "list": 1, "led": 0}[item.form]
     if len(lists) > 1:
         return None
     place, part = lists[0] if lists else (0, 0)
-    return "0x%X_0000_%X_%010X" % (profile, used, raw), "0x%02X_%02X_%X" % (base, place, part)
+    return "0x%X_0000_%X_%010X" % (profile, used, raw), "0x%02X_%02X_%02X_%X" % (time, base, place, part)
 
 
 # The tables: where each stands, from what words on, and what makes a row of it.

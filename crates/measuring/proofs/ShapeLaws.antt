@@ -1,10 +1,10 @@
--- A record of a known shape has the size that the shape's row tells, and no time.
+-- A record of a known shape has the size and the time that the shape's row tells.
 --
--- In order: an item, by its first octet; the items of flags; a record; the table. Assumes nothing.
+-- In order: an item, by its first octet; the items of flags; the time; a record; the table. Assumes nothing.
 use Prim.Native.Nat.{ℕ, zero, suc, _+_, _-_, _*_, _/_, _%_, _^_, _≤_, _<_}
 use mathlib.Core.Path.{_≡_, refl, sym, ap, ap₂, _∙_, subst}
-use mathlib.Core.Bool.{Bool, true, false, cond, not, _&&_, false≢true}
-use mathlib.Core.Option.{none}
+use mathlib.Core.Bool.{Bool, true, false, cond, _&&_, false≢true}
+use mathlib.Core.Option.{Option, none}
 use mathlib.Core.List.{List, [], _∷_}
 use native.Mathlib.Omega.{arith}
 use native.Mathlib.Nat.{add-zero, mul-zero, mul-le-mul-left}
@@ -12,10 +12,12 @@ use lib.Dec.{leb, ltb, eqb}
 use lib.ListN.{length, getD}
 use mir.Syntax.{w8}
 use mir.Val.{Fits}
-use borrow.Author.Tests.{leb-true, ltb-true, eqb-true, ne-eqb, le-leb, not-true}
+use borrow.Author.Tests.{leb-true, ltb-true, eqb-true, eq-eqb, ne-eqb, le-leb}
 use Rattle.rules.specs.Answer.{Answer, ok, refused, if_then_else_}
 use Rattle.rules.specs.Presence.{flags}
 use Rattle.rules.proofs.AnswerLaws.{if-true, if-false, both-left, both-right}
+use Rattle.rules.specs.Entry.{categories}
+use Rattle.items.specs.Answers.{profileIn}
 use Rattle.sets.specs.Sets.{categoryAt, setAt}
 use Rattle.sets.specs.Steps.{setFrom}
 use Rattle.sets.proofs.SetLaws.{octets-all}
@@ -23,8 +25,9 @@ use Rattle.steps.specs.Told.{allBelow}
 use Rattle.steps.proofs.ToldLaws.{all-below}
 use Rattle.plain.specs.Shape.{lowNumber, lowOctets, usedOf, profileOf}
 use Rattle.plain.proofs.ShapeLaws.{cut-same, fspec-told}
-use Rattle.measuring.specs.Measure.{fixedOctets, variableOctets, octetsAt, endFrom, endOf, timeFrn, isIn, timeIn, sized, measureBy, measureIn}
-use Rattle.measuring.specs.Shape.{isFixed, partOctets, isEven, baseFrom, allFixed, oneList, baseOf, placeOf, partOf, rowBy, soundRow, soundShapes, Sized}
+use Rattle.measuring.specs.Measure.{fixedOctets, variableOctets, octetsAt, endFrom, endOf, startOf, timeFrn, isIn, isUntimed, clockAt, timeIn, sized, measureBy, measureIn, measureOf}
+use Rattle.measuring.specs.declared.record.Measured.{Measured}
+use Rattle.measuring.specs.Shape.{isFixed, partOctets, isEven, baseFrom, allFixed, oneList, flagsBefore, startsAt, timeAt, timeOf, baseOf, placeOf, partOf, rowBy, soundRow, soundShapes, Told}
 
 -- ---- an item, by its first octet
 
@@ -115,22 +118,65 @@ one-list i place part (true ∷ ts) f bs at h = go (isFixed i f) refl h (one-lis
         let s : at + octetsAt i f x + baseFrom i ts (f + 1) ≡ at + (octetsAt i f 0 + baseFrom i ts (f + 1)) + getD bs place 0 * part = omega (arith, o) in
         all-fixed i ts (f + 1) bs (at + octetsAt i f x) (both-right (a && b && c) d q) ∙ s
 
+-- ---- the time
+
+starts-at : (i f bits used at : ℕ) (bs : List ℕ) → startsAt i f bits used at ≡ true → startOf i f bits bs used ≡ at
+unfolding startOf endOf
+starts-at i f bits used at bs h =
+    let a : Bool = allFixed i (flagsBefore f bits) 1 in
+    let b : Bool = eqb (used + baseFrom i (flagsBefore f bits) 1) at in
+    all-fixed i (flagsBefore f bits) 1 bs used (both-left a b h) ∙ eqb-true _ _ (both-right a b h)
+
+-- by the place of the time, 0 where there is none, and that of the message type
+abbrev pub timeBy : ℕ → ℕ → ℕ → List ℕ → Option ℕ
+timeBy i at kind bs = if eqb at 0 then none else if isUntimed i (getD bs kind 0) then none else clockAt bs at
+
+time-at : (i bits used at : ℕ) (bs : List ℕ) → timeAt i bits used at ≡ true → timeIn i bits bs used ≡ timeBy i at (used + 4) bs
+unfolding timeIn
+time-at i bits used at bs h = go (isIn (timeFrn i) bits) h
+  where
+    go : (t : Bool) → cond t (ltb 0 at && startsAt i 3 bits used (used + 4) && startsAt i (timeFrn i) bits used at) (eqb at 0) ≡ true
+        → (if t then if isUntimed i (getD bs (startOf i 3 bits bs used) 0) then none else clockAt bs (startOf i (timeFrn i) bits bs used) else none) ≡ timeBy i at (used + 4) bs
+    go false e = if-false _ refl (sym (if-true _ e refl))
+    go true e =
+        let a : Bool = ltb 0 at in
+        let b : Bool = startsAt i 3 bits used (used + 4) in
+        let c : Bool = startsAt i (timeFrn i) bits used at in
+        let e₁ : a && b ≡ true = both-left (a && b) c e in
+        let some : at ≡ 0 → ⊥ = λ z. omega (arith, z, ltb-true 0 at (both-left a b e₁)) in
+        if-true _ refl
+        (ap₂ (λ x y. if isUntimed i (getD bs x 0) then none else clockAt bs y) (starts-at i 3 bits used (used + 4) bs (both-right a b e₁))
+        (starts-at i (timeFrn i) bits used at bs (both-right (a && b) c e))
+        ∙ sym (if-false _ (ne-eqb at 0 some) refl))
+
+pub kind-is : (i k : ℕ) → i ≡ 1 → eqb k 64 ≡ isUntimed i k
+kind-is i k e = rw e
+
+-- as the code finds it
+module _ (i at kind : ℕ) (bs : List ℕ) where
+  pub time-none : at ≡ 0 → timeBy i at kind bs ≡ none
+  time-none e = if-true _ (eq-eqb at 0 e) refl
+
+  pub time-untimed : {t : Bool} {k : ℕ} → (at ≡ 0 → ⊥) → k ≡ getD bs kind 0 → t ≡ isUntimed i k → t ≡ true → timeBy i at kind bs ≡ none
+  time-untimed z ek et e = if-false _ (ne-eqb at 0 z) (if-true _ (ap (isUntimed i) (sym ek) ∙ sym et ∙ e) refl)
+
+  pub time-clock : {t : Bool} {k : ℕ} → (at ≡ 0 → ⊥) → k ≡ getD bs kind 0 → t ≡ isUntimed i k → t ≡ false → timeBy i at kind bs ≡ clockAt bs at
+  time-clock z ek et e = if-false _ (ne-eqb at 0 z) (if-false _ (ap (isUntimed i) (sym ek) ∙ sym et ∙ e) refl)
+
 -- ---- a record
 
-untimed : (i bits : ℕ) (bs : List ℕ) (at : ℕ) → not (isIn (timeFrn i) bits) ≡ true → timeIn i bits bs at ≡ none
-unfolding timeIn
-untimed i bits bs at h = if-false _ (not-true (isIn (timeFrn i) bits) h) refl
-
-sized-of : (n i : ℕ) (bs : List ℕ) → measureIn i bs ≡ sized n none → Sized n i bs
-sized-of zero i bs h = tt
-sized-of (suc n) i bs h = h
-
-measured : (i bits used n : ℕ) (bs : List ℕ) → setAt i bs ≡ ok (bits, used) → not (isIn (timeFrn i) bits) ≡ true → endOf i bits bs used ≡ n → n ≤ length bs
-    → Sized n i bs
+measured : (i bits used n : ℕ) (t : Option ℕ) (bs : List ℕ) → setAt i bs ≡ ok (bits, used) → endOf i bits bs used ≡ n → timeIn i bits bs used ≡ t → n ≤ length bs
+    → measureIn i bs ≡ sized n t
 unfolding measureIn
-measured i bits used n bs h t e l =
-    sized-of n i bs
-    (ap (measureBy i bs) h ∙ if-true _ (le-leb (endOf i bits bs used) (length bs) (omega (arith, e, l))) (ap₂ sized e (untimed i bits bs used t)))
+measured i bits used n t bs h e et l = ap (measureBy i bs) h ∙ if-true _ (le-leb (endOf i bits bs used) (length bs) (omega (arith, e, l))) (ap₂ sized e et)
+
+-- no size, which tells nothing
+pub told-none : (i : ℕ) (bs : List ℕ) (r : Measured) → r ≡ sized 0 none → Told r i bs
+told-none i bs r e z = absurd (z (ap (λ m. m .size) e))
+
+pub told-measure : (cat i : ℕ) (bs : List ℕ) (r : Measured) → i ≡ profileIn cat categories → Told r i bs → (r .size ≡ 0 → ⊥) → r ≡ measureOf cat bs
+unfolding measureOf
+told-measure cat i bs r e h z = sym (h z) ∙ ap (λ j. measureIn j bs) e
 
 -- the parts of a list, as a number that fits
 pub parts-fit : (x k : ℕ) → x < 256 → x * (k % 16) < 4_096
@@ -160,20 +206,23 @@ module _ (t : List ℕ) (s : soundShapes t ≡ true) (k a b : ℕ) (l : k < 64) 
   shape-few = leb-true (usedOf a) 5 (both-right (ltb 0 (usedOf a)) (leb (usedOf a) 5) (both-left within (rowBy (profileOf a) a b read) row))
 
   -- octets that start with the shape's FSPEC, of its profile
-  pub shape-told : (i word x : ℕ) (bs : List ℕ) → ((j : ℕ) → Fits w8 (getD bs j 0)) → profileOf a ≡ i → 5 ≤ length bs → word ≡ lowNumber 5 bs
-      → word * 2 ^ (64 - 8 * usedOf a) % 2 ^ 64 ≡ a * 2 ^ (64 - 8 * usedOf a) % 2 ^ 64
-      → x ≡ getD bs (placeOf b) 0 → baseOf b + x * partOf b ≤ length bs → Sized (baseOf b + x * partOf b) i bs
+  pub shape-told : (i word x : ℕ) (t : Option ℕ) (bs : List ℕ) (r : Measured) → ((j : ℕ) → Fits w8 (getD bs j 0)) → profileOf a ≡ i → 5 ≤ length bs
+      → word ≡ lowNumber 5 bs → word * 2 ^ (64 - 8 * usedOf a) % 2 ^ 64 ≡ a * 2 ^ (64 - 8 * usedOf a) % 2 ^ 64
+      → x ≡ getD bs (placeOf b) 0 → baseOf b + x * partOf b ≤ length bs → timeBy i (timeOf b) (usedOf a + 4) bs ≡ t → r ≡ sized (baseOf b + x * partOf b) t → Told r i bs
   unfolding soundRow endOf
-  shape-told i word x bs known ep long ew ec ex fits =
-      subst (λ j. Sized (baseOf b + x * partOf b) j bs) ep (go read refl (both-right within (rowBy (profileOf a) a b read) row))
+  shape-told i word x t bs r known ep long ew ec ex fits et er z =
+      subst (λ j. timeBy j (timeOf b) (usedOf a + 4) bs ≡ t → measureIn j bs ≡ sized (baseOf b + x * partOf b) t) ep
+      (go read refl (both-right within (rowBy (profileOf a) a b read) row)) et
+      ∙ sym er
     where
-      go : (r : Answer (ℕ × ℕ)) → read ≡ r → rowBy (profileOf a) a b r ≡ true → Sized (baseOf b + x * partOf b) (profileOf a) bs
-      go (refused n p) e y = absurd (false≢true y)
-      go (ok (bits, used)) e y =
+      go : (r : Answer (ℕ × ℕ)) → read ≡ r → rowBy (profileOf a) a b r ≡ true → timeBy (profileOf a) (timeOf b) (usedOf a + 4) bs ≡ t
+          → measureIn (profileOf a) bs ≡ sized (baseOf b + x * partOf b) t
+      go (refused n p) e y g = absurd (false≢true y)
+      go (ok (bits, used)) e y g =
           let ts : List Bool = flags 63 bits in
           let j : ℕ = profileOf a in
           let p : Bool = eqb used (usedOf a) in
-          let q : Bool = not (isIn (timeFrn j) bits) in
+          let q : Bool = timeAt j bits used (timeOf b) in
           let r : Bool = eqb (baseOf b) (used + baseFrom j ts 1) in
           let u : Bool = oneList j (placeOf b) (partOf b) ts 1 used in
           let y₁ : p && q && r ≡ true = both-left (p && q && r) u y in
@@ -183,4 +232,6 @@ module _ (t : List ℕ) (s : soundShapes t ≡ true) (k a b : ℕ) (l : k < 64) 
           let ends : endFrom j ts 1 bs used ≡ baseOf b + x * partOf b =
           one-list j (placeOf b) (partOf b) ts 1 bs used (both-right (p && q && r) u y)
           ∙ ap₂ (λ m n. m + n * partOf b) (sym (eqb-true _ _ (both-right (p && q) r y₁))) (sym ex) in
-          measured j bits used (baseOf b + x * partOf b) bs set-is (both-right p q y₂) ends fits
+          let time : timeIn j bits bs used ≡ t =
+          time-at j bits used (timeOf b) bs (both-right p q y₂) ∙ ap (λ k. timeBy j (timeOf b) (k + 4) bs) (eqb-true used (usedOf a) (both-left p q y₂)) ∙ g in
+          measured j bits used (baseOf b + x * partOf b) t bs set-is ends time fits

@@ -1,11 +1,10 @@
--- Shapes: FSPECs that records mostly have, each with the size of a record that has it, by one octet at most. A row of the table says nothing that the
--- profiles do not have. Assumes nothing.
+-- Shapes: FSPECs that records mostly have, each with the size of a record that has it, by one octet at most, and where its time stands. A row of the table
+-- says nothing that the profiles do not have. Assumes nothing.
 --
--- In order: an item; the items of flags; a row; the table; what an answer tells.
-use Prim.Native.Nat.{ℕ, zero, suc, _+_, _-_, _*_, _/_, _%_}
+-- In order: an item; the items of flags; the time; a row; the table; what an answer tells.
+use Prim.Native.Nat.{ℕ, _+_, _-_, _*_, _/_, _%_, _^_}
 use mathlib.Core.Path.{_≡_}
-use mathlib.Core.Bool.{Bool, true, false, cond, not, _&&_}
-use mathlib.Core.Option.{none}
+use mathlib.Core.Bool.{Bool, true, false, cond, _&&_}
 use mathlib.Core.List.{List, [], _∷_}
 use lib.Dec.{leb, ltb, eqb}
 use lib.ListN.{length, getD}
@@ -15,7 +14,8 @@ use Rattle.sets.specs.Sets.{categoryAt}
 use Rattle.sets.specs.Steps.{setFrom}
 use Rattle.steps.specs.Told.{allBelow}
 use Rattle.plain.specs.Shape.{lowOctets, usedOf, profileOf}
-use Rattle.measuring.specs.Measure.{fixedOctets, octetsAt, timeFrn, isIn, sized, measureIn}
+use Rattle.measuring.specs.Measure.{fixedOctets, octetsAt, timeFrn, isIn, measureIn}
+use Rattle.measuring.specs.declared.record.Measured.{Measured}
 
 -- ---- an item, at an FRN of a profile
 
@@ -50,8 +50,24 @@ oneList i place part (true ∷ ts) f at =
     cond (isFixed i f) (oneList i place part ts (f + 1) (at + octetsAt i f 0))
     (eqb at place && eqb (partOctets i f) part && isEven i f && allFixed i ts (f + 1))
 
--- ---- a row: the FSPEC, its octets and the profile, in the columns of the shapes of `plain`; the octets of the record without the parts of its list, where
--- the list stands, the octets of a part
+-- ---- the time
+
+-- the items of a set before an FRN are fixed and end at a place, where the set's items start from a place on
+abbrev pub flagsBefore : ℕ → ℕ → List Bool
+flagsBefore f bits = flags 63 (bits / 2 ^ (64 - f) * 2 ^ (64 - f))
+
+abbrev pub startsAt : ℕ → ℕ → ℕ → ℕ → ℕ → Bool
+startsAt i f bits used at = allFixed i (flagsBefore f bits) 1 && eqb (used + baseFrom i (flagsBefore f bits) 1) at
+
+-- the time stands at a place, and the message type is the fifth octet of the items; 0 where there is no time
+abbrev pub timeAt : ℕ → ℕ → ℕ → ℕ → Bool
+timeAt i bits used at = cond (isIn (timeFrn i) bits) (ltb 0 at && startsAt i 3 bits used (used + 4) && startsAt i (timeFrn i) bits used at) (eqb at 0)
+
+-- ---- a row: the FSPEC, its octets and the profile, in the columns of the shapes of `plain`; where the time stands, the octets of the
+-- record without the parts of its list, where the list stands, the octets of a part
+
+abbrev pub timeOf : ℕ → ℕ
+timeOf k = k / 1_048_576 % 256
 
 abbrev pub baseOf : ℕ → ℕ
 baseOf k = k / 4_096 % 256
@@ -66,7 +82,7 @@ partOf k = k % 16
 abbrev pub rowBy : ℕ → ℕ → ℕ → Answer (ℕ × ℕ) → Bool
 rowBy i a b (refused n p) = false
 rowBy i a b (ok (bits, used)) =
-    eqb used (usedOf a) && not (isIn (timeFrn i) bits) && eqb (baseOf b) (used + baseFrom i (flags 63 bits) 1)
+    eqb used (usedOf a) && timeAt i bits used (timeOf b) && eqb (baseOf b) (used + baseFrom i (flags 63 bits) 1)
     && oneList i (placeOf b) (partOf b) (flags 63 bits) 1 used
 
 unfoldable pub soundRow : ℕ → ℕ → Bool
@@ -79,8 +95,7 @@ soundRow a b =
 unfoldable pub soundShapes : List ℕ → Bool
 soundShapes t = allBelow 64 (λ k. soundRow (getD t (2 * k) 0) (getD t (2 * k + 1) 0))
 
--- ---- what an answer tells: 0 nothing, else the size of a record that has no time
+-- ---- what an answer tells: nothing where its size is 0
 
-abbrev pub Sized : ℕ → ℕ → List ℕ → Type 0
-Sized zero i bs = Unit {0}
-Sized (suc n) i bs = measureIn i bs ≡ sized (suc n) none
+abbrev pub Told : Measured → ℕ → List ℕ → Type 0
+Told r i bs = (r .size ≡ 0 → ⊥) → measureIn i bs ≡ r

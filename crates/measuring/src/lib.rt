@@ -6,5 +6,5 @@ mod shape;
 pub use record::Measured;
 pub use record::measure;
 pub use shape::Shapes;
-pub use shape::shaped_size;
+pub use shape::measure_by;
 pub use shape::shapes;

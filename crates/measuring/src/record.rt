@@ -56,7 +56,7 @@ fn variable_octets(profile: usize, frn: usize, x: usize) -> usize
 }
 
 // The octet at a place, 0 past the end.
-fn octet_at(part: &[u8], at: usize) -> usize
+pub fn octet_at(part: &[u8], at: usize) -> usize
     ensures { λ r. ⌜ (r ≡ getD (now (part .entry)) at 0) × (r < 256) ⌝ }
 {
     if part.len() <= at {
@@ -122,7 +122,7 @@ fn is_untimed(profile: usize, bits: u64, part: &[u8], from: usize) -> bool
 }
 
 // A record of so many octets that is not timed.
-fn untimed(size: usize) -> Measured
+pub fn untimed(size: usize) -> Measured
     ensures { λ r. ⌜ r ≡ sized size none ⌝ }
 {
     Measured {
@@ -140,7 +140,7 @@ fn wide(x: u8) -> u64
 }
 
 // One of so many octets whose time stands at a place.
-fn timed(size: usize, part: &[u8], at: usize) -> Measured
+pub fn timed(size: usize, part: &[u8], at: usize) -> Measured
     requires { ⌜ at < 0x8000_0000_0002_0000 ⌝ }
     ensures { λ r. ⌜ r ≡ sized size (clockAt (now (part .entry)) at) ⌝ }
 {
