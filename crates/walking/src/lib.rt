@@ -8,7 +8,7 @@ use records::RecordMap;
 ghost use mathlib.Core.Path.{_≡_};
 ghost use Prim.Native.Nat.{_≤_};
 ghost use lib.ListN.{length};
-ghost use Rattle.walking.specs.Walk.{begin, more, Stands, stays, answered, openAt, recordAt, nextRecord};
+ghost use Rattle.walking.specs.Walk.{begin, more, Stands, stays, answered, openAt, blockAt, recordAt, nextRecord};
 ghost use Rattle.walking.specs.Answers.{foundOf};
 
 // Where a walk stands: in the block that starts at `block` and ends before `end`, of a category, at `place`; all counted from the recording's start.
@@ -89,8 +89,8 @@ fn stayed(cursor: Cursor, met: Met) -> Walked
 
 // ---- a block's head
 
-// A cursor at a block's first record, or a refusal's number and place.
-enum BlockFound {
+// A cursor at a record of a block, or a refusal's number and place.
+pub enum BlockFound {
     At(Cursor),
     Refused { number: u8, place: usize },
 }
@@ -120,6 +120,17 @@ fn open_at(recording: &[u8], start: usize) -> BlockFound
         end: start + len,
         category: part[0],
     })
+}
+
+// The block that the next record lies in: the cursor's own, or where that is at its end the one that starts there.
+pub fn block_at(recording: &[u8], cursor: Cursor) -> BlockFound
+    requires { ⌜ cursor .end ≤ length (now recording) ⌝ }
+    ensures { λ r. ⌜ foundOf r ≡ blockAt (now (recording .entry)) cursor ⌝ }
+{
+    if cursor.place < cursor.end {
+        return BlockFound::At(cursor);
+    }
+    open_at(recording, cursor.end)
 }
 
 // ---- a record
@@ -175,10 +186,7 @@ pub fn next_record(recording: &[u8], cursor: Cursor) -> Walked
     if !cursor.has_more(recording.len()) {
         return stayed(cursor, Met::Finished);
     }
-    if cursor.place < cursor.end {
-        return record_at(recording, cursor, cursor);
-    }
-    let found = open_at(recording, cursor.end);
+    let found = block_at(recording, cursor);
     match found {
         BlockFound::At(at) => record_at(recording, cursor, at),
         BlockFound::Refused { number, place } => stayed(cursor, Met::Refused { number, place }),
