@@ -274,49 +274,39 @@ module _ (i : ℕ) (bs : List ℕ) where
   unfolding startOf
   untimed-is bits used h a b d = rw (eq-eqb i 1 h) (ap (λ x. eqb x 64) (d ∙ ap (λ x. getD bs x 0) (b ∙ ap (λ x. endOf i x bs used) a)))
 
-  -- a record whose items were passed: where its time's item starts, and where all end
-  pub record Passed (bits used f start end : ℕ) : Type 0 where
-    pub frn : f ≡ timeFrn i
-    pub starts : start ≡ startOf i f bits bs used
-    pub ends : end ≡ endOf i bits bs used
+  module _ (bits used : ℕ) {n : ℕ} (e : n ≡ endOf i bits bs used) where
+    pub measure-past : length bs < n → sized 0 none ≡ measureBy i bs (ok (bits, used))
+    measure-past h = sym (if-false _ (lt-leb (endOf i bits bs used) (length bs) (subst (λ x. length bs < x) e h)) refl)
 
-  pub passed : (bits used : ℕ) {f early start end : ℕ} → bits < 2 ^ 63 → f ≡ timeFrn i → early ≡ bits / 2 ^ (64 - f) * 2 ^ (64 - f) → start ≡ endOf i early bs used
-      → end ≡ endOf i (bits - early) bs start → Passed bits used f start end
-  unfolding startOf
-  passed bits used {f} {early} {start} b ef ee es en =
-      let s : start ≡ startOf i f bits bs used = es ∙ ap (λ x. endOf i x bs used) ee in
-      record {
-        frn = ef;
-        starts = s;
-        ends = en ∙ ap₂ (λ x y. endOf i (bits - x) bs y) ee s ∙ end-from f bits used b (frn-few i ef .0) (omega (arith, frn-few i ef .1));
-      }
+    pub measure-there : (t : Option ℕ) → n ≤ length bs → t ≡ timeIn i bits bs used → sized n t ≡ measureBy i bs (ok (bits, used))
+    measure-there t h z = ap₂ sized e z ∙ sym (if-true _ (le-leb (endOf i bits bs used) (length bs) (subst (λ x. x ≤ length bs) e h)) refl)
 
-  module _ (bits used : ℕ) {f start end : ℕ} (s : Passed bits used f start end) where
-    pub measure-past : length bs < end → sized 0 none ≡ measureBy i bs (ok (bits, used))
-    measure-past h = sym (if-false _ (lt-leb (endOf i bits bs used) (length bs) (subst (λ x. length bs < x) (s .ends) h)) refl)
+  -- the time, where its item is absent, where it counts as none, and where it is there
+  module _ (bits used : ℕ) {f : ℕ} (ef : f ≡ timeFrn i) where
+    pub time-absent : (bits / 2 ^ (63 - f) % 2 ≡ 1 → ⊥) → timeIn i bits bs used ≡ none
+    unfolding timeIn
+    time-absent z = if-false _ (ap (λ x. isIn x bits) (sym ef) ∙ ne-eqb (bits / 2 ^ (63 - f) % 2) 1 z) refl
 
-    module _ (h : end ≤ length bs) where
-      measure-there : (t : Option ℕ) → t ≡ timeIn i bits bs used → sized end t ≡ measureBy i bs (ok (bits, used))
-      measure-there t e =
-          ap₂ sized (s .ends) e ∙ sym (if-true _ (le-leb (endOf i bits bs used) (length bs) (subst (λ x. x ≤ length bs) (s .ends) h)) refl)
+    module _ (z : bits / 2 ^ (63 - f) % 2 ≡ 1) {u : Bool} (eu : u ≡ isUntimed i (getD bs (startOf i 3 bits bs used) 0)) where
+      timed-in : isIn (timeFrn i) bits ≡ true
+      timed-in = ap (λ x. isIn x bits) (sym ef) ∙ eq-eqb (bits / 2 ^ (63 - f) % 2) 1 z
 
-      pub measure-absent : (bits / 2 ^ (63 - f) % 2 ≡ 1 → ⊥) → sized end none ≡ measureBy i bs (ok (bits, used))
+      pub time-none : u ≡ true → timeIn i bits bs used ≡ none
       unfolding timeIn
-      measure-absent z = measure-there none (sym (if-false _ (ap (λ x. isIn x bits) (sym (s .frn)) ∙ ne-eqb (bits / 2 ^ (63 - f) % 2) 1 z) refl))
+      time-none y = if-true _ timed-in (if-true _ (sym eu ∙ y) refl)
 
-      module _ (z : bits / 2 ^ (63 - f) % 2 ≡ 1) {u : Bool} (eu : u ≡ isUntimed i (getD bs (startOf i 3 bits bs used) 0)) where
-        timed-in : isIn (timeFrn i) bits ≡ true
-        timed-in = ap (λ x. isIn x bits) (sym (s .frn)) ∙ eq-eqb (bits / 2 ^ (63 - f) % 2) 1 z
+      pub time-there : u ≡ false → {s : ℕ} → s ≡ startOf i f bits bs used → clockAt bs s ≡ timeIn i bits bs used
+      unfolding timeIn
+      time-there y q = ap (clockAt bs) (q ∙ ap (λ x. startOf i x bits bs used) ef) ∙ sym (if-true _ timed-in (if-false _ (sym eu ∙ y) refl))
 
-        pub measure-untimed : u ≡ true → sized end none ≡ measureBy i bs (ok (bits, used))
-        unfolding timeIn
-        measure-untimed y = measure-there none (sym (if-true _ timed-in (if-true _ (sym eu ∙ y) refl)))
+  -- the items before the time's, and those from it on
+  module _ (bits used : ℕ) {f early start : ℕ} (ef : f ≡ timeFrn i) (ee : early ≡ bits / 2 ^ (64 - f) * 2 ^ (64 - f)) (es : start ≡ endOf i early bs used) where
+    pub starts : start ≡ startOf i f bits bs used
+    unfolding startOf
+    starts = es ∙ ap (λ x. endOf i x bs used) ee
 
-        pub measure-timed : u ≡ false → sized end (clockAt bs start) ≡ measureBy i bs (ok (bits, used))
-        unfolding timeIn
-        measure-timed y =
-            measure-there (clockAt bs start)
-            (ap (clockAt bs) (s .starts ∙ ap (λ x. startOf i x bits bs used) (s .frn)) ∙ sym (if-true _ timed-in (if-false _ (sym eu ∙ y) refl)))
+    pub ends : bits < 2 ^ 63 → {end : ℕ} → end ≡ endOf i (bits - early) bs start → end ≡ endOf i bits bs used
+    ends b en = en ∙ ap₂ (λ x y. endOf i (bits - x) bs y) ee starts ∙ end-from f bits used b (frn-few i ef .0) (omega (arith, frn-few i ef .1))
 
 -- by the set that was read
 module _ (cat : ℕ) (bs : List ℕ) {i : ℕ} (s : SetRead) (ei : i ≡ profileIn cat categories) (es : setOf s ≡ setAt i bs) where

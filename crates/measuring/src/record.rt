@@ -1,4 +1,4 @@
-// Item by item, in one pass: the items before the time, and from there on the others.
+// Item by item, in one pass: where there is a time, the items before it, and from there on the others.
 use items::profile_of;
 use sets::ItemSet;
 use sets::SetRead;
@@ -9,7 +9,7 @@ ghost use mathlib.Core.Option.{none};
 ghost use Prim.Native.Nat.{_-_, _*_, _/_, _^_, _≤_, _<_};
 ghost use lib.ListN.{getD};
 ghost use Rattle.rules.specs.Answer.{ok};
-ghost use Rattle.measuring.specs.Measure.{fixedOctets, variableOctets, octetsAt, endOf, startOf, timeFrn, isUntimed, clockAt, sized, measureBy, measureOf};
+ghost use Rattle.measuring.specs.Measure.{fixedOctets, variableOctets, octetsAt, endOf, startOf, timeFrn, isUntimed, clockAt, timeIn, sized, measureBy, measureOf};
 
 // How many octets a record has, 0 where it has no FSPEC of its category or ends past what is lent; and its time of day, in 1/128 s, where it counts as
 // timed, 0 where not.
@@ -161,23 +161,35 @@ fn time_frn(profile: usize) -> usize
     if profile == 0 { 7 } else { 15 }
 }
 
-// A record whose set has been read.
+// A record that is not timed, whose set has been read.
+fn measure_untimed(profile: usize, bits: u64, part: &[u8], from: usize) -> Measured
+    requires { ⌜ (bits < 2 ^ 63) × (from < 2 ^ 63) × (timeIn profile bits (now part) from ≡ none) ⌝ }
+    ensures { λ r. ⌜ r ≡ measureBy profile (now (part .entry)) (ok (bits, from)) ⌝ }
+{
+    let end = items_end(profile, bits, part, from);
+    if part.len() < end {
+        return untimed(0);
+    }
+    untimed(end)
+}
+
+// Any record whose set has been read: most have no time, and need no look for it.
 fn measure_set(profile: usize, bits: u64, part: &[u8], from: usize) -> Measured
     requires { ⌜ (bits < 2 ^ 63) × (from < 2 ^ 63) ⌝ }
     ensures { λ r. ⌜ r ≡ measureBy profile (now (part .entry)) (ok (bits, from)) ⌝ }
 {
     let frn = time_frn(profile);
+    if (bits >> (63 - frn)) % 2 != 1 {
+        return measure_untimed(profile, bits, part, from);
+    }
+    if is_untimed(profile, bits, part, from) {
+        return measure_untimed(profile, bits, part, from);
+    }
     let early = before(bits, frn);
     let start = items_end(profile, early, part, from);
     let end = items_from(profile, bits - early, part, start);
     if part.len() < end {
         return untimed(0);
-    }
-    if (bits >> (63 - frn)) % 2 != 1 {
-        return untimed(end);
-    }
-    if is_untimed(profile, bits, part, from) {
-        return untimed(end);
     }
     timed(end, part, start)
 }
