@@ -97,6 +97,7 @@ class Function:
             lent = kind.startswith("&")
             if not lent:
                 continue
+            name = "«%s»" % name if "_" in name else name
             if re.search(r"(?<!now )\(%s \.entry\)" % name, said):
                 said = said.replace("now (%s .entry)" % name, "%s .now" % name).replace("(%s .entry)" % name, name)
             else:
@@ -167,15 +168,15 @@ def parts(statement):
     return [said for said in found[:-1] if said], found[-1]
 
 
-def check(function, statements):
-    """The theorem's name, or None."""
+def check(function, statements, plain):
+    """The theorem's name, or None. plain: the names of theorems of functions that no type owns."""
     where = "%s::%s" % (function.crate, function.title)
     if not function.ensures:
         differ("%s states nothing" % where)
     for name, kind in function.parameters.items():
         if kind.startswith("&mut") and not any("(%s .exit)" % name in said for _, said in function.ensures):
             differ("%s does not state what %s then holds" % (where, name))
-    name = next((n for n in reversed(function.theorems) if n in statements), None)
+    name = next((n for n in reversed(function.theorems) if n in statements and not (function.owner and n in plain)), None)
     if name is None:
         return None
     there, last = parts(statements[name])
@@ -219,10 +220,12 @@ def main(arguments):
     there = rows(text)
     made = {}
     used = {}
-    for function in callable_functions():
+    functions = callable_functions()
+    for function in functions:
         statements = theorems(function.crate)
+        plain = {f.theorems[0] for f in functions if f.crate == function.crate and not f.owner}
         key = (function.crate, function.title)
-        name = check(function, statements)
+        name = check(function, statements, plain)
         used.setdefault(function.crate, set()).add(name)
         cited = []
         for _, said in function.ensures:

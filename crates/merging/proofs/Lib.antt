@@ -1,0 +1,12 @@
+pub mod WhichLaws
+pub mod HeadLaws
+pub mod LogHeads
+pub mod SeekLaws
+pub mod MoveLaws
+pub mod StepLaws
+pub mod PartLaws
+pub mod RunLaws
+pub mod ManyLaws
+pub mod ManyUnique
+pub mod ManyRun
+pub mod Unique

@@ -1,0 +1,4 @@
+pub mod Heads
+pub mod Run
+pub mod Step
+pub mod Many
