@@ -38,7 +38,7 @@ use Rattle.asterix.specs.Answers.{blockChecked, recordingChecked, record
 abbrev Number : ℕ → Type 0
 Number n = T (leb 1 n && leb n 21)
 
-T-both : (a b : Bool) → T (a && b) → T a × T b
+pub T-both : (a b : Bool) → T (a && b) → T a × T b
 T-both true b t = (tt, t)
 T-both false b t = absurd t
 
@@ -271,7 +271,7 @@ block-checked : (bs : List ℕ) → Octets bs → Numbered (checkBlock bs)
 unfolding checkBlock
 block-checked bs o = step _ _ (block-read eqb bs o) (λ x e. done _)
 
-recording-checked : (bs : List ℕ) → Octets bs → Numbered (checkRecording bs)
+pub recording-checked : (bs : List ℕ) → Octets bs → Numbered (checkRecording bs)
 unfolding checkRecording readRecording
 recording-checked bs o = step _ _ (all-read (block-laws categories) (block-starts categories) (block-read leb) bs o) (λ ks e. done _)
 

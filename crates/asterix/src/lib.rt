@@ -1,19 +1,25 @@
 // The functions of include/asterix.h, for C and Rust: a slice goes as a pointer and how many elements it points to, an array as a pointer. Each answer is
 // a struct by value whose `number` is 0 or the refusal's (document 01, "Refusal numbers and their order"), whose `place` is the refusal's, and whose other
-// members are 0 on refusal (but for a walk's `next`).
+// members are 0 on refusal (but for a walk's `next`, and a step's places).
 //
-// In order, as in the header: checking; finding; walking a log; one item; adding a record; lengths.
+// In order, as in the header: checking; finding; walking a log; two logs on one line; one item; adding a record; lengths.
 use finding::ItemLocated;
 use finding::RecordPlace;
+use merging::Begun;
+use merging::Told;
 use sets::ItemSet;
 use walking::Met;
 ghost use mathlib.Core.Path.{_≡_};
 ghost use lib.ListN.{length};
-ghost use Rattle.rules.specs.Entry.{categories, leaves, checkBlock, checkRecording, findRecord, findItem, readOne, writeOne, addRecord, leavesAdded, leastLength};
+ghost use Rattle.rules.specs.Entry.{categories, leaves, over, checkBlock, checkRecording, findRecord, findItem, readOne, writeOne, addRecord, leavesAdded, leastLength};
 ghost use Rattle.items.specs.Answers.{profileIn};
 ghost use Rattle.sets.specs.Sets.{frnsOf};
 ghost use Rattle.walking.specs.Walk.{nextRecord};
-ghost use Rattle.asterix.specs.Answers.{blockChecked, recordingChecked, recordFound, itemFound, cursorIn, recordMet, itemRead, itemWritten, recordAdded};
+ghost use Rattle.rules.specs.Merge.{mergeStep};
+ghost use Rattle.merging.specs.Run.{beginOf};
+ghost use Rattle.merging.specs.Many.{manyOf};
+ghost use Prim.Native.Nat.{_/_};
+ghost use Rattle.asterix.specs.Answers.{blockChecked, recordingChecked, recordFound, itemFound, cursorIn, recordMet, logNumber, mergeStepped, headOut, headIn, mergeOut, mergeIn, noneBegun, mergeBegun, mergeNext, itemRead, itemWritten, recordAdded};
 
 // ---- checking
 
@@ -242,6 +248,249 @@ pub extern "C" fn asterix_next_record(recording: &[u8], cursor: Cursor) -> Recor
             starts: [0; 35],
             next,
         },
+    }
+}
+
+// ---- two logs on one line
+
+// 0 is log A, 1 is log B.
+fn log_number(log: merging::Log) -> u8
+    ensures { λ r. ⌜ r ≡ logNumber log ⌝ }
+{
+    match log {
+        merging::Log::A => 0,
+        merging::Log::B => 1,
+    }
+}
+
+// `met` is 1 where a record comes next; 0 with `number` 0 is the end of both logs. `log` is the record's, or that of a refusal of its own.
+#[repr(C)]
+pub struct MergeStepped {
+    pub number: u8,
+    pub met: u8,
+    pub log: u8,
+    pub place: usize,
+    pub start: usize,
+    pub length: usize,
+    pub place_a: usize,
+    pub place_b: usize,
+}
+
+// Which record of two logs comes next, from a place in each; and the new places.
+#[no_mangle]
+pub extern "C" fn asterix_merge_step(
+    log_a: &[u8],
+    log_b: &[u8],
+    place_a: usize,
+    place_b: usize,
+    offset: i64,
+) -> MergeStepped
+    ensures { λ r. ⌜ r ≡ mergeStepped (mergeStep (now («log_a» .entry)) (now («log_b» .entry)) «place_a» «place_b» offset) ⌝ }
+{
+    let merged = merging::merge_at(log_a, log_b, place_a, place_b, offset);
+    let told = merged.told;
+    match told {
+        Told::Next { log } => MergeStepped {
+            number: 0,
+            met: 1,
+            log: log_number(log),
+            place: 0,
+            start: merged.start,
+            length: merged.size,
+            place_a: merged.place_a,
+            place_b: merged.place_b,
+        },
+        Told::Finished => MergeStepped {
+            number: 0,
+            met: 0,
+            log: 0,
+            place: 0,
+            start: merged.start,
+            length: merged.size,
+            place_a: merged.place_a,
+            place_b: merged.place_b,
+        },
+        Told::NotAccepted { log, number, place } => MergeStepped {
+            number,
+            met: 0,
+            log: log_number(log),
+            place: place as usize,
+            start: merged.start,
+            length: merged.size,
+            place_a: merged.place_a,
+            place_b: merged.place_b,
+        },
+        Told::Refused { number } => MergeStepped {
+            number,
+            met: 0,
+            log: 0,
+            place: 0,
+            start: merged.start,
+            length: merged.size,
+            place_a: merged.place_a,
+            place_b: merged.place_b,
+        },
+    }
+}
+
+// The record that comes next in a log: the walk at it, how many octets it has, and its time where `timed` is not 0.
+#[repr(C)]
+pub struct MergeHead {
+    pub at: Cursor,
+    pub length: usize,
+    pub timed: u8,
+    pub time: u64,
+}
+
+// Where a run of two logs stands: `Merge` of `merging`.
+#[repr(C)]
+pub struct Merge {
+    pub a: MergeHead,
+    pub b: MergeHead,
+    pub turn: u64,
+}
+
+fn head_out(standing: merging::Standing) -> MergeHead
+    ensures { λ r. ⌜ r ≡ headOut standing ⌝ }
+{
+    let at = standing.at;
+    let timed = if standing.timed { 1 } else { 0 };
+    MergeHead {
+        at: Cursor {
+            block: at.block,
+            place: at.place,
+            end: at.end,
+            category: at.category,
+        },
+        length: standing.size,
+        timed,
+        time: standing.time,
+    }
+}
+
+fn head_in(head: MergeHead) -> merging::Standing
+    ensures { λ r. ⌜ r ≡ headIn head ⌝ }
+{
+    let at = head.at;
+    merging::Standing {
+        at: walking::Cursor {
+            block: at.block,
+            place: at.place,
+            end: at.end,
+            category: at.category,
+        },
+        size: head.length,
+        timed: head.timed != 0,
+        time: head.time,
+    }
+}
+
+fn merge_out(merge: merging::Merge) -> Merge
+    ensures { λ r. ⌜ r ≡ mergeOut merge ⌝ }
+{
+    let a = merge.a;
+    let b = merge.b;
+    Merge {
+        a: head_out(a),
+        b: head_out(b),
+        turn: merge.turn,
+    }
+}
+
+// `merge` is all zeros on refusal.
+#[repr(C)]
+pub struct MergeBegun {
+    pub number: u8,
+    pub log: u8,
+    pub place: usize,
+    pub merge: Merge,
+}
+
+fn none_begun(number: u8, log: u8, place: usize) -> MergeBegun
+    ensures { λ r. ⌜ r ≡ noneBegun number log place ⌝ }
+{
+    MergeBegun {
+        number,
+        log,
+        place,
+        merge: Merge {
+            a: MergeHead {
+                at: Cursor {
+                    block: 0,
+                    place: 0,
+                    end: 0,
+                    category: 0,
+                },
+                length: 0,
+                timed: 0,
+                time: 0,
+            },
+            b: MergeHead {
+                at: Cursor {
+                    block: 0,
+                    place: 0,
+                    end: 0,
+                    category: 0,
+                },
+                length: 0,
+                timed: 0,
+                time: 0,
+            },
+            turn: 0,
+        },
+    }
+}
+
+// A run from both first records: both logs are checked, whole, once.
+#[no_mangle]
+pub extern "C" fn asterix_begin_merge(log_a: &[u8], log_b: &[u8], offset: i64) -> MergeBegun
+    ensures { λ r. ⌜ r ≡ mergeBegun (beginOf (now («log_a» .entry)) (now («log_b» .entry)) offset) ⌝ }
+{
+    let begun = merging::begin_merge(log_a, log_b, offset);
+    match begun {
+        Begun::Ready(merge) => MergeBegun {
+            number: 0,
+            log: 0,
+            place: 0,
+            merge: merge_out(merge),
+        },
+        Begun::NotAccepted { log, number, place } => {
+            none_begun(number, log_number(log), place as usize)
+        }
+        Begun::Refused { number } => none_begun(number, 0, 0),
+    }
+}
+
+// How many records came out, and the run after them.
+#[repr(C)]
+pub struct MergeNext {
+    pub count: usize,
+    pub merge: Merge,
+}
+
+// The next records of two logs, six numbers each, as many as there is room for. Of any run: what comes out lies in its log.
+#[no_mangle]
+pub extern "C" fn asterix_next_merged_words<'a>(
+    log_a: &'a [u8],
+    log_b: &'a [u8],
+    merge: Merge,
+    out: &mut [usize],
+) -> MergeNext
+    ensures answer { λ r. ⌜ r ≡ mergeNext (manyOf (length (now (out .entry)) / 6) (now («log_a» .entry)) (now («log_b» .entry)) (mergeIn merge)) ⌝ }
+    ensures left { λ _. ⌜ now (out .exit) ≡ over (manyOf (length (now (out .entry)) / 6) (now («log_a» .entry)) (now («log_b» .entry)) (mergeIn merge) .numbers) (now (out .entry)) ⌝ }
+{
+    let a = merge.a;
+    let b = merge.b;
+    let from = merging::Merge {
+        a: head_in(a),
+        b: head_in(b),
+        turn: merge.turn,
+    };
+    let ran = merging::next_records(from, log_a, log_b, out);
+    let after = ran.merge;
+    MergeNext {
+        count: ran.count,
+        merge: merge_out(after),
     }
 }
 
