@@ -1,4 +1,4 @@
-/* ASTERIX categories 017 and 018: checking, finding, reading and writing.
+/* ASTERIX categories 017 and 018: checking, finding, merging two logs, reading and writing.
  *
  * Category 017, Mode S Surveillance Coordination Function Messages, edition 1.3; category 018, Mode S Datalink
  * Function Messages, edition 1.6. Every item and message type of both. The functions are those of the crate
@@ -7,8 +7,8 @@
  *     rt staticlib asterix                                     writes target/staticlib/libasterix.a
  *     cc -Iinclude program.c target/staticlib/libasterix.a     x86-64 Linux; C99, C11 or C++
  *
- * In order: what holds of every call; refusals; checking; finding; walking a log; one item; adding a record;
- * lengths; the items and their fields.
+ * In order: what holds of every call; refusals; checking; finding; walking a log; merging two logs; one item; adding
+ * a record; lengths; the items and their fields.
  *
  *
  * What holds of every call
@@ -23,9 +23,9 @@
  * - A refused call changes no byte of anything that was lent to it.
  * - Calls from several threads at once are fine where none writes to what another reads or writes.
  *
- * Each answer is a struct by value. Its `number` is 0 where the work was done, and else the refusal's, 1 to 21;
+ * Each answer is a struct by value. Its `number` is 0 where the work was done, and else the refusal's, 1 to 23;
  * its `place` is that of the refusal, and 0 where there is none. Its other members are 0 where it is a refusal
- * (but for `next` of a walk).
+ * (but for `next` of a walk, and the log and the places of a merging).
  *
  * Octets are counted from 0, records of a block from 0, field reference numbers (FRN) from 1, as the documents
  * do.
@@ -64,10 +64,12 @@ extern "C" {
  *   19   the block has no record with that number                                      0
  *   20   the record does not have that item                                            record
  *   21   the category has no item with that reference                                  0
+ *   22   the clock offset is not from -46,080 to 46,080                                0
+ *   23   a place that is neither a record's start nor the log's end                    0
  *
  * "Block", "record" and "item": where that block, record or item starts. Places count from the start of the
- * block or recording that was lent; of one item alone, and of the new items of an added record, from the start
- * of those bytes (there "record" is 0).
+ * block or recording that was lent (of two logs: the one that is refused); of one item alone, and of the new items of
+ * an added record, from the start of those bytes (there "record" is 0).
  *
  * Blocks are taken in order, the records of a block in order, and the first fault ends the work. At a block's
  * start 1, 2, 3, 4 are tried in that order; in a record 5 and 6 octet by octet, then 7, then 8, then each item
@@ -94,7 +96,9 @@ enum asterix_refusal {
     ASTERIX_BYTES_LEFT = 18,
     ASTERIX_NO_SUCH_RECORD = 19,
     ASTERIX_ITEM_ABSENT = 20,
-    ASTERIX_NO_SUCH_ITEM = 21
+    ASTERIX_NO_SUCH_ITEM = 21,
+    ASTERIX_OFFSET_RANGE = 22,
+    ASTERIX_NO_SUCH_PLACE = 23
 };
 
 /* What a refusal number means, in a few words; "" for a number that is none. */
@@ -122,9 +126,11 @@ static inline const char *asterix_refusal_text(unsigned number)
         "bytes are left",
         "there is no record with that number",
         "the record does not have that item",
-        "the category has no item with that reference"
+        "the category has no item with that reference",
+        "the clock offset is out of range",
+        "a place is neither a record's start nor the log's end"
     };
-    return text[number <= 21 ? number : 0];
+    return text[number <= 23 ? number : 0];
 }
 
 /* ---- Checking */
@@ -234,6 +240,118 @@ struct asterix_record_met {
  * category. So three times the same place stands before the block that starts there. */
 struct asterix_record_met asterix_next_record(const uint8_t *recording, size_t recording_len,
                                               struct asterix_cursor cursor);
+
+/* ---- Merging two logs
+ *
+ * The records of two logs, A and B, in one order by their times, I017/140 and I018/002, with an offset that is added
+ * to B's times for the difference of the clocks. Each log keeps its own order. Of the two records that come next, A's
+ * goes first where B's time plus the offset, less A's time, modulo 11,059,200 (a day), is at most 5,529,600 (half a
+ * day), and else B's. A record without a time goes out at once, A's before B's; a GICB_extraction counts as one, for
+ * its I018/002 is the end of a request. A log at its end yields to the other.
+ *
+ * There are two ways. asterix_merge_step is one step from a place in each log; nothing is kept, so every call checks
+ * both whole logs. To go through two logs, begin a merge, which checks both once, and ask for the records, many at a
+ * time: each then costs its own octets, and what a call costs is shared by all that it hands out.
+ *
+ *     struct asterix_merged out[64];
+ *     struct asterix_merge_begun begun = asterix_begin_merge(a, a_len, b, b_len, offset);
+ *     struct asterix_merge_next next = { 0, begun.merge };
+ *     if (begun.number)
+ *         ...                                   22, or what asterix_check_recording gives of the log begun.log
+ *     else
+ *         while ((next = asterix_next_merged(a, a_len, b, b_len, next.merge, out, 64)).count)
+ *             for (size_t i = 0; i < next.count; i++)
+ *                 ...                           (out[i].log ? b : a) + out[i].at.place, out[i].length octets
+ */
+
+/* Offsets are from -46,080 to 46,080, in 1/128 s: six minutes. */
+enum { ASTERIX_OFFSET = 46080 };
+
+struct asterix_merge_stepped {
+    uint8_t number; /* 1 to 15 of the log that `log` names, 22, 23 */
+    uint8_t met;    /* 1: a record comes next. 0 with number 0: both logs are at their ends */
+    uint8_t log;    /* of the record, or of a refusal that is a log's own: 0 is A, 1 is B. Else 0 */
+    size_t place;   /* of a log's own refusal, from that log's start; else 0 */
+    /* The record is that part of its log, its FSPEC first. Both 0 where none comes. */
+    size_t start, length;
+    /* The new places: of the log that it came from the next record's start, past the next block's head, or the end;
+     * of the other the one given. Both those given where no record comes. */
+    size_t place_a, place_b;
+};
+
+/* Which record comes next, where log A stands at `place_a` and log B at `place_b`: each a record's start, which is
+ * its FSPEC (so 3 is a log's first, and 0 none), or the log's length. Refuses, in this order, by 1 to 15 of log A, by
+ * 1 to 15 of log B, by 22, and by 23 of either place; also where both are at their ends. Checks both whole logs at
+ * every call. */
+struct asterix_merge_stepped asterix_merge_step(const uint8_t *a, size_t a_len, const uint8_t *b, size_t b_len,
+                                                size_t place_a, size_t place_b, int64_t offset);
+
+/* The record of a log that comes next: the walk's cursor at it, its length and its time. Length 0: the log is at its
+ * end. */
+struct asterix_merge_head {
+    struct asterix_cursor at;
+    size_t length;
+    uint8_t timed; /* 1: it has a time that counts. Else `time` is 0 */
+    uint64_t time;
+};
+
+/* Where a merge of two logs stands: both heads, and the offset as a number from 0 to 11,059,199. It is small, yours
+ * to keep and to copy; nothing in it is yours to set. */
+struct asterix_merge {
+    struct asterix_merge_head a, b;
+    uint64_t turn;
+};
+
+struct asterix_merge_begun {
+    uint8_t number;
+    uint8_t log;  /* of a log's own refusal: 0 is A, 1 is B. Else 0 */
+    size_t place; /* of a log's own refusal, from that log's start; else 0 */
+    struct asterix_merge merge;
+};
+
+/* Begins a merge before the first records of both logs, which are checked whole, here and not again. Refuses by 1 to
+ * 15 of log A, by 1 to 15 of log B, then by 22. */
+struct asterix_merge_begun asterix_begin_merge(const uint8_t *a, size_t a_len, const uint8_t *b, size_t b_len,
+                                               int64_t offset);
+
+/* A record that came out: its log, 0 is A, 1 is B; its length; and the walk's cursor at it. It starts at at.place of
+ * its log; asterix_next_record(log, log_len, at) meets it, with its map. */
+struct asterix_merged {
+    size_t log;
+    size_t length;
+    struct asterix_cursor at;
+};
+
+struct asterix_merge_next {
+    size_t count;               /* how many came out */
+    struct asterix_merge merge; /* the merge after them */
+};
+
+/* The same with the records as numbers, six to each: log, length, and the cursor's block, place, end and category.
+ * asterix_next_merged is this. */
+struct asterix_merge_next asterix_next_merged_words(const uint8_t *a, size_t a_len, const uint8_t *b, size_t b_len,
+                                                    struct asterix_merge merge, size_t *out, size_t words);
+
+/* The next records of a merge, at most `room`, at the start of `out`; fewer only where both logs are at their ends.
+ * The others of `out` stay as they were. Count 0, where there is room: the merge is finished. It refuses nothing and
+ * checks nothing anew: the logs should be those that the merge was begun with, unchanged.
+ *
+ * Any merge may be given with any logs, also one that was damaged or is of other logs. A head is taken at its word
+ * where it lies in its log by its own numbers (block <= place <= end <= the log's length; a length that is not 0, and
+ * at most end - place); a log with any other head counts as at its end, and that head stays as it is. `timed` is no
+ * where it is 0; times and `turn` count modulo a day. Behind a record the log goes on by the lengths of the items
+ * that its octets name, to the head's `end` and through the blocks from there on, and is at its end where they name
+ * no record of category 17 or 18 that its block holds. So what comes out lies in its log, and every call ends. */
+static inline struct asterix_merge_next asterix_next_merged(const uint8_t *a, size_t a_len, const uint8_t *b,
+                                                            size_t b_len, struct asterix_merge merge,
+                                                            struct asterix_merged *out, size_t room)
+{
+    /* A struct asterix_merged is six numbers of eight octets; the category is the last one's lowest octet, which
+     * comes first on x86-64. */
+    const size_t words = sizeof *out / sizeof(size_t), most = (size_t)-1 / words;
+    return asterix_next_merged_words(a, a_len, b, b_len, merge, (size_t *)(void *)out,
+                                     words * (room < most ? room : most));
+}
 
 /* ---- One item
  *
