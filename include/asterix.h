@@ -327,8 +327,8 @@ struct asterix_merge_next {
     struct asterix_merge merge; /* the merge after them */
 };
 
-/* The same with the records as numbers, six to each: log, length, and the cursor's block, place, end and category.
- * asterix_next_merged is this. */
+/* asterix_next_merged with the records as numbers, six to each: log, length, and the cursor's block, place, end and
+ * category. Its room is `words` / 6. */
 struct asterix_merge_next asterix_next_merged_words(const uint8_t *a, size_t a_len, const uint8_t *b, size_t b_len,
                                                     struct asterix_merge merge, size_t *out, size_t words);
 

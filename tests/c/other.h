@@ -5,6 +5,9 @@
 #define plain_find_record other_find_record
 #define plain_find_item other_find_item
 #define plain_next_record other_next_record
+#define plain_merge_step other_merge_step
+#define plain_begin_merge other_begin_merge
+#define plain_next_merged other_next_merged
 #define plain_read_item other_read_item
 #define plain_write_item other_write_item
 #define plain_add_record other_add_record

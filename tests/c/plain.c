@@ -1,5 +1,5 @@
 /* The plain implementation: see plain.h. In order: bits, one item, one record, blocks and
- * recordings, walking a recording, adding a record, lengths. */
+ * recordings, walking a recording, two logs, adding a record, lengths. */
 #include "plain.h"
 #include "tables.h"
 
@@ -549,6 +549,220 @@ struct plain_met plain_next_record(const uint8_t *recording, size_t have, struct
     at.place += record.length;
     answer.next = at;
     return answer;
+}
+
+/* ---- Two logs: which record comes next */
+
+enum { DAY = 24 * 60 * 60 * 128, HALF_DAY = DAY / 2, MOST_OFFSET = 46080, GICB_EXTRACTION = 0x40 };
+
+static bool is_offset(int64_t offset)
+{
+    return -MOST_OFFSET <= offset && offset <= MOST_OFFSET;
+}
+
+/* An offset in range as a number under a day. */
+static uint64_t turn_of(int64_t offset)
+{
+    return (uint64_t)(offset < 0 ? offset + DAY : offset);
+}
+
+/* Whether A's record goes before B's, where each log has one. */
+static bool goes_first(const struct plain_head *a, const struct plain_head *b, uint64_t turn)
+{
+    if (!a->timed)
+        return true;
+    if (!b->timed)
+        return false;
+    uint64_t gap = (b->time % DAY + turn % DAY + (DAY - a->time % DAY)) % DAY;
+    return gap <= HALF_DAY;
+}
+
+/* Whether this message type's I018/002 is no time of the record: 5.2.3, rule 3. */
+static bool is_untimed(unsigned category, unsigned type)
+{
+    return category == 18 && type == GICB_EXTRACTION;
+}
+
+/* The FRN of I017/140 or I018/002. */
+static unsigned time_frn(unsigned category)
+{
+    unsigned frn = 1;
+    while (reference_at(category, frn) != (category == 17 ? 140 : 2))
+        frn++;
+    return frn;
+}
+
+static uint64_t time_at(const uint8_t *octets)
+{
+    return (uint64_t)octets[0] << 16 | (uint64_t)octets[1] << 8 | octets[2];
+}
+
+/* ---- Two logs: a step from two places, each log walked from its start */
+
+/* Where a log stands. At a record: `head`, and the next record's start or the log's end. At the log's end: a head of
+ * length 0. False: the place is neither. */
+static bool stand_at(const uint8_t *log, size_t have, size_t place, struct plain_head *head, size_t *after)
+{
+    *head = (struct plain_head){ .length = 0 };
+    *after = place;
+    struct plain_met met = plain_next_record(log, have, (struct plain_cursor){ 0, 0, 0, 0 });
+    while (met.met && met.start != place)
+        met = plain_next_record(log, have, met.next);
+    if (!met.met)
+        return place == have;
+    size_t time = met.starts[time_frn(met.category) - 1];
+    head->length = met.length;
+    head->timed = time && !is_untimed(met.category, log[met.block + met.starts[TYPE_FRN - 1]]);
+    head->time = head->timed ? time_at(log + met.block + time) : 0;
+    struct plain_met next = plain_next_record(log, have, met.next);
+    *after = next.met ? next.start : have;
+    return true;
+}
+
+/* What both ways of merging ask first: log A, log B, the offset. `log` is that of a log's own fault. */
+static struct plain_fault check_logs(const uint8_t *a, size_t a_len, const uint8_t *b, size_t b_len, int64_t offset,
+                                     unsigned *log)
+{
+    struct plain_fault fault = plain_check_recording(a, a_len).fault;
+    *log = 0;
+    if (fault.number)
+        return fault;
+    fault = plain_check_recording(b, b_len).fault;
+    if (fault.number) {
+        *log = 1;
+        return fault;
+    }
+    return is_offset(offset) ? fine : refused(22, 0);
+}
+
+struct plain_stepped plain_merge_step(const uint8_t *a, size_t a_len, const uint8_t *b, size_t b_len, size_t place_a,
+                                      size_t place_b, int64_t offset)
+{
+    struct plain_stepped answer = { .place_a = place_a, .place_b = place_b };
+    struct plain_head in_a, in_b;
+    size_t after_a, after_b;
+    answer.fault = check_logs(a, a_len, b, b_len, offset, &answer.log);
+    if (answer.fault.number)
+        return answer;
+    if (!stand_at(a, a_len, place_a, &in_a, &after_a) || !stand_at(b, b_len, place_b, &in_b, &after_b)) {
+        answer.fault = refused(23, 0);
+        return answer;
+    }
+    if (!in_a.length && !in_b.length)
+        return answer;
+    answer.met = true;
+    if (in_a.length && (!in_b.length || goes_first(&in_a, &in_b, turn_of(offset)))) {
+        answer.start = place_a;
+        answer.length = in_a.length;
+        answer.place_a = after_a;
+    } else {
+        answer.log = 1;
+        answer.start = place_b;
+        answer.length = in_b.length;
+        answer.place_b = after_b;
+    }
+    return answer;
+}
+
+/* ---- Two logs: one record after another, each measured and no more */
+
+/* How long the item at `at` is by what its first octet says, which is taken as 0 past the end. */
+static size_t span(const struct item *item, const uint8_t *log, size_t at, size_t end)
+{
+    unsigned first = at < end ? log[at] : 0;
+    switch (item->layout) {
+    case FIXED:
+        return item->octets;
+    case LIST:
+    case SOME:
+        return 1 + (size_t)first * item->octets;
+    case LED:
+        return first;
+    case EXTENDED:
+        return first & FX ? 2 : 1;
+    }
+    return 0;
+}
+
+/* The length and the time of the record at a head's cursor. False where there is none in its block. */
+static bool measure_record(const uint8_t *log, struct plain_head *head)
+{
+    unsigned category = head->at.category;
+    size_t start = head->at.place, end = head->at.end, octets = 0, time = 0, type = 0;
+    struct set set;
+    if (!is_category(category) || get_fspec(category, log + start, end - start, &set, &octets).number)
+        return false;
+    size_t at = start + octets;
+    for (unsigned frn = 1; frn <= last_frn(category); frn++) {
+        if (frn == TYPE_FRN)
+            type = at;
+        if (!set.has[frn])
+            continue;
+        if (frn == time_frn(category))
+            time = at;
+        at += span(layout_at(category, frn), log, at, end);
+    }
+    if (at > end)
+        return false;
+    head->length = at - start;
+    head->timed = time && time + 3 <= end && !is_untimed(category, log[type]);
+    head->time = head->timed ? time_at(log + time) : 0;
+    return true;
+}
+
+/* The record at a cursor, or the first of the next block; where there is none, the log's end. */
+static struct plain_head next_head(const uint8_t *log, size_t have, struct plain_cursor at)
+{
+    const struct plain_head none = { .at = { 0, have, have, 0 } };
+    struct plain_head head = { .at = at };
+    if (at.place > at.end || at.end > have)
+        return none;
+    if (at.place == at.end) { /* the next block */
+        const uint8_t *block = log + at.end;
+        size_t left = have - at.end;
+        if (left <= HEAD || !is_category(block[0]) || len_of(block) <= HEAD || len_of(block) > left)
+            return none;
+        head.at = (struct plain_cursor){ at.end, at.end + HEAD, at.end + len_of(block), block[0] };
+    }
+    return measure_record(log, &head) ? head : none;
+}
+
+static bool is_head(const struct plain_head *head, size_t have)
+{
+    struct plain_cursor at = head->at;
+    return at.end <= have && at.block <= at.place && at.place <= at.end && head->length != 0 &&
+           head->length <= at.end - at.place;
+}
+
+struct plain_begun plain_begin_merge(const uint8_t *a, size_t a_len, const uint8_t *b, size_t b_len, int64_t offset)
+{
+    const struct plain_cursor start = { 0, 0, 0, 0 };
+    struct plain_begun answer = { .log = 0 };
+    answer.fault = check_logs(a, a_len, b, b_len, offset, &answer.log);
+    if (answer.fault.number)
+        return answer;
+    answer.merge.a = next_head(a, a_len, start);
+    answer.merge.b = next_head(b, b_len, start);
+    answer.merge.turn = turn_of(offset);
+    return answer;
+}
+
+size_t plain_next_merged(const uint8_t *a, size_t a_len, const uint8_t *b, size_t b_len, struct plain_merge *merge,
+                         struct plain_merged *out, size_t room)
+{
+    size_t count = 0;
+    for (; count < room; count++) {
+        bool in_a = is_head(&merge->a, a_len), in_b = is_head(&merge->b, b_len);
+        if (!in_a && !in_b)
+            break;
+        bool from_a = in_a && (!in_b || goes_first(&merge->a, &merge->b, merge->turn));
+        struct plain_head *head = from_a ? &merge->a : &merge->b;
+        out[count] = (struct plain_merged){ !from_a, head->length, head->at };
+        struct plain_cursor behind = head->at;
+        behind.place += head->length;
+        *head = from_a ? next_head(a, a_len, behind) : next_head(b, b_len, behind);
+    }
+    return count;
 }
 
 /* ---- Adding a record */

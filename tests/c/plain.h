@@ -1,8 +1,8 @@
-/* Checking, reading and writing blocks of ASTERIX categories 017 and 018: a second, plain
+/* Checking, reading, merging and writing blocks of ASTERIX categories 017 and 018: a second, plain
  * implementation, for comparison with the proved one.
  *
  * Written from the documents: category 017 edition 1.3, category 018 edition 1.6, the scope
- * paper and docs/DECISIONS.md. It shares nothing with the proved code, and was made to be read
+ * paper, W-201 of the later requests and docs/DECISIONS.md. It shares nothing with the proved code, and was made to be read
  * and not to be fast. Nothing is proved of it. */
 #ifndef PLAIN_H
 #define PLAIN_H
@@ -16,7 +16,7 @@ enum {
     PLAIN_FIELDS = 510 /* most fields of one item: a list of 255 parts with two each */
 };
 
-/* A refusal: its number, 1 to 21, and its place. Number 0 is no refusal. */
+/* A refusal: its number, 1 to 23, and its place. Number 0 is no refusal. */
 struct plain_fault {
     unsigned number;
     size_t place;
@@ -64,6 +64,42 @@ struct plain_met {
     struct plain_cursor next;
 };
 
+/* A step over two logs: a fault, a record, or neither, where both are at their ends. `log`, 0 or 1, is the record's, or
+ * that of a fault of a log. The record's start and the places count from the start of their log. */
+struct plain_stepped {
+    struct plain_fault fault;
+    bool met;
+    unsigned log;
+    size_t start, length;
+    size_t place_a, place_b;
+};
+
+/* The record of a log that comes next, its length and its time. Length 0: none does. */
+struct plain_head {
+    struct plain_cursor at;
+    size_t length;
+    unsigned timed; /* 0: it counts as untimed */
+    uint64_t time;
+};
+
+/* Two logs that are gone through together; the offset as a number under a day. */
+struct plain_merge {
+    struct plain_head a, b;
+    uint64_t turn;
+};
+
+struct plain_begun {
+    struct plain_fault fault;
+    unsigned log;
+    struct plain_merge merge;
+};
+
+struct plain_merged {
+    unsigned log;
+    size_t length;
+    struct plain_cursor at;
+};
+
 struct plain_fields {
     struct plain_fault fault;
     size_t count;
@@ -84,6 +120,17 @@ struct plain_item plain_find_item(const uint8_t *block, size_t have, unsigned re
 /* The record at a cursor, or the first of the next block. The end where the cursor stands in no block of the
  * recording. Without a record `next` is the cursor given. */
 struct plain_met plain_next_record(const uint8_t *recording, size_t have, struct plain_cursor at);
+
+/* The record that comes next of two logs, from a place in each, with an offset for the times of the second. */
+struct plain_stepped plain_merge_step(const uint8_t *a, size_t a_len, const uint8_t *b, size_t b_len, size_t place_a,
+                                      size_t place_b, int64_t offset);
+
+/* Both logs checked, and their first records. */
+struct plain_begun plain_begin_merge(const uint8_t *a, size_t a_len, const uint8_t *b, size_t b_len, int64_t offset);
+
+/* The next records, at most `room`; how many. Nothing is checked but that a record lies in its log. */
+size_t plain_next_merged(const uint8_t *a, size_t a_len, const uint8_t *b, size_t b_len, struct plain_merge *merge,
+                         struct plain_merged *out, size_t room);
 
 /* One item alone, and nothing after it. */
 struct plain_fields plain_read_item(unsigned category, unsigned reference, const uint8_t *item, size_t have);

@@ -55,6 +55,60 @@ struct asterix_record_met asterix_next_record(const uint8_t *recording, size_t h
     return met;
 }
 
+struct asterix_merge_stepped asterix_merge_step(const uint8_t *a, size_t a_len, const uint8_t *b, size_t b_len,
+                                                size_t place_a, size_t place_b, int64_t offset)
+{
+    struct plain_stepped answer = plain_merge_step(a, a_len, b, b_len, place_a, place_b, offset);
+    return (struct asterix_merge_stepped){ (uint8_t)answer.fault.number,
+                                           answer.met,
+                                           (uint8_t)answer.log,
+                                           answer.fault.place,
+                                           answer.start,
+                                           answer.length,
+                                           answer.place_a,
+                                           answer.place_b };
+}
+
+static struct asterix_merge_head told_head(struct plain_head head)
+{
+    return (struct asterix_merge_head){ { head.at.block, head.at.place, head.at.end, (uint8_t)head.at.category },
+                                        head.length,
+                                        (uint8_t)head.timed,
+                                        head.time };
+}
+
+static struct plain_head taken_head(struct asterix_merge_head head)
+{
+    return (struct plain_head){
+        { head.at.block, head.at.place, head.at.end, head.at.category }, head.length, head.timed, head.time
+    };
+}
+
+struct asterix_merge_begun asterix_begin_merge(const uint8_t *a, size_t a_len, const uint8_t *b, size_t b_len,
+                                               int64_t offset)
+{
+    struct plain_begun answer = plain_begin_merge(a, a_len, b, b_len, offset);
+    return (
+        struct asterix_merge_begun){ (uint8_t)answer.fault.number,
+                                     (uint8_t)answer.log,
+                                     answer.fault.place,
+                                     { told_head(answer.merge.a), told_head(answer.merge.b), answer.merge.turn } };
+}
+
+struct asterix_merge_next asterix_next_merged_words(const uint8_t *a, size_t a_len, const uint8_t *b, size_t b_len,
+                                                    struct asterix_merge given, size_t *out, size_t words)
+{
+    struct plain_merge merge = { taken_head(given.a), taken_head(given.b), given.turn };
+    struct plain_merged one;
+    size_t count = 0;
+    for (; count < words / 6 && plain_next_merged(a, a_len, b, b_len, &merge, &one, 1) == 1; count++) {
+        const size_t numbers[6] = { one.log, one.length, one.at.block, one.at.place, one.at.end, one.at.category };
+        for (size_t i = 0; i < 6; i++)
+            out[6 * count + i] = numbers[i];
+    }
+    return (struct asterix_merge_next){ count, { told_head(merge.a), told_head(merge.b), merge.turn } };
+}
+
 struct asterix_item_read asterix_read_item(uint8_t category, uint16_t reference, const uint8_t *item, size_t have,
                                            int64_t fields[ASTERIX_FIELDS])
 {
