@@ -1,10 +1,12 @@
 #!/bin/sh
-# Writes crates/asterix_answers/stdin and stdout: every set of tests/vectors, one after the other, so that `rt check` runs them all. The last
-# question has no line feed, since a last line without one is answered too. `tests/join.sh --check` only says whether they are that.
+# Writes crates/asterix_answers/stdin and stdout: every set of tests/vectors but those of two logs, which it is not asked, one after the other, so that
+# `rt check` runs them all. The last question has no line feed, since a last line without one is answered too. `tests/join.sh --check` only says whether
+# they are that.
 set -eu
 cd "$(dirname "$0")/.."
 to=crates/asterix_answers
 sets='numbers lines messages edges base'
+merging='merge w201'
 if [ "${1:-}" = --check ]; then
     to=$(mktemp -d)
     trap 'rm -rf "$to"' EXIT
@@ -17,7 +19,7 @@ for set in $sets; do
 done
 for file in tests/vectors/*-questions.txt; do
     set=$(basename "$file" -questions.txt)
-    case " $sets " in *" $set "*) ;; *) echo "tests/join.sh does not know the set $set" >&2; exit 1 ;; esac
+    case " $sets $merging " in *" $set "*) ;; *) echo "tests/join.sh does not know the set $set" >&2; exit 1 ;; esac
 done
 head -c -1 "$to/all" >"$to/stdin"
 rm "$to/all"

@@ -101,6 +101,13 @@ static bool take_octets(const char *word, uint8_t *to, size_t *n)
     return *n > 0;
 }
 
+static bool take_signed(const char *word, int64_t *n)
+{
+    char *end;
+    *n = strtoll(word, &end, 10);
+    return end != word && *end == 0;
+}
+
 static bool take_list(const char *word, int64_t *to, size_t *n)
 {
     *n = 0;
@@ -251,12 +258,140 @@ static void ask_record(const uint8_t *block, size_t have, uint64_t n)
         }
 }
 
+/* ---- Two logs */
+
+static void say_merge_refused(unsigned number, size_t place, unsigned log)
+{
+    say_refused(number, place);
+    if (number <= ASTERIX_ITEM_UNSENT) /* a log's own */
+        say(log ? " B" : " A");
+    else if (log)
+        say(" (of a log)");
+}
+
+static void ask_merge(int64_t offset, size_t place_a, size_t place_b, const uint8_t *a, size_t a_len,
+                      const uint8_t *b, size_t b_len)
+{
+    struct asterix_merge_stepped step = asterix_merge_step(a, a_len, b, b_len, place_a, place_b, offset);
+    if (step.met) {
+        say(step.log ? "next B " : "next A ");
+        say_number((int64_t)step.start);
+        say(" ");
+        say_number((int64_t)step.length);
+        say(" ");
+        say_number((int64_t)step.place_a);
+        say(" ");
+        say_number((int64_t)step.place_b);
+        return;
+    }
+    if (step.number)
+        say_merge_refused(step.number, step.place, step.log);
+    else {
+        say("finished ");
+        say_number((int64_t)step.place_a);
+        say(" ");
+        say_number((int64_t)step.place_b);
+    }
+    if (step.start || step.length || step.place_a != place_a || step.place_b != place_b)
+        say(" (and a part, or other places)");
+}
+
+/* The records of two logs in merged order, by one way to go through them. */
+struct run {
+    uint8_t number, log;
+    size_t place, count;
+    struct asterix_merged record[2 * LINE];
+};
+
+/* By a merge, `room` records at a time. Each is met at its cursor too. */
+static void run_merge(int64_t offset, const uint8_t *a, size_t a_len, const uint8_t *b, size_t b_len, size_t room,
+                      struct run *to)
+{
+    struct asterix_merge_begun begun = asterix_begin_merge(a, a_len, b, b_len, offset);
+    struct asterix_merge_next next = { 0, begun.merge };
+    to->number = begun.number;
+    to->log = begun.log;
+    to->place = begun.place;
+    to->count = 0;
+    if (begun.number)
+        return;
+    do {
+        next = asterix_next_merged(a, a_len, b, b_len, next.merge, to->record + to->count, room);
+        for (size_t i = to->count; i < to->count + next.count; i++) {
+            struct asterix_merged came = to->record[i];
+            struct asterix_record_met met = asterix_next_record(came.log ? b : a, came.log ? b_len : a_len, came.at);
+            if (!met.met || met.start != came.at.place || met.length != came.length)
+                say("(came out, and not met) ");
+        }
+        to->count += next.count;
+    } while (next.count == room);
+    if (asterix_next_merged(a, a_len, b, b_len, next.merge, to->record + to->count, 1).count)
+        say("(more after the end) ");
+}
+
+/* By steps, each from the places that the one before told; the first from both first records. */
+static void run_steps(int64_t offset, const uint8_t *a, size_t a_len, const uint8_t *b, size_t b_len, struct run *to)
+{
+    size_t place_a = a_len ? 3 : 0, place_b = b_len ? 3 : 0;
+    to->count = 0;
+    for (;;) {
+        struct asterix_merge_stepped step = asterix_merge_step(a, a_len, b, b_len, place_a, place_b, offset);
+        to->number = step.number;
+        to->log = step.number ? step.log : 0;
+        to->place = step.place;
+        if (!step.met)
+            return;
+        to->record[to->count++] = (struct asterix_merged){ step.log, step.length, { .place = step.start } };
+        place_a = step.place_a;
+        place_b = step.place_b;
+    }
+}
+
+static bool same_run(const struct run *one, const struct run *other)
+{
+    bool same = one->number == other->number && one->log == other->log && one->place == other->place &&
+                one->count == other->count;
+    for (size_t i = 0; same && i < one->count; i++)
+        same = one->record[i].log == other->record[i].log && one->record[i].length == other->record[i].length &&
+               one->record[i].at.place == other->record[i].at.place;
+    return same;
+}
+
+static void ask_mergerun(int64_t offset, const uint8_t *a, size_t a_len, const uint8_t *b, size_t b_len)
+{
+    enum { SHORT = 4000 }; /* a step checks both whole logs, so a run by steps takes the square of their length */
+    static const size_t rooms[] = { 1, 7 };
+    static struct run run, other;
+    run_merge(offset, a, a_len, b, b_len, 64, &run);
+    for (size_t i = 0; i < COUNT(rooms); i++) {
+        run_merge(offset, a, a_len, b, b_len, rooms[i], &other);
+        if (!same_run(&run, &other))
+            say("(otherwise with other room) ");
+    }
+    if (a_len + b_len <= SHORT) {
+        run_steps(offset, a, a_len, b, b_len, &other);
+        if (!same_run(&run, &other))
+            say("(otherwise by steps) ");
+    }
+    if (run.number) {
+        say_merge_refused(run.number, run.place, run.log);
+        return;
+    }
+    say("ok ");
+    say_number((int64_t)run.count);
+    for (size_t i = 0; i < run.count; i++) {
+        say(run.record[i].log ? " B@" : " A@");
+        say_number((int64_t)run.record[i].at.place);
+    }
+}
+
 /* Answers one line, which is cut into words. */
 static bool ask(char *line)
 {
     char *word[WORDS];
     size_t words = 0, n = 0, m = 0, count = 0;
     uint64_t a = 0, b = 0, c = 0;
+    int64_t offset = 0;
     for (char *at = line; words < WORDS;) {
         word[words++] = at;
         while (*at && *at != ' ')
@@ -286,6 +421,13 @@ static bool ask(char *line)
     else if (strcmp(word[0], "record") == 0 && words == 3 && take_octets(word[1], first, &n) &&
              take_number(word[2], &a))
         ask_record(first, n, a);
+    else if (strcmp(word[0], "merge") == 0 && words == 6 && take_signed(word[1], &offset) &&
+             take_number(word[2], &a) && take_number(word[3], &b) && take_octets(word[4], first, &n) &&
+             take_octets(word[5], second, &m))
+        ask_merge(offset, a, b, first, n, second, m);
+    else if (strcmp(word[0], "mergerun") == 0 && words == 4 && take_signed(word[1], &offset) &&
+             take_octets(word[2], first, &n) && take_octets(word[3], second, &m))
+        ask_mergerun(offset, first, n, second, m);
     else
         return false;
     return true;
