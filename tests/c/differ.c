@@ -7,7 +7,7 @@
  *
  * Status 1 where anything differs; where a refusal number was never met, or one that an entry point can give was
  * not met there, or one that it can't give was; where a message type was never accepted, or an item never found,
- * read or written. */
+ * read or written; where two logs were never finished, or one never refused or gone on in. */
 #include <inttypes.h>
 #include <stdbool.h>
 #include <stdio.h>
@@ -23,10 +23,10 @@
 
 /* ---- What was met */
 
-enum call { BLOCK, RECORDING, RECORD, ITEM, WALK, READ, WRITE, ADD_OLD, ADD_NEW, CALLS };
+enum call { BLOCK, RECORDING, RECORD, ITEM, WALK, STEP, BEGIN, READ, WRITE, ADD_OLD, ADD_NEW, CALLS };
 
-static const char *const call_name[CALLS] = { "check_block", "check_recording", "find_record",
-                                              "find_item",   "next_record",     "read_item",
+static const char *const call_name[CALLS] = { "check_block", "check_recording", "find_record", "find_item",
+                                              "next_record", "merge_step",      "begin_merge", "read_item",
                                               "write_item",  "add (old)",       "add (new)" };
 
 /* The numbers that each call can give, as bits; 0 is an acceptance, which of adding is counted with the new. */
@@ -38,17 +38,28 @@ static const unsigned can_give[CALLS] = {
     NO(0) | IN_BLOCK | NO(19),
     NO(0) | IN_BLOCK | NO(19) | NO(20) | NO(21),
     NO(0) | IN_BLOCK,
+    NO(0) | IN_BLOCK | NO(22) | NO(23),
+    NO(0) | IN_BLOCK | NO(22),
     NO(0) | NO(9) | NO(10) | NO(11) | NO(18) | NO(21),
     NO(0) | NO(11) | NO(16) | NO(21),
     (IN_BLOCK & ~NO(4)) | NO(16),
     NO(0) | NO(7) | NO(8) | NO(9) | NO(10) | NO(11) | NO(12) | NO(13) | NO(14) | NO(15) | NO(16) | NO(17) | NO(18),
 };
 
-enum { NUMBERS = 22 };
+enum { NUMBERS = 24 };
 static size_t met[CALLS][NUMBERS];
 static size_t types_accepted[COUNT(messages)], found[COUNT(items)], read[COUNT(items)], written[COUNT(items)];
 static size_t calls, lengths, differences;
 static size_t records_met, ends_met; /* by the walk, whose acceptances are both */
+
+/* Of two logs: by steps, by beginning, and by the next records of whole and of damaged merges. */
+enum merging { OF_A, OF_B, FINISHED, REFUSED_A, REFUSED_B, MERGINGS };
+static const char *const merging_name[MERGINGS] = { "from A", "from B", "finished", "refused: A", "refused: B" };
+enum way { BY_STEP, BY_BEGIN, BY_NEXT, BY_DAMAGED, WAYS };
+static const char *const way_name[WAYS] = { "merge_step", "begin_merge", "next_merged", "damaged merges" };
+static const unsigned can_meet[WAYS] = { 0x1F, NO(REFUSED_A) | NO(REFUSED_B), NO(OF_A) | NO(OF_B) | NO(FINISHED),
+                                         NO(OF_A) | NO(OF_B) | NO(FINISHED) };
+static size_t merged[WAYS][MERGINGS];
 
 /* ---- Lending: a region between two pages that may not be touched */
 
@@ -236,10 +247,164 @@ static struct plain_met try_walk(struct chance *c, const uint8_t *recording, siz
         printf("  from %zu, %zu, %zu, %u; met %d and %u, category %u and %u, block %zu and %zu, end %zu and %zu, "
                "items %zu and %zu, maps %s, next %s\n",
                at.block, at.place, at.end, at.category, ours.met, theirs.met, ours.category, theirs.category,
-               ours.block, theirs.block, ours.end, theirs.end, ours.count, theirs.count,
-               same ? "alike" : "not alike", next ? "alike" : "not alike");
+               ours.block, theirs.block, ours.end, theirs.end, ours.count, theirs.count, same ? "alike" : "not alike",
+               next ? "alike" : "not alike");
     }
     return ours;
+}
+
+/* Two logs, of which A is lent first; what a difference shows. */
+struct logs {
+    const uint8_t *a, *b;
+    size_t a_len, b_len;
+};
+
+static struct asterix_cursor as_cursor(struct plain_cursor at)
+{
+    return (struct asterix_cursor){ at.block, at.place, at.end, (uint8_t)at.category };
+}
+
+static struct asterix_merge_head as_head(struct plain_head head)
+{
+    return (struct asterix_merge_head){ as_cursor(head.at), head.length, (uint8_t)head.timed, head.time };
+}
+
+static bool same_head(struct plain_head ours, struct asterix_merge_head theirs)
+{
+    return ours.at.block == theirs.at.block && ours.at.place == theirs.at.place && ours.at.end == theirs.at.end &&
+           ours.at.category == theirs.at.category && ours.length == theirs.length && ours.timed == theirs.timed &&
+           ours.time == theirs.time;
+}
+
+static bool same_merge(const struct plain_merge *ours, const struct asterix_merge *theirs)
+{
+    return same_head(ours->a, theirs->a) && same_head(ours->b, theirs->b) && ours->turn == theirs->turn;
+}
+
+static void print_head(const char *of, struct asterix_merge_head head)
+{
+    printf("  %s: %zu, %zu, %zu, %u; length %zu, timed %u, time %" PRIu64 "\n", of, head.at.block, head.at.place,
+           head.at.end, head.at.category, head.length, head.timed, head.time);
+}
+
+static void print_merge(const char *of, struct asterix_merge merge)
+{
+    printf("  %s, turn %" PRIu64 "\n", of, merge.turn);
+    print_head("A", merge.a);
+    print_head("B", merge.b);
+}
+
+static void merge_differs(const char *question, struct logs logs)
+{
+    differs(question, logs.a, logs.a_len, "");
+    printf("  log B ");
+    print_octets(logs.b, logs.b_len);
+    printf("\n");
+}
+
+static void lend_logs(struct chance *c, struct logs logs)
+{
+    lend(&input, one_in(c, 2), logs.a, logs.a_len);
+    lend(&second, one_in(c, 2), logs.b, logs.b_len);
+}
+
+static bool kept_logs(void)
+{
+    bool a = unchanged(&input), b = unchanged(&second);
+    return a && b;
+}
+
+/* One step over two logs. Answers what the plain implementation has. */
+static struct plain_stepped try_step(struct chance *c, struct logs logs, size_t place_a, size_t place_b,
+                                     int64_t offset)
+{
+    struct plain_stepped ours = plain_merge_step(logs.a, logs.a_len, logs.b, logs.b_len, place_a, place_b, offset);
+    lend_logs(c, logs);
+    struct asterix_merge_stepped theirs =
+        asterix_merge_step(input.at, logs.a_len, second.at, logs.b_len, place_a, place_b, offset);
+    bool kept = kept_logs();
+    tally(STEP, ours.fault.number);
+    if (ours.met)
+        merged[BY_STEP][ours.log ? OF_B : OF_A]++;
+    else if (ours.fault.number == 0)
+        merged[BY_STEP][FINISHED]++;
+    else if (ours.fault.number < 16)
+        merged[BY_STEP][ours.log ? REFUSED_B : REFUSED_A]++;
+    if (!kept || theirs.number != ours.fault.number || theirs.place != ours.fault.place || theirs.met != ours.met ||
+        theirs.log != ours.log || theirs.start != ours.start || theirs.length != ours.length ||
+        theirs.place_a != ours.place_a || theirs.place_b != ours.place_b) {
+        snprintf(text, sizeof text, "merge %" PRId64 " %zu %zu", offset, place_a, place_b);
+        merge_differs(text, logs);
+        puts(answers(text, sizeof text, ours.fault, ours.start, ours.length, theirs.number, theirs.place,
+                     theirs.start, theirs.length, kept));
+        printf("  met %d and %u, log %u and %u, places %zu, %zu and %zu, %zu\n", ours.met, theirs.met, ours.log,
+               theirs.log, ours.place_a, ours.place_b, theirs.place_a, theirs.place_b);
+    }
+    return ours;
+}
+
+static struct plain_begun try_begin(struct chance *c, struct logs logs, int64_t offset)
+{
+    struct plain_begun ours = plain_begin_merge(logs.a, logs.a_len, logs.b, logs.b_len, offset);
+    lend_logs(c, logs);
+    struct asterix_merge_begun theirs = asterix_begin_merge(input.at, logs.a_len, second.at, logs.b_len, offset);
+    bool kept = kept_logs();
+    tally(BEGIN, ours.fault.number);
+    if (ours.fault.number > 0 && ours.fault.number < 16)
+        merged[BY_BEGIN][ours.log ? REFUSED_B : REFUSED_A]++;
+    if (!kept || theirs.number != ours.fault.number || theirs.place != ours.fault.place || theirs.log != ours.log ||
+        !same_merge(&ours.merge, &theirs.merge)) {
+        snprintf(text, sizeof text, "mergerun %" PRId64, offset);
+        merge_differs(text, logs);
+        puts(answers(text, sizeof text, ours.fault, ours.log, 0, theirs.number, theirs.place, theirs.log, 0, kept));
+        print_merge("plain", (struct asterix_merge){ as_head(ours.merge.a), as_head(ours.merge.b), ours.merge.turn });
+        print_merge("library", theirs.merge);
+    }
+    return ours;
+}
+
+enum { MOST_MERGED = 8, MERGED_NUMBERS = sizeof(struct asterix_merged) / sizeof(size_t) };
+_Static_assert(MERGED_NUMBERS == 6 && offsetof(struct asterix_merged, at.category) == 5 * sizeof(size_t),
+               "the six numbers that the library writes of a record");
+
+/* The next records of a merge, which goes on; how many. Through the inline function, or with a few numbers of room
+ * more than whole records take. What was lent for them beyond those must be as before. */
+static size_t try_next(struct chance *c, enum way way, struct logs logs, struct plain_merge *merge,
+                       struct plain_merged *came, size_t room)
+{
+    size_t should[MOST_MERGED * MERGED_NUMBERS + 5], words = room * MERGED_NUMBERS;
+    struct asterix_merge given = { as_head(merge->a), as_head(merge->b), merge->turn };
+    size_t count = plain_next_merged(logs.a, logs.a_len, logs.b, logs.b_len, merge, came, room);
+    bool as_words = one_in(c, 4);
+    if (as_words)
+        words += below(c, 6);
+    for (size_t i = 0; i < words; i++)
+        should[i] = (size_t)any(c);
+    size_t *out = (size_t *)(void *)lend(&output, one_in(c, 2), should, words * sizeof *should);
+    for (size_t i = 0; i < count; i++) {
+        const size_t numbers[MERGED_NUMBERS] = { came[i].log,      came[i].length, came[i].at.block,
+                                                 came[i].at.place, came[i].at.end, came[i].at.category };
+        memcpy(should + i * MERGED_NUMBERS, numbers, sizeof numbers);
+        merged[way][came[i].log ? OF_B : OF_A]++;
+    }
+    merged[way][FINISHED] += count < room;
+    lend_logs(c, logs);
+    struct asterix_merge_next theirs =
+        as_words ? asterix_next_merged_words(input.at, logs.a_len, second.at, logs.b_len, given, out, words)
+                 : asterix_next_merged(input.at, logs.a_len, second.at, logs.b_len, given,
+                                       (struct asterix_merged *)(void *)out, room);
+    bool kept = kept_logs();
+    kept = holds(&output, should) && kept;
+    calls++;
+    if (!kept || theirs.count != count || !same_merge(merge, &theirs.merge)) {
+        snprintf(text, sizeof text, "next_merged, room %zu, came %zu and %zu%s, log A", room, count, theirs.count,
+                 kept ? "" : ", a lent buffer or an octet beside it does not hold what it should");
+        merge_differs(text, logs);
+        print_merge("from", given);
+        print_merge("plain", (struct asterix_merge){ as_head(merge->a), as_head(merge->b), merge->turn });
+        print_merge("library", theirs.merge);
+    }
+    return count;
 }
 
 /* What `fields` is lent with, and what it should hold: 8,192 numbers that no item has. */
@@ -475,7 +640,8 @@ static void input_walk(struct chance *c, const uint8_t *recording, size_t have)
     }
 }
 
-static void input_recording(struct chance *c, struct chance *w)
+/* A recording in `to`, whole or damaged; its length. */
+static size_t draw_recording(struct chance *c, uint8_t *to)
 {
     size_t have = 0;
     for (size_t blocks = below(c, 5); blocks > 0; blocks--) {
@@ -484,13 +650,236 @@ static void input_recording(struct chance *c, struct chance *w)
             damage_block(c, block, &n);
         if (have + n > REGION - GUARD)
             break;
-        memcpy(octets + have, block, n);
+        memcpy(to + have, block, n);
         have += n;
     }
     if (one_in(c, 6) && have < REGION - 100)
-        damage(c, octets, &have);
+        damage(c, to, &have);
+    return have;
+}
+
+static void input_recording(struct chance *c, struct chance *w)
+{
+    size_t have = draw_recording(c, octets);
     try_recording(c, octets, have);
     input_walk(w, octets, have);
+}
+
+/* ---- Two logs */
+
+enum { DAY = LAST_TIME + 1 };
+
+static uint32_t draw_time(struct chance *c)
+{
+    static const uint32_t some[] = { 0, DAY - 1, DAY / 2, ASTERIX_OFFSET, DAY - ASTERIX_OFFSET };
+    return one_in(c, 2) ? some[below(c, COUNT(some))] : (uint32_t)below(c, DAY);
+}
+
+/* A time near another, or half a day from it, or one that the ends of the offset reach. */
+static uint32_t draw_time_near(struct chance *c, uint32_t time)
+{
+    static const uint32_t far[] = { 0, 0, 0, DAY / 2, DAY / 2, ASTERIX_OFFSET, DAY - ASTERIX_OFFSET };
+    return (uint32_t)(time + far[below(c, COUNT(far))] + DAY + below(c, 9) - 4) % DAY;
+}
+
+/* An offset: mostly small or at the ends of its range, now and then past them, or any number. */
+static int64_t draw_offset(struct chance *c)
+{
+    int64_t few = (int64_t)below(c, 5) - 2;
+    switch (below(c, 16)) {
+    case 0:
+        return (int64_t)below(c, 2 * ASTERIX_OFFSET + 1) - ASTERIX_OFFSET;
+    case 1:
+    case 2:
+        return ASTERIX_OFFSET - (few < 0 ? 0 : few);
+    case 3:
+    case 4:
+        return -ASTERIX_OFFSET + (few < 0 ? 0 : few);
+    case 5:
+        return (ASTERIX_OFFSET + 1) * (one_in(c, 2) ? 1 : -1);
+    case 6:
+        return one_in(c, 4) ? INT64_MIN : one_in(c, 3) ? INT64_MAX : (int64_t)any(c) >> below(c, 64);
+    default:
+        return few;
+    }
+}
+
+/* A log: often short, with times from `time` on; or none, or as recordings are drawn; now and then damaged. */
+static size_t draw_log(struct chance *c, uint32_t time, uint8_t *to)
+{
+    static const uint8_t packet[] = { 18, 0, 14, 0xE9, 0x40, 1, 2, 3, 4, 0x23, 5, 6, 7, 2 };
+    size_t have, n;
+    switch (below(c, 16)) {
+    case 0:
+        return 0;
+    case 1:
+        return draw_recording(c, to);
+    case 2: /* its last block, or its only one, damaged; or a packet with a length that is too small */
+        have = make_timed(c, below(c, 2), time, to, REGION / 2);
+        n = make_block(c, draw_category(c), 1, one_in(c, 2), to + have, 16000);
+        if (one_in(c, 12))
+            memcpy(to + have, packet, n = sizeof packet);
+        else
+            damage_block(c, to + have, &n);
+        return have + n;
+    case 3:
+        return make_timed(c, between(c, 4, 9), time, to, REGION - GUARD);
+    default:
+        return make_timed(c, between(c, 1, 3), time, to, REGION - GUARD);
+    }
+}
+
+/* A place in a log: mostly a record's start or the end; else a block's head, beside one of these, or any. */
+static size_t draw_merge_place(struct chance *c, const uint8_t *log, size_t have)
+{
+    size_t starts[32], count = 0, place;
+    struct plain_met at = plain_next_record(log, have, (struct plain_cursor){ 0, 0, 0, 0 });
+    for (; at.met && count < COUNT(starts) - 1; at = plain_next_record(log, have, at.next))
+        starts[count++] = at.start;
+    starts[count++] = have;
+    place = starts[below(c, count)];
+    switch (below(c, 16)) {
+    case 0:
+        return place - 3;
+    case 1:
+        return place + (one_in(c, 2) ? 1 : (size_t)-1);
+    case 2:
+        return draw_place(c, have);
+    default:
+        return place;
+    }
+}
+
+/* Where an item of the record behind a head starts, or any place near. */
+static size_t draw_cut(struct chance *c, const struct plain_head *head, const uint8_t *log, size_t have)
+{
+    struct plain_cursor behind = head->at;
+    behind.place += head->length;
+    struct plain_met met = plain_next_record(log, have, behind);
+    for (unsigned frn = PLAIN_FRNS; met.met && frn > 0; frn--)
+        if (met.starts[frn - 1] && one_in(c, 2))
+            return met.block + met.starts[frn - 1];
+    return behind.place + below(c, 24);
+}
+
+/* One number of a head changed, or two that go together. */
+static void damage_head(struct chance *c, struct plain_head *head, const uint8_t *log, size_t have)
+{
+    size_t few = between(c, 1, 3);
+    switch (below(c, 12)) {
+    case 0:
+        head->length = one_in(c, 2) ? head->length + few : head->length - few;
+        break;
+    case 1:
+        head->length = one_in(c, 2) ? 0 : draw_place(c, have);
+        break;
+    case 2: /* the block's end cuts the next record */
+    case 3:
+    case 4:
+        head->at.end = draw_cut(c, head, log, have);
+        break;
+    case 5:
+        head->timed = (unsigned)below(c, 256);
+        break;
+    case 6:
+        head->time = one_in(c, 2) ? any(c) >> below(c, 64) : head->time + DAY;
+        break;
+    case 7: /* the last octets of the log, by any length */
+        head->length = have - head->at.place + below(c, 3) - 1;
+        head->at.end = have;
+        break;
+    default:
+        head->at = damage_cursor(c, head->at, have);
+        break;
+    }
+}
+
+static void damage_merge(struct chance *c, struct plain_merge *merge, const struct plain_merge *other,
+                         struct logs logs)
+{
+    struct plain_head head = merge->a;
+    switch (below(c, 12)) {
+    case 0: /* each log's head in the other */
+        merge->a = merge->b;
+        merge->b = head;
+        break;
+    case 1:
+        merge->turn = one_in(c, 2) ? any(c) >> below(c, 64) : merge->turn + DAY * below(c, 3) + below(c, 3) - 1;
+        break;
+    case 2:
+        *merge = *other;
+        break;
+    case 3:
+        merge->a = other->a;
+        break;
+    case 4:
+        merge->b = other->b;
+        break;
+    case 5:
+        memset(merge, one_in(c, 2) ? 0 : 0xFF, sizeof *merge);
+        merge->a.timed = merge->b.timed = merge->a.at.category = merge->b.at.category = 255;
+        break;
+    case 6:
+    case 7:
+    case 8:
+        damage_head(c, &merge->a, logs.a, logs.a_len);
+        break;
+    default:
+        damage_head(c, &merge->b, logs.b, logs.b_len);
+        break;
+    }
+}
+
+/* Both logs from their first records to their ends: by the next records of a merge, some at a time, and now and then
+ * by steps as well, which must be the same; then damaged merges of that run, and those of the run before. */
+static void input_run(struct chance *c, struct logs logs, int64_t offset)
+{
+    enum { KEPT = 16 };
+    static struct plain_merge kept[KEPT], before[KEPT];
+    static size_t have = 1, others = 1;
+    struct plain_begun begun = try_begin(c, logs, offset);
+    if (begun.fault.number)
+        return;
+    memcpy(before, kept, sizeof before);
+    others = have;
+    have = 0;
+    struct plain_merge merge = begun.merge;
+    struct plain_merged came[MOST_MERGED];
+    size_t place_a = logs.a_len ? 3 : 0, place_b = logs.b_len ? 3 : 0;
+    bool by_steps = one_in(c, 6);
+    for (size_t count = 1, room = 1; count > 0 || room == 0;) {
+        kept[have < KEPT ? have++ : below(c, KEPT)] = merge;
+        room = below(c, MOST_MERGED + 1);
+        count = try_next(c, BY_NEXT, logs, &merge, came, room);
+        for (size_t i = 0; i < count && by_steps; i++) {
+            struct plain_stepped step = try_step(c, logs, place_a, place_b, offset);
+            if (!step.met || step.log != came[i].log || step.start != came[i].at.place ||
+                step.length != came[i].length)
+                merge_differs("mergerun, otherwise by steps, log A", logs);
+            place_a = step.place_a;
+            place_b = step.place_b;
+        }
+    }
+    if (by_steps && try_step(c, logs, place_a, place_b, offset).met)
+        merge_differs("mergerun, more by steps, log A", logs);
+    for (size_t n = 0; n < 6; n++) {
+        merge = kept[below(c, have)];
+        for (size_t changes = between(c, 1, 2); changes > 0; changes--)
+            damage_merge(c, &merge, &before[below(c, others)], logs);
+        for (size_t steps = between(c, 1, 2); steps > 0; steps--)
+            try_next(c, BY_DAMAGED, logs, &merge, came, below(c, MOST_MERGED + 1));
+    }
+}
+
+static void input_merge(struct chance *c)
+{
+    static uint8_t log_b[REGION];
+    uint32_t time = draw_time(c);
+    struct logs logs = { octets, log_b, draw_log(c, time, octets), 0 };
+    logs.b_len = draw_log(c, draw_time_near(c, time), log_b);
+    size_t place_a = draw_merge_place(c, logs.a, logs.a_len);
+    try_step(c, logs, place_a, draw_merge_place(c, logs.b, logs.b_len), draw_offset(c));
+    input_run(c, logs, draw_offset(c));
 }
 
 static void input_read(struct chance *c)
@@ -705,6 +1094,18 @@ static void report(void)
     printf("next_record met %zu records and %zu ends\n", records_met, ends_met);
     if (records_met == 0 || ends_met == 0)
         lacks("never met by a walk: ", records_met ? "the end" : "a record");
+    for (enum way way = 0; way < WAYS; way++) {
+        printf("%-16s", way_name[way]);
+        for (enum merging m = 0; m < MERGINGS; m++) {
+            if (!(can_meet[way] & NO(m)))
+                continue;
+            printf("%12s %zu", merging_name[m], merged[way][m]);
+            snprintf(line, sizeof line, "%s by %s", merging_name[m], way_name[way]);
+            if (!merged[way][m])
+                lacks("never met: ", line);
+        }
+        printf("\n");
+    }
     for (unsigned i = 0; i < COUNT(messages); i++) {
         snprintf(line, sizeof line, "%03u of category %03u", messages[i].type, messages[i].category);
         if (!types_accepted[i])
@@ -733,7 +1134,7 @@ int main(int argc, char **argv)
 {
     uint64_t seed = argc < 2 ? 1718 : strcmp(argv[1], "fresh") == 0 ? fresh_seed() : strtoull(argv[1], NULL, 10);
     size_t inputs = argc < 3 ? 1000000 : (size_t)strtoull(argv[2], NULL, 10);
-    struct chance c = { seed }, w = { ~seed }; /* the walk draws by itself */
+    struct chance c = { seed }, w = { ~seed }, m = { seed + ((uint64_t)1 << 63) }; /* walks and merges draw apart */
     printf("differ: seed %" PRIu64 ", %zu inputs\n", seed, inputs);
     fflush(stdout);
     open_region(&input);
@@ -742,6 +1143,8 @@ int main(int argc, char **argv)
     for (size_t i = 0; i < COUNT(blank); i++)
         blank[i] = full[i] = (int64_t)(0x7B00000000000000 + i);
     for (size_t i = 0; i < inputs; i++) {
+        if (i % 12 == 11) /* two logs, beside the input in turn */
+            input_merge(&m);
         if (i % 2500 == 2499) {
             input_large(&c, &w);
             continue;

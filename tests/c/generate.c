@@ -114,6 +114,11 @@ static unsigned row_at(unsigned category, unsigned frn)
     return (unsigned)(layout_at(category, frn) - items);
 }
 
+static int time_reference(unsigned category)
+{
+    return category == 17 ? 140 : 2;
+}
+
 void make_sketch(struct chance *c, unsigned message, bool twist, struct sketch *to)
 {
     unsigned category = messages[message].category;
@@ -164,6 +169,8 @@ void make_sketch(struct chance *c, unsigned message, bool twist, struct sketch *
         if (!(frns & frn_bit(frn)))
             continue;
         uint8_t *at = to->items + to->length;
+        if (reference_at(category, frn) == time_reference(category))
+            to->time = to->length;
         size_t n = make_item(c, row_at(category, frn), barred, at);
         if (frn == TYPE_FRN)
             at[0] = type;
@@ -220,6 +227,54 @@ size_t make_block(struct chance *c, unsigned category, size_t records, bool twis
     }
     set_len(to, len);
     return len;
+}
+
+/* ---- Recordings with times */
+
+/* Whether records of that type have a time, or may have one, or have the led item of 018. */
+static bool is_odd(unsigned message)
+{
+    const struct message *row = &messages[message];
+    int time = time_reference(row->category);
+    return is_in(row->must, time) || is_in(row->may, time) || (row->category == 18 && is_in(row->must, 19));
+}
+
+static bool is_timed(const struct sketch *sketch)
+{
+    for (unsigned frn = 1; frn <= last_frn(sketch->category); frn++)
+        if (reference_at(sketch->category, frn) == time_reference(sketch->category))
+            return sketch->frns & frn_bit(frn);
+    return false;
+}
+
+size_t make_timed(struct chance *c, size_t records, uint32_t time, uint8_t *to, size_t room)
+{
+    static struct sketch sketch;
+    size_t have = 0;
+    while (records > 0) {
+        size_t start = have, in_block = between(c, 1, 3);
+        unsigned category = 17 + (unsigned)below(c, 2);
+        to[have] = (uint8_t)category;
+        have += 3;
+        for (; in_block > 0 && records > 0; in_block--, records--) {
+            unsigned message = draw_message(c, category);
+            for (bool any_type = one_in(c, 4); !any_type && !is_odd(message);)
+                message = draw_message(c, category);
+            make_sketch(c, message, false, &sketch);
+            if (is_timed(&sketch)) {
+                uint8_t *octets = sketch.items + sketch.time;
+                octets[0] = (uint8_t)(time >> 16);
+                octets[1] = (uint8_t)(time >> 8);
+                octets[2] = (uint8_t)time;
+                time = (time + (uint32_t)below(c, 4)) % (LAST_TIME + 1);
+            }
+            if (have + MOST_RECORD_OCTETS + 8 > room)
+                return start;
+            have += make_record(&sketch, to + have);
+        }
+        set_len(to + start, have - start);
+    }
+    return have;
 }
 
 /* ---- Damage */

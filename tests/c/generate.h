@@ -23,6 +23,7 @@ struct sketch {
     unsigned category, message; /* the row of the table of messages that it was drawn from */
     uint64_t frns;              /* FRN f is bit 63 - f */
     size_t length;
+    size_t time; /* where its I017/140 or I018/002 is, if it has it */
     uint8_t items[MOST_RECORD_OCTETS];
 };
 
@@ -39,6 +40,11 @@ size_t make_record(const struct sketch *from, uint8_t *to);
 
 /* A block of `records` records, of at most `room` octets (16 KB for four records or fewer is enough); its length. */
 size_t make_block(struct chance *c, unsigned category, size_t records, bool twist, uint8_t *to, size_t room);
+
+/* A legal recording of `records` records, one to three in a block, most of a type that has a time or a led item.
+ * Times start at `time` and go on by a little, over midnight too. At most `room` octets (4 KB a record is enough);
+ * its length. */
+size_t make_timed(struct chance *c, size_t records, uint32_t time, uint8_t *to, size_t room);
 
 /* One change of `*have` octets, which may come to be up to 8 more: a bit, an octet, a cut, octets put in or taken
  * out. */

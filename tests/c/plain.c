@@ -693,12 +693,13 @@ static bool measure_record(const uint8_t *log, struct plain_head *head)
     if (!is_category(category) || get_fspec(category, log + start, end - start, &set, &octets).number)
         return false;
     size_t at = start + octets;
+    unsigned of_time = time_frn(category);
     for (unsigned frn = 1; frn <= last_frn(category); frn++) {
         if (frn == TYPE_FRN)
             type = at;
         if (!set.has[frn])
             continue;
-        if (frn == time_frn(category))
+        if (frn == of_time)
             time = at;
         at += span(layout_at(category, frn), log, at, end);
     }

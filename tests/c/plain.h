@@ -2,8 +2,8 @@
  * implementation, for comparison with the proved one.
  *
  * Written from the documents: category 017 edition 1.3, category 018 edition 1.6, the scope
- * paper, W-201 of the later requests and docs/DECISIONS.md. It shares nothing with the proved code, and was made to be read
- * and not to be fast. Nothing is proved of it. */
+ * paper, W-201 of the later requests, and docs/DECISIONS.md. It shares nothing with the proved
+ * code, and was made to be read and not to be fast. Nothing is proved of it. */
 #ifndef PLAIN_H
 #define PLAIN_H
 
@@ -64,8 +64,8 @@ struct plain_met {
     struct plain_cursor next;
 };
 
-/* A step over two logs: a fault, a record, or neither, where both are at their ends. `log`, 0 or 1, is the record's, or
- * that of a fault of a log. The record's start and the places count from the start of their log. */
+/* A step over two logs: a fault, a record, or neither, where both are at their ends. `log`, 0 or 1, is the record's,
+ * or that of a log's own fault. The record's start and the places count from the start of their log. */
 struct plain_stepped {
     struct plain_fault fault;
     bool met;
