@@ -1,8 +1,8 @@
-/* bench [ROUNDS]: how fast recordings are checked and walked, and how long finding, reading and writing take.
+/* bench [ROUNDS]: how fast recordings are checked, walked and merged, and how long finding, reading and writing take.
  *
  * Each round lets every checker, and the walk over all records with their maps, go once over the whole of the same
- * recording in memory, one after another, so that what disturbs the machine disturbs them all alike. Printed: the
- * best round and the median; MB is 10^6 bytes. Before anything is timed the answers are compared.
+ * recording in memory, one after another, so that what disturbs the machine disturbs them all alike; so do the rounds
+ * that check two logs and merge them. Printed: the best round and the median; MB is 10^6 bytes. Before anything is timed the answers are compared.
  *
  * State of the buffers: a recording is made and then gone over once by each checker before it is timed, so pages
  * are mapped, and what fits the caches is in them (what the largest does is said by its size). Single calls are
@@ -85,6 +85,14 @@ static int ascending(const void *a, const void *b)
     return (x > y) - (x < y);
 }
 
+/* The best and the median of so many rounds, which are put in order. */
+static void settle(double *took, size_t rounds, double *best, double *median)
+{
+    qsort(took, rounds, sizeof *took, ascending);
+    *best = took[0];
+    *median = took[rounds / 2];
+}
+
 static void *need(void *memory)
 {
     if (!memory) {
@@ -123,11 +131,8 @@ static size_t time_checkers(const uint8_t *recording, size_t n, size_t rounds)
             checkers[i].took[r] = now() - start;
             same(&first[0], &a, checkers[i].name);
         }
-    for (size_t i = 0; i < CHECKERS; i++) {
-        qsort(checkers[i].took, rounds, sizeof *checkers[i].took, ascending);
-        checkers[i].best = checkers[i].took[0];
-        checkers[i].median = checkers[i].took[rounds / 2];
-    }
+    for (size_t i = 0; i < CHECKERS; i++)
+        settle(checkers[i].took, rounds, &checkers[i].best, &checkers[i].median);
     return (size_t)first[0].records;
 }
 
@@ -208,6 +213,122 @@ static void bench_full_blocks(size_t rounds)
     size_t records = time_checkers(log, n, rounds);
     printf("ten full blocks: %zu bytes, %zu records: checked in %.2f ms, walked in %.2f ms (best of %zu rounds)\n", n,
            records, checkers[PROVED].best / 1e6, checkers[WALKED].best / 1e6, rounds);
+}
+
+/* ---- Two logs, checked and merged */
+
+struct logs {
+    const uint8_t *a, *b;
+    size_t a_len, b_len;
+};
+
+/* Each way to go over both logs answers how many records they have. */
+static size_t check_both(struct logs logs)
+{
+    return asterix_check_recording(logs.a, logs.a_len).records + asterix_check_recording(logs.b, logs.b_len).records;
+}
+
+static size_t merge_by(struct logs logs, size_t room)
+{
+    static struct asterix_merged out[64];
+    struct asterix_merge_begun begun = asterix_begin_merge(logs.a, logs.a_len, logs.b, logs.b_len, 100);
+    struct asterix_merge_next next = { 0, begun.merge };
+    size_t records = 0, octets = 0;
+    do {
+        next = asterix_next_merged(logs.a, logs.a_len, logs.b, logs.b_len, next.merge, out, room);
+        for (size_t i = 0; i < next.count; i++)
+            octets += out[i].length;
+        records += next.count;
+    } while (next.count == room);
+    sink += octets;
+    return records;
+}
+
+static size_t merge_64(struct logs logs)
+{
+    return merge_by(logs, 64);
+}
+
+static size_t merge_1(struct logs logs)
+{
+    return merge_by(logs, 1);
+}
+
+static struct way {
+    const char *name;
+    size_t (*go)(struct logs logs);
+    double took[MOST_ROUNDS]; /* ns, by round */
+    double best, median;
+} ways[] = {
+    { "checking both", check_both, { 0 }, 0, 0 },
+    { "merging, room 64", merge_64, { 0 }, 0, 0 },
+    { "merging, room 1", merge_1, { 0 }, 0, 0 },
+};
+
+enum { BOTH, MERGED, MERGED_SINGLY, WAYS = sizeof ways / sizeof *ways };
+
+/* Times every way over two logs; answers how many records they have. */
+static size_t time_ways(struct logs logs, size_t rounds)
+{
+    size_t records = check_both(logs);
+    for (size_t r = 0; r < rounds; r++)
+        for (size_t i = 0; i < WAYS; i++) {
+            double start = now();
+            size_t came = ways[i].go(logs);
+            ways[i].took[r] = now() - start;
+            if (came != records) {
+                printf("bench: %s: %zu of %zu records\n", ways[i].name, came, records);
+                exit(1);
+            }
+        }
+    for (size_t i = 0; i < WAYS; i++)
+        settle(ways[i].took, rounds, &ways[i].best, &ways[i].median);
+    return records;
+}
+
+/* The end of the last block that ends within `most` octets. */
+static size_t last_end(const uint8_t *recording, size_t most)
+{
+    size_t end = 0;
+    for (size_t next = 0; next <= most; next = end + (size_t)recording[end + 1] * 256 + recording[end + 2])
+        end = next;
+    return end;
+}
+
+/* The two halves of a recording as two logs, with the times as they were drawn; then the starts of both, by size. */
+static void bench_merging(const uint8_t *recording, size_t half, size_t n, size_t rounds)
+{
+    struct logs logs = { recording, recording + half, half, n - half };
+    size_t records = time_ways(logs, rounds);
+    double speed[WAYS][7];
+    printf("merging two logs: %zu and %zu bytes, %zu records, %zu rounds\n", logs.a_len, logs.b_len, records, rounds);
+    printf("  %-16s %12s %12s %14s\n", "", "best MB/s", "median MB/s", "ns a record");
+    for (size_t i = 0; i < WAYS; i++) {
+        speed[i][6] = (double)n * 1000 / ways[i].best;
+        printf("  %-16s %12.0f %12.0f %14.1f\n", ways[i].name, speed[i][6], (double)n * 1000 / ways[i].median,
+               ways[i].best / (double)records);
+    }
+    printf("  merging takes %.2f times what checking both takes (best rounds; medians %.2f); one at a time %.2f\n",
+           ways[MERGED].best / ways[BOTH].best, ways[MERGED].median / ways[BOTH].median,
+           ways[MERGED_SINGLY].best / ways[BOTH].best);
+    printf("growth: MB/s of the best of %zu rounds, by the size of both logs\n  %-16s", rounds, "");
+    for (size_t size = 1; size <= 64; size *= 2)
+        printf("%5zu MB", size);
+    printf("\n");
+    for (size_t k = 0; k < 6; k++) {
+        size_t size = ((size_t)MB << k) / 2;
+        logs.a_len = last_end(logs.a, size);
+        logs.b_len = last_end(logs.b, size);
+        time_ways(logs, rounds);
+        for (size_t i = 0; i < WAYS; i++)
+            speed[i][k] = (double)(logs.a_len + logs.b_len) * 1000 / ways[i].best;
+    }
+    for (size_t i = 0; i < WAYS; i++) {
+        printf("  %-16s", ways[i].name);
+        for (size_t k = 0; k < 7; k++)
+            printf("%8.0f", speed[i][k]);
+        printf("\n");
+    }
 }
 
 /* ---- Single calls */
@@ -377,6 +498,7 @@ int main(int argc, char **argv)
     bench_growth(recording, ends, rounds < 9 ? rounds : 9);
 #ifdef LIBRARY
     bench_full_blocks(rounds < 9 ? rounds : 9);
+    bench_merging(recording, ends[5], ends[6], rounds < 9 ? rounds : 9);
     bench_calls(&c);
 #endif
     free(recording);
