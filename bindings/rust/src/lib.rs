@@ -1,10 +1,10 @@
 //! ASTERIX categories 017 (Mode S Surveillance Coordination Function Messages, edition 1.3) and 018
-//! (Mode S Datalink Function Messages, edition 1.6): checking, finding, walking a log, reading and
-//! writing.
+//! (Mode S Datalink Function Messages, edition 1.6): checking, finding, walking a log, merging two
+//! logs, reading and writing.
 //!
 //! The work is done by the proved library, the archive that `rt staticlib asterix` writes; this
 //! crate gives it safe functions on slices. Any bytes may be given to any function. Each either
-//! does its work or refuses, with one of 21 [`Refusal`]s and a place; a refused call changes no
+//! does its work or refuses, with one of 23 [`Refusal`]s and a place; a refused call changes no
 //! byte that was lent to it. Nothing is allocated, and nothing is kept between calls.
 //!
 //! ```
@@ -37,6 +37,18 @@
 //!     println!("category {} at {}: {:?}", record.category, record.place(), record.item(0));
 //! }
 //! # Ok::<(), asterix::Refused>(())
+//! ```
+//!
+//! Two logs are put on one line by a [`Merge`]:
+//!
+//! ```
+//! use asterix::Merge;
+//!
+//! let log = [0x12, 0, 9, 0xE0, 1, 2, 3, 4, 5];
+//! for merged in Merge::new(&log, &log, 0)? {
+//!     println!("{:?}, category {} at {}", merged.log, merged.record.category, merged.record.place());
+//! }
+//! # Ok::<(), asterix::MergeRefused>(())
 //! ```
 //!
 //! The archive links into x86-64 Linux programs. `build.rs` looks for it in the repository's
@@ -102,10 +114,14 @@ pub enum Refusal {
     ItemAbsent = 20,
     /// 21: the category has no item with that reference. Its place is 0.
     NoSuchItem = 21,
+    /// 22: a clock offset that is not from -46,080 to 46,080. Its place is 0.
+    OffsetRange = 22,
+    /// 23: a place in a log that is neither a record's start nor the log's end. Its place is 0.
+    NoSuchPlace = 23,
 }
 
 impl Refusal {
-    const ALL: [Refusal; 21] = [
+    const ALL: [Refusal; 23] = [
         Refusal::HeadCut,
         Refusal::Category,
         Refusal::Len,
@@ -127,21 +143,23 @@ impl Refusal {
         Refusal::NoSuchRecord,
         Refusal::ItemAbsent,
         Refusal::NoSuchItem,
+        Refusal::OffsetRange,
+        Refusal::NoSuchPlace,
     ];
 
-    /// The refusal with a number, 1 to 21.
+    /// The refusal with a number, 1 to 23.
     ///
     /// ```
     /// use asterix::Refusal;
     /// assert_eq!(Refusal::from_number(9), Some(Refusal::ItemCut));
     /// assert_eq!(Refusal::from_number(0), None);
-    /// assert_eq!(Refusal::from_number(22), None);
+    /// assert_eq!(Refusal::from_number(24), None);
     /// ```
     pub fn from_number(number: u8) -> Option<Refusal> {
         Refusal::ALL.get(usize::from(number).checked_sub(1)?).copied()
     }
 
-    /// Its number, 1 to 21.
+    /// Its number, 1 to 23.
     pub fn number(self) -> u8 {
         self as u8
     }
@@ -171,6 +189,8 @@ impl fmt::Display for Refusal {
             Refusal::NoSuchRecord => "there is no record with that number",
             Refusal::ItemAbsent => "the record does not have that item",
             Refusal::NoSuchItem => "the category has no item with that reference",
+            Refusal::OffsetRange => "the clock offset is out of range",
+            Refusal::NoSuchPlace => "a place is neither a record's start nor the log's end",
         })
     }
 }
@@ -185,7 +205,7 @@ pub struct Refused {
 }
 
 impl Refused {
-    // What an answer of the library says: 0 is no refusal, and its contracts give no number above 21.
+    // What an answer of the library says: 0 is no refusal, and its contracts give no number above 23.
     fn answer(number: u8, place: usize) -> Result<(), Refused> {
         if number == 0 {
             return Ok(());
@@ -276,6 +296,18 @@ const ITEMS_018: [u16; FRNS] = [
 ];
 
 impl<'a> Record<'a> {
+    // The record that a step of a walk over `bytes` met.
+    fn met(bytes: &'a [u8], met: &raw::RecordMet) -> Record<'a> {
+        Record {
+            octets: &bytes[met.start..met.start + met.length],
+            category: met.category,
+            block: met.block,
+            start: met.start - met.block,
+            count: met.count,
+            starts: met.starts,
+        }
+    }
+
     /// Where the record starts, counted from the start of the bytes lent.
     pub fn place(&self) -> usize {
         self.block + self.start
@@ -472,14 +504,7 @@ impl<'a> Iterator for Records<'a> {
             return Refused::answer(met.number, met.place).err().map(Err);
         }
         self.at = Some(met.next);
-        Some(Ok(Record {
-            octets: &self.bytes[met.start..met.start + met.length],
-            category: met.category,
-            block: met.block,
-            start: met.start - met.block,
-            count: met.count,
-            starts: met.starts,
-        }))
+        Some(Ok(Record::met(self.bytes, &met)))
     }
 }
 
@@ -525,6 +550,219 @@ impl<'a> Iterator for Blocks<'a> {
 }
 
 impl FusedIterator for Blocks<'_> {}
+
+// ---- Merging two logs
+
+/// The largest clock offset, and its negative the least, in 1/128 s: six minutes.
+pub const OFFSET: i64 = 46_080;
+
+/// Which of two logs.
+#[derive(Clone, Copy, Debug, PartialEq, Eq, Hash)]
+pub enum Which {
+    /// The first.
+    A,
+    /// The second, to whose times the offset is added.
+    B,
+}
+
+impl Which {
+    // As the library tells it.
+    fn told(log: usize) -> Which {
+        if log == 0 {
+            Which::A
+        } else {
+            Which::B
+        }
+    }
+}
+
+/// A refusal to merge two logs.
+#[derive(Clone, Copy, Debug, PartialEq, Eq, Hash)]
+pub enum MergeRefused {
+    /// That log is not accepted: 1 to 15, as [`check_recording`] has it of that log alone.
+    Log(Which, Refused),
+    /// What was asked for is no offset or no place: 22 or 23, at place 0.
+    Asked(Refused),
+}
+
+impl MergeRefused {
+    fn answer(number: u8, place: usize, log: u8) -> Result<(), MergeRefused> {
+        Refused::answer(number, place).map_err(|refused| match refused.why {
+            Refusal::OffsetRange | Refusal::NoSuchPlace => MergeRefused::Asked(refused),
+            _ => MergeRefused::Log(Which::told(log.into()), refused),
+        })
+    }
+
+    /// The refusal, without the log.
+    pub fn refused(self) -> Refused {
+        match self {
+            MergeRefused::Log(_, refused) | MergeRefused::Asked(refused) => refused,
+        }
+    }
+}
+
+impl fmt::Display for MergeRefused {
+    fn fmt(&self, f: &mut fmt::Formatter<'_>) -> fmt::Result {
+        match self {
+            MergeRefused::Log(log, refused) => write!(f, "log {log:?}: {refused}"),
+            MergeRefused::Asked(refused) => refused.fmt(f),
+        }
+    }
+}
+
+impl error::Error for MergeRefused {}
+
+/// What a step over two logs answers.
+#[derive(Clone, Copy, Debug, PartialEq, Eq)]
+pub struct Stepped<'a> {
+    /// The record that comes next; `None` where both logs are at their ends.
+    pub next: Option<Part<'a>>,
+    /// The new place in log A: where its next record starts, or its length; the one given where
+    /// nothing came from it.
+    pub place_a: usize,
+    /// The new place in log B.
+    pub place_b: usize,
+}
+
+/// A record as a part of one of two logs.
+#[derive(Clone, Copy, Debug, PartialEq, Eq)]
+pub struct Part<'a> {
+    /// Which log.
+    pub log: Which,
+    /// Where the record starts, counted from that log's start.
+    pub start: usize,
+    /// Its octets, its FSPEC first: a part of that log.
+    pub octets: &'a [u8],
+}
+
+/// Which record comes next, where each log stands at a place: a record's start, or the log's
+/// length.
+///
+/// A's goes first where B's time plus the offset, less A's time, modulo 11,059,200 (a day), is at
+/// most half of that, and else B's. Times are I017/140 and I018/002, in 1/128 s. A record without
+/// one goes at once, A's before B's, and a GICB_extraction counts as one; a log at its end yields
+/// to the other.
+///
+/// Both whole logs are checked at every call: to go through two logs, see [`Merge`]. Refuses by 1
+/// to 15 of log A, by 1 to 15 of log B, by 22 where the offset is past [`OFFSET`], then by 23.
+///
+/// ```
+/// use asterix::{merge_step, MergeRefused, Refusal, Which};
+/// let log = [0x12, 0, 9, 0xE0, 1, 2, 3, 4, 5]; // Keep_alive has no time
+/// let step = merge_step(&log, &log, 3, 3, 0)?;
+/// let next = step.next.unwrap();
+/// assert_eq!((next.log, next.start, next.octets), (Which::A, 3, &log[3..]));
+/// assert_eq!((step.place_a, step.place_b), (9, 3));
+///
+/// let Err(MergeRefused::Asked(refused)) = merge_step(&log, &log, 0, 3, 0) else { panic!() };
+/// assert_eq!(refused.why, Refusal::NoSuchPlace);
+/// # Ok::<(), MergeRefused>(())
+/// ```
+pub fn merge_step<'a>(
+    a: &'a [u8],
+    b: &'a [u8],
+    place_a: usize,
+    place_b: usize,
+    offset: i64,
+) -> Result<Stepped<'a>, MergeRefused> {
+    let step = raw::merge_step(a, b, place_a, place_b, offset);
+    MergeRefused::answer(step.number, step.place, step.log)?;
+    let log = Which::told(step.log.into());
+    let bytes = if log == Which::A { a } else { b };
+    Ok(Stepped {
+        next: (step.met != 0).then(|| Part {
+            log,
+            start: step.start,
+            octets: &bytes[step.start..step.start + step.length],
+        }),
+        place_a: step.place_a,
+        place_b: step.place_b,
+    })
+}
+
+/// A record of two logs on one line.
+#[derive(Clone, Copy, Debug, PartialEq, Eq)]
+pub struct Merged<'a> {
+    /// Which log it is of.
+    pub log: Which,
+    /// The record, its places counted as those of its log.
+    pub record: Record<'a>,
+}
+
+/// The records of two logs on one line: each comes once, those of each log in its own order, and
+/// which goes first is as [`merge_step`] has it.
+///
+/// Both logs are checked when it is made, once; then nothing is refused. Records are fetched many
+/// at a time, and each is read once more for its map.
+///
+/// ```
+/// use asterix::{Merge, MergeRefused, Refusal, Which};
+/// let a = [0x12, 0, 9, 0xE0, 1, 2, 3, 4, 5, 0x12, 0, 9, 0xE0, 1, 2, 3, 4, 5];
+/// let b = [0x12, 0, 9, 0xE0, 6, 7, 8, 9, 5];
+/// let order: Vec<_> = Merge::new(&a, &b, 0)?.map(|m| (m.log, m.record.place())).collect();
+/// assert_eq!(order, [(Which::A, 3), (Which::A, 12), (Which::B, 3)]); // all without a time
+///
+/// let Err(MergeRefused::Log(Which::B, refused)) = Merge::new(&a, &b[..8], 0) else { panic!() };
+/// assert_eq!((refused.why, refused.place), (Refusal::Len, 0));
+/// # Ok::<(), MergeRefused>(())
+/// ```
+#[derive(Clone, Debug)]
+pub struct Merge<'a> {
+    a: &'a [u8],
+    b: &'a [u8],
+    // behind what was fetched
+    merge: raw::Merge,
+    // what was fetched, and which of it comes next
+    fetched: [[usize; raw::MERGED]; AT_ONCE],
+    count: usize,
+    next: usize,
+}
+
+// How many records are fetched at a time.
+const AT_ONCE: usize = 64;
+
+impl<'a> Merge<'a> {
+    /// Both logs from their first records, with an offset that is added to B's times.
+    ///
+    /// Refuses by 1 to 15 of log A, by 1 to 15 of log B, then by 22.
+    pub fn new(a: &'a [u8], b: &'a [u8], offset: i64) -> Result<Merge<'a>, MergeRefused> {
+        let begun = raw::begin_merge(a, b, offset);
+        MergeRefused::answer(begun.number, begun.place, begun.log)?;
+        Ok(Merge {
+            a,
+            b,
+            merge: begun.merge,
+            fetched: [[0; raw::MERGED]; AT_ONCE],
+            count: 0,
+            next: 0,
+        })
+    }
+}
+
+impl<'a> Iterator for Merge<'a> {
+    type Item = Merged<'a>;
+
+    fn next(&mut self) -> Option<Merged<'a>> {
+        if self.next == self.count {
+            let fetched = raw::next_merged(self.a, self.b, self.merge, &mut self.fetched);
+            self.merge = fetched.merge;
+            self.count = fetched.count;
+            self.next = 0;
+        }
+        let came = raw::Merged::new(*self.fetched[..self.count].get(self.next)?);
+        self.next += 1;
+        let log = Which::told(came.log);
+        let bytes = if log == Which::A { self.a } else { self.b };
+        let met = raw::next_record(bytes, came.at);
+        assert_eq!(met.met, 1, "a record of an accepted log");
+        Some(Merged {
+            log,
+            record: Record::met(bytes, &met),
+        })
+    }
+}
+
+impl FusedIterator for Merge<'_> {}
 
 // ---- One item
 

@@ -77,6 +77,75 @@ pub struct RecordMet {
 }
 
 #[repr(C)]
+pub struct MergeStepped {
+    pub number: u8,
+    pub met: u8,
+    pub log: u8,
+    pub place: usize,
+    pub start: usize,
+    pub length: usize,
+    pub place_a: usize,
+    pub place_b: usize,
+}
+
+#[repr(C)]
+#[derive(Clone, Copy, Debug)]
+pub struct MergeHead {
+    pub at: Cursor,
+    pub length: usize,
+    pub timed: u8,
+    pub time: u64,
+}
+
+#[repr(C)]
+#[derive(Clone, Copy, Debug)]
+pub struct Merge {
+    pub a: MergeHead,
+    pub b: MergeHead,
+    pub turn: u64,
+}
+
+#[repr(C)]
+pub struct MergeBegun {
+    pub number: u8,
+    pub log: u8,
+    pub place: usize,
+    pub merge: Merge,
+}
+
+#[repr(C)]
+pub struct MergeNext {
+    pub count: usize,
+    pub merge: Merge,
+}
+
+// A record that came out, as the six numbers that the library writes of it.
+pub const MERGED: usize = 6;
+
+#[derive(Clone, Copy)]
+pub struct Merged {
+    pub log: usize,
+    pub at: Cursor,
+}
+
+impl Merged {
+    // Its log, its length, which the walk's answer has too, and the cursor at it.
+    pub fn new(numbers: [usize; MERGED]) -> Merged {
+        let [log, _, block, place, end, category] = numbers;
+        let category = category as u8; // never above 255
+        Merged {
+            log,
+            at: Cursor {
+                block,
+                place,
+                end,
+                category,
+            },
+        }
+    }
+}
+
+#[repr(C)]
 pub struct ItemRead {
     pub number: u8,
     pub place: usize,
@@ -104,6 +173,25 @@ extern "C" {
     fn asterix_find_record(block: *const u8, block_len: usize, n: usize) -> RecordFound;
     fn asterix_find_item(block: *const u8, block_len: usize, reference: u16, n: usize) -> ItemFound;
     fn asterix_next_record(recording: *const u8, recording_len: usize, cursor: Cursor) -> RecordMet;
+    fn asterix_merge_step(
+        a: *const u8,
+        a_len: usize,
+        b: *const u8,
+        b_len: usize,
+        place_a: usize,
+        place_b: usize,
+        offset: i64,
+    ) -> MergeStepped;
+    fn asterix_begin_merge(a: *const u8, a_len: usize, b: *const u8, b_len: usize, offset: i64) -> MergeBegun;
+    fn asterix_next_merged_words(
+        a: *const u8,
+        a_len: usize,
+        b: *const u8,
+        b_len: usize,
+        merge: Merge,
+        out: *mut usize,
+        words: usize,
+    ) -> MergeNext;
     fn asterix_read_item(category: u8, reference: u16, item: *const u8, item_len: usize, fields: *mut i64) -> ItemRead;
     fn asterix_write_item(
         category: u8,
@@ -142,6 +230,29 @@ pub fn find_item(block: &[u8], reference: u16, n: usize) -> ItemFound {
 
 pub fn next_record(recording: &[u8], cursor: Cursor) -> RecordMet {
     unsafe { asterix_next_record(recording.as_ptr(), recording.len(), cursor) }
+}
+
+pub fn merge_step(a: &[u8], b: &[u8], place_a: usize, place_b: usize, offset: i64) -> MergeStepped {
+    unsafe { asterix_merge_step(a.as_ptr(), a.len(), b.as_ptr(), b.len(), place_a, place_b, offset) }
+}
+
+pub fn begin_merge(a: &[u8], b: &[u8], offset: i64) -> MergeBegun {
+    unsafe { asterix_begin_merge(a.as_ptr(), a.len(), b.as_ptr(), b.len(), offset) }
+}
+
+pub fn next_merged(a: &[u8], b: &[u8], merge: Merge, out: &mut [[usize; MERGED]]) -> MergeNext {
+    let words = MERGED * out.len();
+    unsafe {
+        asterix_next_merged_words(
+            a.as_ptr(),
+            a.len(),
+            b.as_ptr(),
+            b.len(),
+            merge,
+            out.as_mut_ptr().cast(),
+            words,
+        )
+    }
 }
 
 pub fn read_item(category: u8, reference: u16, item: &[u8], fields: &mut [i64; FIELDS]) -> ItemRead {

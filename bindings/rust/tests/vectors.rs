@@ -2,8 +2,8 @@
 //! through the safe functions.
 
 use asterix::{
-    add_record, check_block, check_recording, find_item, find_record, read_item, write_item, AddRefused, ItemSet,
-    Refused, FIELDS, FRNS,
+    add_record, check_block, check_recording, find_item, find_record, merge_step, read_item, write_item, AddRefused,
+    ItemSet, Merge, MergeRefused, Refused, Stepped, FIELDS, FRNS,
 };
 use std::{fs, path::Path};
 
@@ -133,6 +133,54 @@ fn block(bytes: &[u8], fields: &mut [i64; FIELDS]) -> Result<String, Refused> {
     Ok(text)
 }
 
+fn merge_said(refused: MergeRefused) -> String {
+    match refused {
+        MergeRefused::Log(log, refused) => format!("{} {log:?}", said(Err(refused))),
+        MergeRefused::Asked(refused) => said(Err(refused)),
+    }
+}
+
+fn merge(offset: i64, place_a: usize, place_b: usize, a: &[u8], b: &[u8]) -> Result<String, MergeRefused> {
+    let Stepped { next, place_a, place_b } = merge_step(a, b, place_a, place_b, offset)?;
+    Ok(match next {
+        Some(part) => {
+            format!(
+                "next {:?} {} {} {place_a} {place_b}",
+                part.log,
+                part.start,
+                part.octets.len()
+            )
+        }
+        None => format!("finished {place_a} {place_b}"),
+    })
+}
+
+// By a merge, and by steps, which go the same way.
+fn merge_run(offset: i64, a: &[u8], b: &[u8]) -> Result<String, MergeRefused> {
+    let first = |log: &[u8]| if log.is_empty() { 0 } else { 3 };
+    let (mut place_a, mut place_b) = (first(a), first(b));
+    let mut text = String::new();
+    let mut count = 0;
+    let run = Merge::new(a, b, offset);
+    assert_eq!(
+        run.as_ref().err().copied(),
+        merge_step(a, b, place_a, place_b, offset).err()
+    );
+    for merged in run? {
+        let step = merge_step(a, b, place_a, place_b, offset)?;
+        let part = step.next.expect("a record, as the merge has it");
+        assert_eq!(
+            (part.log, part.start, part.octets),
+            (merged.log, merged.record.place(), merged.record.octets)
+        );
+        (place_a, place_b) = (step.place_a, step.place_b);
+        text += &format!(" {:?}@{}", merged.log, merged.record.place());
+        count += 1;
+    }
+    assert_eq!(merge_step(a, b, place_a, place_b, offset)?.next, None);
+    Ok(format!("ok {count}{text}"))
+}
+
 fn answer(question: &str, fields: &mut [i64; FIELDS]) -> Option<String> {
     let words: Vec<&str> = question.split(' ').collect();
     Some(match words[..] {
@@ -168,6 +216,13 @@ fn answer(question: &str, fields: &mut [i64; FIELDS]) -> Option<String> {
             let map = (1..=FRNS).filter_map(|frn| Some(format!(" {frn}@{}", r.item_start(frn)?)));
             format!("{} {} {}{}", r.start, r.octets.len(), r.count, map.collect::<String>())
         })),
+        ["merge", offset, place_a, place_b, a, b] => {
+            let (place_a, place_b) = (size(place_a, u64::MAX)?, size(place_b, u64::MAX)?);
+            merge(offset.parse().ok()?, place_a, place_b, &octets(a)?, &octets(b)?).unwrap_or_else(merge_said)
+        }
+        ["mergerun", offset, a, b] => {
+            merge_run(offset.parse().ok()?, &octets(a)?, &octets(b)?).unwrap_or_else(merge_said)
+        }
         _ => return None,
     })
 }
