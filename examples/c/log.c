@@ -1,8 +1,13 @@
 /* log FILE: prints every record of a log of ASTERIX categories 017 and 018: its message type, and the fields of
  * its items. Status 1 where the log is refused: then one line says why and where, and nothing else is printed.
  *
- * A worked example of include/asterix.h. It checks the whole log first, and then walks it: no step can refuse. */
+ * log A B [OFFSET]: lists the records of two logs on one line by their times, a line for each: its log, where it
+ * starts, its time as logged, its message type. OFFSET, in 1/128 s, is added to B's times, to put the clocks right.
+ *
+ * A worked example of include/asterix.h. It checks the whole log first, and then walks it: no step can refuse. Two
+ * logs are checked where their merge begins, and 64 records come at a time. */
 #include <inttypes.h>
+#include <stdbool.h>
 #include <stdio.h>
 #include <stdlib.h>
 
@@ -116,7 +121,7 @@ static const struct message messages[] = {
     { 18, 0x43, "GICB_response" },
 };
 
-enum { MESSAGES = sizeof messages / sizeof *messages, TYPE_FRN = 3 };
+enum { MESSAGES = sizeof messages / sizeof *messages, TYPE_FRN = 3, GICB_EXTRACTION = 0x40 };
 
 static const char *message_name(uint8_t category, uint8_t type)
 {
@@ -164,6 +169,45 @@ static void print_record(const uint8_t *log, const struct asterix_record_met *re
     }
 }
 
+/* ---- Two logs */
+
+/* The record's I017/140 or I018/002, or - where it has none. That of a GICB_extraction is the end of a request, and
+ * does not count. */
+static void print_time(const uint8_t *log, const struct asterix_record_met *record, uint8_t type)
+{
+    bool is_017 = record->category == 17;
+    size_t start = record->starts[(is_017 ? 7 : 15) - 1];
+    if (start == 0 || (!is_017 && type == GICB_EXTRACTION)) {
+        printf("%-12s", "-");
+        return;
+    }
+    asterix_read_item(record->category, is_017 ? 140 : 2, log + record->block + start, 3, fields);
+    unsigned seconds = (unsigned)fields[0] / 128, thousandths = (unsigned)fields[0] % 128 * 1000 / 128;
+    printf("%02u:%02u:%02u.%03u", seconds / 3600, seconds / 60 % 60, seconds % 60, thousandths);
+}
+
+static int print_merged(const uint8_t *a, size_t a_len, const uint8_t *b, size_t b_len, int64_t offset)
+{
+    struct asterix_merge_begun begun = asterix_begin_merge(a, a_len, b, b_len, offset);
+    if (begun.number) {
+        const char *of = begun.number == ASTERIX_OFFSET_RANGE ? "" : begun.log ? " of log B" : " of log A";
+        printf("refused %u at %zu%s: %s\n", begun.number, begun.place, of, asterix_refusal_text(begun.number));
+        return 1;
+    }
+    struct asterix_merge_next next = { 0, begun.merge };
+    struct asterix_merged out[64];
+    while ((next = asterix_next_merged(a, a_len, b, b_len, next.merge, out, 64)).count)
+        for (size_t i = 0; i < next.count; i++) {
+            const uint8_t *log = out[i].log ? b : a;
+            struct asterix_record_met record = asterix_next_record(log, out[i].log ? b_len : a_len, out[i].at);
+            uint8_t type = log[record.block + record.starts[TYPE_FRN - 1]];
+            printf("%c %5zu  ", out[i].log ? 'B' : 'A', record.start);
+            print_time(log, &record, type);
+            printf("  %s (%u)\n", message_name(record.category, type), type);
+        }
+    return 0;
+}
+
 /* ---- The log */
 
 /* The whole of a file, and its length. */
@@ -191,9 +235,17 @@ static uint8_t *load(const char *name, size_t *length)
 
 int main(int argc, char **argv)
 {
-    if (argc != 2) {
-        fputs("usage: log FILE\n", stderr);
+    if (argc < 2 || argc > 4) {
+        fputs("usage: log FILE\n       log A B [OFFSET]\n", stderr);
         return 2;
+    }
+    if (argc > 2) {
+        size_t a_len, b_len;
+        uint8_t *a = load(argv[1], &a_len), *b = load(argv[2], &b_len);
+        int status = print_merged(a, a_len, b, b_len, argc > 3 ? strtoll(argv[3], NULL, 10) : 0);
+        free(a);
+        free(b);
+        return status;
     }
     size_t length;
     uint8_t *log = load(argv[1], &length);
