@@ -339,7 +339,7 @@ struct asterix_merge_next asterix_next_merged_words(const uint8_t *a, size_t a_l
  * Any merge may be given with any logs, also one that was damaged or is of other logs. A head is taken at its word
  * where it lies in its log by its own numbers (block <= place <= end <= the log's length; a length that is not 0, and
  * at most end - place); a log with any other head counts as at its end, and that head stays as it is. `timed` is no
- * where it is 0; times and `turn` count modulo a day. Behind a record the log goes on by the lengths of the items
+ * where it is 0, and comes back as 0 or 1; times and `turn` count modulo a day. Behind a record the log goes on by the lengths of the items
  * that its octets name, to the head's `end` and through the blocks from there on, and is at its end where they name
  * no record of category 17 or 18 that its block holds. So what comes out lies in its log, and every call ends. */
 static inline struct asterix_merge_next asterix_next_merged(const uint8_t *a, size_t a_len, const uint8_t *b,

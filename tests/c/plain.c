@@ -752,6 +752,8 @@ size_t plain_next_merged(const uint8_t *a, size_t a_len, const uint8_t *b, size_
                          struct plain_merged *out, size_t room)
 {
     size_t count = 0;
+    merge->a.timed = merge->a.timed != 0; /* whatever it was, it comes back as 0 or 1 */
+    merge->b.timed = merge->b.timed != 0;
     for (; count < room; count++) {
         bool in_a = is_head(&merge->a, a_len), in_b = is_head(&merge->b, b_len);
         if (!in_a && !in_b)
