@@ -73,7 +73,7 @@ static struct asterix_merge_head told_head(struct plain_head head)
 {
     return (struct asterix_merge_head){ { head.at.block, head.at.place, head.at.end, (uint8_t)head.at.category },
                                         head.length,
-                                        (uint8_t)head.timed,
+                                        head.timed != 0,
                                         head.time };
 }
 
