@@ -20,7 +20,7 @@ everything, start = sys.argv[1] == "--all", sys.argv[2:]
 sample = (root / "samples" / "messages.rec").read_bytes()
 failures = []
 
-# What a program may hold at most, by the system's count of its largest resident size.
+# What a program may hold at most, by the system's count of its largest resident size; under the emulator, more than that one holds for an empty input.
 MEMORY = 16 * 1024
 
 # The longest line that is a question.
@@ -180,12 +180,20 @@ def repeated(octets, times):
     yield octets * (times % 1000)
 
 
+def emulator_alone(program):
+    """The largest resident size in KiB for an empty input: what the emulator takes for itself, on some machines more than MEMORY."""
+    child = subprocess.Popen(command(program), stdin=subprocess.DEVNULL, stdout=subprocess.DEVNULL)
+    return os.wait4(child.pid, 0)[2].ru_maxrss
+
+
 def large(what, program, pieces, expected):
     began = time.monotonic()
     found, status, peak = fed(program, pieces)
     same(what, (found, status), (expected, 0))
-    if peak >= MEMORY:
+    own = emulator_alone(program) if start and start[0].endswith("qemu-x86_64") else 0
+    if peak >= own + MEMORY:
         failures.append(f"{what}: {peak} KiB")
+        print(f"TOO MUCH: {what}: {peak} KiB, {own} of them for an empty input")
     print(f"{what}: {found.decode().strip()}, {peak} KiB, {time.monotonic() - began:.1f} s")
 
 
