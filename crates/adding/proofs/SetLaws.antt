@@ -15,7 +15,7 @@ use lib.Pow.{pow-pos, pow-mono}
 use lib.ListN.{length, getD, length-append, length-map, List·getD-append}
 use lib.Seq.{getD-append-add}
 use Rattle.rules.specs.Answer.{ok}
-use Rattle.rules.specs.Layout.{concat, octets, writeNum, writeChain}
+use Rattle.rules.specs.Layout.{flatten, octets, writeNum, writeChain}
 use Rattle.rules.specs.Presence.{present, number, usable, house, numbers, writePresence, has, placeAt, allUsable, rowFlags, anySet, keepRow, setFlags}
 use Rattle.rules.specs.Record.{Place}
 use Rattle.rules.proofs.AnswerLaws.{bind-in, need-in, T-true, both-left, both-right}
@@ -106,14 +106,14 @@ keep-house false r [] e h = inl refl
 keep-house false r (u ∷ rs) e h = ⊎-elim (λ z. nil-cons z) (λ z. inr z) h
 
 -- what the numbers of the set say of the places, and that there is one
-served-at : (ps : List (List (Option Place))) (fs : List ℕ) → allUsable ps fs ≡ true → (j : ℕ) → has (1 + j) fs ≡ true → present (getD (concat ps) j none) ≡ true
+served-at : (ps : List (List (Option Place))) (fs : List ℕ) → allUsable ps fs ≡ true → (j : ℕ) → has (1 + j) fs ≡ true → present (getD (flatten ps) j none) ≡ true
 served-at ps fs u j h =
     let e : 1 + j ≡ suc j = omega arith in
     ap (λ k. present (placeAt ps k)) (sym e) ∙ has-usable ps fs (1 + j) u h
 
-place-in : (ps : List (List (Option Place))) (g : ℕ) → present (placeAt ps g) ≡ true → (1 ≤ g) × (g < 1 + length (concat ps))
+place-in : (ps : List (List (Option Place))) (g : ℕ) → present (placeAt ps g) ≡ true → (1 ≤ g) × (g < 1 + length (flatten ps))
 place-in ps zero h = absurd (false≢true h)
-place-in ps (suc g) h = (omega arith, omega (arith, present-in (concat ps) g h))
+place-in ps (suc g) h = (omega arith, omega (arith, present-in (flatten ps) g h))
   where
     present-in : (l : List (Option Place)) (n : ℕ) → present (getD l n none) ≡ true → n < length l
     present-in [] n e = absurd (false≢true e)
@@ -153,7 +153,7 @@ module _ (fs : List ℕ) where
   keep-cases false r [] = inl refl
   keep-cases false r (u ∷ rs) = inr refl
 
-  rows-numbers : (f : ℕ) (ps : List (List (Option Place))) → Served f (concat ps) → numbers ps (setFlags f ps fs) ≡ ok (map number (setFlags f ps fs))
+  rows-numbers : (f : ℕ) (ps : List (List (Option Place))) → Served f (flatten ps) → numbers ps (setFlags f ps fs) ≡ ok (map number (setFlags f ps fs))
   unfolding numbers setFlags
   rows-numbers f [] s = refl
   rows-numbers f (p ∷ ps) s =
@@ -161,7 +161,7 @@ module _ (fs : List ℕ) where
       (λ e. ap (numbers (p ∷ ps)) e ∙ ap (λ z. ok (map number z)) (sym e))
       (λ e.
       ap (numbers (p ∷ ps)) e
-      ∙ need-in _ 8 (T-true (row-usable f p (served-first f p (concat ps) s))) (bind-in _ (rows-numbers (f + length p) ps (served-rest f p (concat ps) s)) refl)
+      ∙ need-in _ 8 (T-true (row-usable f p (served-first f p (flatten ps) s))) (bind-in _ (rows-numbers (f + length p) ps (served-rest f p (flatten ps) s)) refl)
       ∙ ap (λ z. ok (map number z)) (sym e))
       (keep-cases (anySet (rowFlags f p fs)) (rowFlags f p fs) (setFlags (f + length p) ps fs))
 
@@ -191,7 +191,7 @@ module _ (fs : List ℕ) where
       (first-or f g l)
 
   -- a set with a number in range has a row
-  rows-some : (f g : ℕ) (ps : List (List (Option Place))) → has g fs ≡ true → f ≤ g → g < f + length (concat ps) → 0 < length (setFlags f ps fs)
+  rows-some : (f g : ℕ) (ps : List (List (Option Place))) → has g fs ≡ true → f ≤ g → g < f + length (flatten ps) → 0 < length (setFlags f ps fs)
   unfolding setFlags
   rows-some f g [] h l m = absurd (omega arith)
   rows-some f g (p ∷ ps) h l m =
@@ -199,7 +199,7 @@ module _ (fs : List ℕ) where
       (λ e. keep-true (anySet (rowFlags f p fs)) (rowFlags f p fs) (setFlags (f + length p) ps fs) (flag-set f g p h l e))
       (λ e.
       keep-some (anySet (rowFlags f p fs)) (rowFlags f p fs) (setFlags (f + length p) ps fs)
-      (rows-some (f + length p) g ps h e (omega (arith, length-append p (concat ps)))))
+      (rows-some (f + length p) g ps h e (omega (arith, length-append p (flatten ps)))))
       (below-or g (f + length p))
 
   -- ---- the octets
@@ -234,7 +234,7 @@ module _ (fs : List ℕ) where
   pub presence-writes : (ps : List (List (Option Place))) → sevens ps ≡ true → allUsable ps fs ≡ true → 0 < length fs → (a : List ℕ) × (writePresence ps (setFlags 1 ps fs) ≡ ok a)
   unfolding writePresence
   presence-writes ps seven u l =
-      let served : Served 1 (concat ps) = λ j m h. served-at ps fs u j h in
+      let served : Served 1 (flatten ps) = λ j m h. served-at ps fs u j h in
       let some-row : 0 < length (setFlags 1 ps fs) = set-row ps u l in
       let count : length (map number (setFlags 1 ps fs)) ≡ length (setFlags 1 ps fs) = length-map (setFlags 1 ps fs) number in
       let (a, e) = chain-writes ps (map number (setFlags 1 ps fs)) (omega arith) (omega (arith, rows-few 1 ps)) (rows-small 1 ps seven) in

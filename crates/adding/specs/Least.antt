@@ -3,7 +3,7 @@ use Prim.Native.Nat.{ℕ, zero, suc, _+_}
 use mathlib.Core.Option.{Option, none, some}
 use mathlib.Core.List.{List, [], _∷_, map}
 use lib.ListN.{length}
-use Rattle.rules.specs.Layout.{concat, leastSize}
+use Rattle.rules.specs.Layout.{flatten, leastSize}
 use Rattle.rules.specs.Record.{Place, Category, places}
 use Rattle.rules.specs.Entry.{categories}
 
@@ -13,7 +13,7 @@ leastIn none = 0
 leastIn (some p) = leastSize (p .layout)
 
 unfoldable pub leasts : List ℕ
-leasts = concat (map (λ c. map leastIn (places c)) categories)
+leasts = flatten (map (λ c. map leastIn (places c)) categories)
 
 -- where the profile with an index begins; 0 where there is none
 abbrev pub firstIn : ℕ → List Category → ℕ → ℕ

@@ -12,7 +12,7 @@ use Rattle.recordings.specs.declared.RecordingState.{RecordingState}
 use Rattle.input.specs.declared.Filled.{Filled}
 use Rattle.input.specs.declared.Filled.the-variants.{More, End, Failed}
 use Rattle.input.specs.Filled.{Fills}
-use Rattle.lines.proofs.ListLaws.{front}
+use Rattle.text.proofs.ListLaws.{front}
 use Rattle.asterix_check.specs.Whole.{wholeIn}
 use Rattle.asterix_check.specs.declared.Turn.{Turn}
 use Rattle.asterix_check.specs.declared.Turn.the-variants as turn

@@ -13,9 +13,9 @@ use lib.Seq.{set-append-seam, append-snoc}
 use borrow.Author.Tests.{ltb-false}
 use Rattle.rules.specs.Answer.{Answer, ok, refused}
 use Rattle.rules.specs.Entry.{Counts, over}
-use Rattle.lines.specs.Page.{Page, page, puts}
-use Rattle.lines.specs.Number.{decimalFrom, decimalText}
-use Rattle.lines.proofs.PageLaws.{put-room, after, puts-size}
+use Rattle.text.specs.Page.{Page, page, puts}
+use Rattle.text.specs.Number.{decimalFrom, decimalText}
+use Rattle.text.proofs.PageLaws.{put-room, after, puts-size}
 use Rattle.asterix_check.specs.Verdict.{sentence, verdictText}
 
 -- ---- a number's digits

@@ -3,8 +3,8 @@ use Prim.Native.Nat.{ℕ}
 use mathlib.Core.List.{List, _++_}
 use Rattle.rules.specs.Answer.{Answer, ok, refused}
 use Rattle.rules.specs.Entry.{Counts}
-use Rattle.lines.specs.Page.{codes}
-use Rattle.lines.specs.Number.{decimalText}
+use Rattle.text.specs.Page.{codes}
+use Rattle.text.specs.Number.{decimalText}
 
 -- two numbers in decimal, between three texts
 unfoldable pub sentence : List ℕ → ℕ → List ℕ → ℕ → List ℕ → List ℕ

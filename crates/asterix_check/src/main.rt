@@ -11,7 +11,7 @@ ghost use Prim.Native.Nat.{_≤_};
 ghost use lib.ListN.{length};
 ghost use Rattle.rules.specs.Entry.{over};
 ghost use Rattle.recordings.specs.Answers.{countsOf, stateOf};
-ghost use Rattle.lines.specs.Page.{page, puts};
+ghost use Rattle.text.specs.Page.{page, puts};
 ghost use Rattle.asterix_check.specs.Whole.{wholeIn};
 ghost use Rattle.asterix_check.specs.Turn.{isRefused, turnOf, turned, Came, Wanted};
 ghost use Rattle.asterix_check.specs.Verdict.{sentence, verdictText};
@@ -91,11 +91,11 @@ fn advance(state: RecordingState, filled: Filled, buffer: &[u8]) -> Turn
 fn put_sentence(out: &mut [u8], s: &[u8], n: u64, t: &[u8], m: u64, u: &[u8]) -> usize
     ensures { λ r. ⌜ page (now (out .exit)) r ≡ puts (sentence (now (s .entry)) n (now (t .entry)) m (now (u .entry))) (page (now (out .entry)) 0) ⌝ }
 {
-    let a = lines::put_text(out, 0, s);
-    let b = lines::put_decimal(out, a, n);
-    let c = lines::put_text(out, b, t);
-    let d = lines::put_decimal(out, c, m);
-    lines::put_text(out, d, u)
+    let a = text::put_text(out, 0, s);
+    let b = text::put_decimal(out, a, n);
+    let c = text::put_text(out, b, t);
+    let d = text::put_decimal(out, c, m);
+    text::put_text(out, d, u)
 }
 
 // The line that says what a recording is, at the buffer's start, and its length: the longest has two numbers of 20 digits.

@@ -17,7 +17,7 @@ use Rattle.sets.specs.Sets.{categoryAt}
 use Rattle.records.specs.declared.RecordChecked.the-variants as recordChecked
 use Rattle.records.specs.declared.RecordChecked.{RecordChecked}
 use Rattle.records.specs.Answers.{endOf, recordAt}
-use Rattle.plain.specs.Record.{endAt}
+use Rattle.quick_records.specs.Record.{endAt}
 use Rattle.blocks.specs.Read.{countFrom, Records}
 use Rattle.blocks.proofs.LoopLaws.{Taken, taken-out, all-end, all-stop, all-turn, octets-drop}
 

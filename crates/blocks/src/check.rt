@@ -4,19 +4,19 @@ use crate::head::HeadRead;
 use crate::head::LEAST;
 use crate::head::front_head;
 use crate::head::single_head;
-use plain::Sets;
-use plain::Types;
+use quick_items::Steps;
+use quick_records::Sets;
+use quick_records::Types;
 use records::RecordChecked;
-use steps::Steps;
 ghost use mathlib.Core.Path.{_≡_};
 ghost use mathlib.Core.Bool.{true};
 ghost use Prim.Native.Nat.{_+_, _<_};
 ghost use lib.ListN.{length};
 ghost use Rattle.rules.specs.Entry.{checkBlock};
-ghost use Rattle.steps.specs.Item.{soundSteps};
+ghost use Rattle.quick_items.specs.Item.{soundSteps};
 ghost use Rattle.sets.specs.Sets.{categoryAt};
-ghost use Rattle.plain.specs.Record.{soundTypes};
-ghost use Rattle.plain.specs.Shape.{soundSets};
+ghost use Rattle.quick_records.specs.Record.{soundTypes};
+ghost use Rattle.quick_records.specs.Shape.{soundSets};
 ghost use Rattle.blocks.specs.Read.{countFrom, openFrom, checkFront};
 ghost use Rattle.blocks.specs.Answers.{checkedOf, checkedBy, checkedNumber, checkedPlace, openedOf, openProfile, frontOf};
 
@@ -74,7 +74,7 @@ fn check_records_by(
     let mut at = from;
     let mut n: usize = 0;
     while 0 < rest.len() {
-        let checked = plain::record_end(steps, types, sets, profile, rest, at);
+        let checked = quick_records::record_end(steps, types, sets, profile, rest, at);
         let RecordChecked::Ends { end } = checked else {
             return refused_by(checked);
         };
@@ -91,9 +91,9 @@ fn check_records(profile: usize, part: &[u8], from: usize) -> BlockChecked
     requires { ⌜ from + length (now part) < 65536 ⌝ }
     ensures { λ r. ⌜ checkedOf r ≡ countFrom (categoryAt profile) 0 from (now (part .entry)) ⌝ }
 {
-    let steps = steps::steps();
-    let types = plain::type_table();
-    let sets = plain::set_table();
+    let steps = quick_items::steps();
+    let types = quick_records::type_table();
+    let sets = quick_records::set_table();
     check_records_by(&steps, &types, &sets, profile, part, from)
 }
 

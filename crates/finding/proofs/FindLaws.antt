@@ -14,7 +14,7 @@ use lib.Dec.{T, leb, ltb, eqb, leb→le}
 use lib.ListN.{length, drop, getD, getElem?, length-append, List·getD-eq-default}
 use lib.Seq.{drop-at}
 use Rattle.rules.specs.Answer.{Answer, ok, refused, octetsOf}
-use Rattle.rules.specs.Layout.{Layout, Values, concat, readItem, writeItem}
+use Rattle.rules.specs.Layout.{Layout, Values, flatten, readItem, writeItem}
 use Rattle.rules.specs.Presence.{placeAt}
 use Rattle.rules.specs.Record.{Place, Category, Record, places, items, valueOf, writeRecord, writePlace}
 use Rattle.rules.specs.Block.{writeAll}
@@ -224,11 +224,11 @@ module _ (bs : List ℕ) (ref n : ℕ) (o : Opening) (k : Opens bs o) where
   unfolding findItem mapOf
   absent-in m is s e =
       let a : laidAs ref (laidItems (o .category) (s .found .start) (s .value)) ≡ none =
-      item-absent (places (o .category)) (concat (s .value)) ref (s .found .start + length (s .value)) e in
+      item-absent (places (o .category)) (flatten (s .value)) ref (s .found .start + length (s .value)) e in
       record {
         is-absent = bind-in _ (k .opened) (need-in _ 21 (T-true is) (bind-in _ (s .found .is-numbered) (later-out _ (expect-out 20 a))))
             ∙ ap (refused 20) (add-zero _ ∙ ap (λ z. z .start) (s .map-is));
-        start-is = start-in m s ∙ start-absent (places (o .category)) (concat (s .value)) ref (s .found .start + length (s .value)) e;
+        start-is = start-in m s ∙ start-absent (places (o .category)) (flatten (s .value)) ref (s .found .start + length (s .value)) e;
       }
 
   there-in : (m : RecordMap) → isItem ref (places (o .category)) ≡ true → (s : Sought m) (v : Values) → valueOf ref (items (o .category) (s .value)) ≡ some v
@@ -236,17 +236,17 @@ module _ (bs : List ℕ) (ref n : ℕ) (o : Opening) (k : Opens bs o) where
   unfolding findItem
   there-in m is s v e =
       let w : RecordWritten (o .category) (s .value) (s .found .out) = record-written (o .category) (s .value) (s .found .out) (s .found .writes) in
-      let i : ItemFound (places (o .category)) (concat (s .value)) ref (s .found .start + length (s .value)) bs v =
-      item-found (places (o .category)) (concat (s .value)) ref (s .found .start + length (s .value)) bs v (w .each) once (items-lie (s .found) w) e in
+      let i : ItemFound (places (o .category)) (flatten (s .value)) ref (s .found .start + length (s .value)) bs v =
+      item-found (places (o .category)) (flatten (s .value)) ref (s .found .start + length (s .value)) bs v (w .each) once (items-lie (s .found) w) e in
       let low : 3 ≤ s .found .start = numbered-low (o .category) 3 (k .block .records) n _ (s .found .is-numbered) in
       let high : s .found .start + length (s .value) ≤ i .item .start =
-      laid-low ref (s .found .start + length (s .value)) (places (o .category)) (concat (s .value)) (i .item) (i .is-laid) in
+      laid-low ref (s .found .start + length (s .value)) (places (o .category)) (flatten (s .value)) (i .item) (i .is-laid) in
       let z : length bs ≡ length (i .lies .before) + (length (i .out) + length (i .lies .after)) =
       ap length (i .lies .joins) ∙ length-append (i .lies .before) (i .out ++ i .lies .after) ∙ ap (λ y. length (i .lies .before) + y) (length-append (i .out) (i .lies .after)) in (
         i .item,
         record {
           is-found = bind-in _ (k .opened) (need-in _ 21 (T-true is) (bind-in _ (s .found .is-numbered) (later-in _ (expect-in 20 (i .is-laid)))));
-          start-is = start-in m s ∙ start-found (places (o .category)) (concat (s .value)) ref (s .found .start + length (s .value)) (i .item) once (i .is-laid);
+          start-is = start-in m s ∙ start-found (places (o .category)) (flatten (s .value)) ref (s .found .start + length (s .value)) (i .item) once (i .is-laid);
           some-start = omega arith;
           size-is = λ p q.
               ap (λ y. sizeOf y (drop (i .item .start) bs)) (some-inj (sym q ∙ i .is-layout))

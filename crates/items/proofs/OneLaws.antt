@@ -15,7 +15,7 @@ use lib.ListN.{length, drop, length-drop}
 use lib.Seq.{sets}
 use borrow.Author.Tests.{eq-eqb, ne-eqb, le-leb, lt-leb}
 use Rattle.rules.specs.Answer.{Answer, ok, refused, _>>=_, need_or_then_, if_then_else_, expect_or_, later}
-use Rattle.rules.specs.Layout.{Layout, Values, concat, readFields}
+use Rattle.rules.specs.Layout.{Layout, Values, flatten, readFields}
 use Rattle.rules.specs.Presence.{placeAt}
 use Rattle.rules.specs.Record.{Place, Category, places}
 use Rattle.rules.specs.Block.{categoryOf}
@@ -68,14 +68,14 @@ profile-other n (d ∷ cs) e =
 
 -- the places of the category are those at its index
 profile-layout : (n ref : ℕ) (cs : List Category)
-    → ((expect categoryOf n cs or 21) >>= (λ c. expect layoutAs ref (places c) or 21)) ≡ (expect layoutAs ref (concat (profileAt cs (profileIn n cs))) or 21)
+    → ((expect categoryOf n cs or 21) >>= (λ c. expect layoutAs ref (places c) or 21)) ≡ (expect layoutAs ref (flatten (profileAt cs (profileIn n cs))) or 21)
 unfolding categoryOf profileIn expect_or_ if_then_else_ _>>=_
 profile-layout n ref [] = refl
 profile-layout n ref (c ∷ cs) = go (eqb n (c .cat)) (profile-layout n ref cs)
   where
-    go : (t : Bool) → ((expect categoryOf n cs or 21) >>= (λ c. expect layoutAs ref (places c) or 21)) ≡ (expect layoutAs ref (concat (profileAt cs (profileIn n cs))) or 21)
+    go : (t : Bool) → ((expect categoryOf n cs or 21) >>= (λ c. expect layoutAs ref (places c) or 21)) ≡ (expect layoutAs ref (flatten (profileAt cs (profileIn n cs))) or 21)
         → ((expect (if t then some c else categoryOf n cs) or 21) >>= (λ c. expect layoutAs ref (places c) or 21))
-        ≡ (expect layoutAs ref (concat (profileAt (c ∷ cs) (if t then 0 else suc (profileIn n cs)))) or 21)
+        ≡ (expect layoutAs ref (flatten (profileAt (c ∷ cs) (if t then 0 else suc (profileIn n cs)))) or 21)
     go true h = refl
     go false h = h
 
@@ -90,31 +90,31 @@ with-some n (some l) p e = ap (λ o. layout-in o l) e
     layout-in (some q) m = some (q .layout)
 
 module _ (cat ref p : ℕ) (ep : p ≡ profileIn cat categories) where
-  by-profile : layoutOf cat ref ≡ (expect layoutAs ref (concat (profileAt categories p)) or 21)
+  by-profile : layoutOf cat ref ≡ (expect layoutAs ref (flatten (profileAt categories p)) or 21)
   unfolding layoutOf
   by-profile = rw ep (profile-layout cat ref categories)
 
-  pub layout-found : (f : ℕ) (r : PlaceRow) → some f ≡ frnAs ref 1 (concat (profileAt categories p)) → placeIs r ≡ placeAt (profileAt categories p) f
+  pub layout-found : (f : ℕ) (r : PlaceRow) → some f ≡ frnAs ref 1 (flatten (profileAt categories p)) → placeIs r ≡ placeAt (profileAt categories p) f
       → (expect layoutIs (layoutAt (r .0)) or 21) ≡ layoutOf cat ref
   unfolding placeIs expect_or_
   layout-found f r e h =
-      let d : Found ref 1 f (concat (profileAt categories p)) = found ref 1 f (concat (profileAt categories p)) (sym e) in
+      let d : Found ref 1 f (flatten (profileAt categories p)) = found ref 1 f (flatten (profileAt categories p)) (sym e) in
       let l : layoutIs (layoutAt (r .0)) ≡ some (d .place .layout) = with-some (r .1) (layoutIs (layoutAt (r .0))) (d .place) (h ∙ found-place ref f (profileAt categories p) d) in
       rw l (sym (by-profile ∙ rw (d .layout)))
 
-  pub layout-missed : none ≡ frnAs ref 1 (concat (profileAt categories p)) → (expect layoutIs (layoutAt 0) or 21) ≡ layoutOf cat ref
+  pub layout-missed : none ≡ frnAs ref 1 (flatten (profileAt categories p)) → (expect layoutIs (layoutAt 0) or 21) ≡ layoutOf cat ref
   unfolding expect_or_
-  layout-missed e = rw layout-none (sym (by-profile ∙ rw (missed ref 1 (concat (profileAt categories p)) (sym e) .layout)))
+  layout-missed e = rw layout-none (sym (by-profile ∙ rw (missed ref 1 (flatten (profileAt categories p)) (sym e) .layout)))
 
 -- ---- an item that is all of the octets
 
 -- what is answered of an item whose fields are legal
 unfoldable pub onlyItem : LayoutRow → List ℕ → Shaped → Answer (List ℤ)
-onlyItem l bs s = later (s .1) (need leb (length bs) (s .1) or 18 then ok (concat (partValues (stepOf (l .0)) (l .3) (s .0) (drop (headOf (l .0)) bs))))
+onlyItem l bs s = later (s .1) (need leb (length bs) (s .1) or 18 then ok (flatten (partValues (stepOf (l .0)) (l .3) (s .0) (drop (headOf (l .0)) bs))))
 
 -- the fields as one list, and what is left
 abbrev flat : Values × List ℕ → Answer (List ℤ × List ℕ)
-flat x = ok (concat (x .0), x .1)
+flat x = ok (flatten (x .0), x .1)
 
 abbrev noneAfter : List ℕ → List ℤ × List ℕ → Answer (List ℤ)
 noneAfter bs x = later (length bs - length (x .1)) (need eqb (length (x .1)) 0 or 18 then ok (x .0))
@@ -127,7 +127,7 @@ none-left bs long =
     (le-or-lt (length bs) long)
 
 only-legal : (t : Bool) (vs : Values) (x : Shaped) (bs : List ℕ) (k : Shaped → Answer (List ℤ)) → x .1 ≤ length bs
-    → k x ≡ later (x .1) (need leb (length bs) (x .1) or 18 then ok (concat vs))
+    → k x ≡ later (x .1) (need leb (length bs) (x .1) or 18 then ok (flatten vs))
     → ((_>>=_ {A = Values × List ℕ} (need t or 11 then ok (vs, drop (x .1) bs)) flat) >>= noneAfter bs) ≡ ((need t or 11 then ok x) >>= k)
 unfolding need_or_then_ _>>=_
 only-legal true vs x bs k h q =
@@ -168,7 +168,7 @@ module _ (cat ref j : ℕ) (bs : List ℕ) (h : (expect layoutIs (layoutAt j) or
       record { answer = rw q; left = rw q }
 
   module _ (c long : ℕ) (e : ok (c, long) ≡ wholeOf l bs) where
-    here : readOne cat ref bs ≡ later long (need leb (length bs) long or 18 then ok (concat (partValues (stepOf (l .0)) (l .3) c (drop (headOf (l .0)) bs))))
+    here : readOne cat ref bs ≡ later long (need leb (length bs) long or 18 then ok (flatten (partValues (stepOf (l .0)) (l .3) c (drop (headOf (l .0)) bs))))
     unfolding onlyItem _>>=_
     here = one-at ∙ rw (← e)
 
@@ -187,10 +187,10 @@ module _ (cat ref j : ℕ) (bs : List ℕ) (h : (expect layoutIs (layoutAt j) or
     one-fits = fitting l bs (c, long) (rw el s) o shape-is
 
     pub one-whole : length bs ≤ long → (n : ℕ) (new : List ℤ) → n ≡ holds (stepOf (l .0)) (l .3) c
-        → new ≡ sets old 0 (concat (partValues (stepOf (l .0)) (l .3) c (drop (headOf (l .0)) bs))) → Answered cat ref bs (ok n) old new
+        → new ≡ sets old 0 (flatten (partValues (stepOf (l .0)) (l .3) c (drop (headOf (l .0)) bs))) → Answered cat ref bs (ok n) old new
     unfolding countOf later need_or_then_ _>>=_
     one-whole k n new en ew =
-        let vs = concat (partValues (stepOf (l .0)) (l .3) c (drop (headOf (l .0)) bs)) in
+        let vs = flatten (partValues (stepOf (l .0)) (l .3) c (drop (headOf (l .0)) bs)) in
         let q : readOne cat ref bs ≡ ok vs = here ∙ rw (le-leb (length bs) long k) in
         record {
           answer = rw q (ap ok (en ∙ sym (length-held (stepOf (l .0)) (l .3) c (drop (headOf (l .0)) bs))));

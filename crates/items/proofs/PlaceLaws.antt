@@ -13,7 +13,7 @@ use lib.Dec.{eqb, lit≤}
 use lib.ListN.{length, getD, drop, drop-of-length-le}
 use borrow.Author.Tests.{ne-eqb}
 use Rattle.rules.specs.Answer.{if_then_else_}
-use Rattle.rules.specs.Layout.{Layout, concat}
+use Rattle.rules.specs.Layout.{Layout, flatten}
 use Rattle.rules.proofs.AnswerLaws.{if-inv, if-true, if-false, some-inj, none-some}
 use Rattle.rules.specs.Presence.{present, placeAt}
 use Rattle.rules.specs.Record.{Place}
@@ -77,20 +77,20 @@ frn-step ref k (p ∷ ps) (suc j) = frn-step ref k ps j
 pub record Seeking (ref p f : ℕ) : Type 0 where
   pub some : 1 ≤ f
   pub few : f ≤ 36
-  pub same : frnAs ref f (drop (f - 1) (concat (profileAt categories p))) ≡ frnAs ref 1 (concat (profileAt categories p))
+  pub same : frnAs ref f (drop (f - 1) (flatten (profileAt categories p))) ≡ frnAs ref 1 (flatten (profileAt categories p))
 
 pub seek-first : (ref p : ℕ) → Seeking ref p 1
 seek-first ref p = record { some = lit≤ tt; few = lit≤ tt; same = refl }
 
 seek-at : (ref p f : ℕ) → Seeking ref p f
-    → frnAs ref 1 (concat (profileAt categories p)) ≡ (if isNamed ref (placeAt (profileAt categories p) f) then some f else frnAs ref (f + 1) (drop (f + 1 - 1) (concat (profileAt categories p))))
+    → frnAs ref 1 (flatten (profileAt categories p)) ≡ (if isNamed ref (placeAt (profileAt categories p) f) then some f else frnAs ref (f + 1) (drop (f + 1 - 1) (flatten (profileAt categories p))))
 seek-at ref p zero s = absurd (not-suc-le-zero (s .some))
 seek-at ref p (suc j) s =
     let e : suc j - 1 ≡ j = omega arith in
     let d : suc j + 1 - 1 ≡ suc j = omega arith in
-    sym (s .same) ∙ rw (e, d) (frn-step ref (suc j) (concat (profileAt categories p)) j)
+    sym (s .same) ∙ rw (e, d) (frn-step ref (suc j) (flatten (profileAt categories p)) j)
 
-pub seek-found : (ref p f : ℕ) → Seeking ref p f → isNamed ref (placeAt (profileAt categories p) f) ≡ true → some f ≡ frnAs ref 1 (concat (profileAt categories p))
+pub seek-found : (ref p f : ℕ) → Seeking ref p f → isNamed ref (placeAt (profileAt categories p) f) ≡ true → some f ≡ frnAs ref 1 (flatten (profileAt categories p))
 unfolding if_then_else_
 seek-found ref p f s e = sym (seek-at ref p f s ∙ rw e)
 
@@ -98,11 +98,11 @@ pub seek-next : (ref p f : ℕ) → Seeking ref p f → f < 36 → isNamed ref (
 unfolding if_then_else_
 seek-next ref p f s h e = record { some = omega arith; few = omega arith; same = sym (seek-at ref p f s ∙ rw e) }
 
-pub seek-end : (ref p f : ℕ) → Seeking ref p f → 36 ≤ f → none ≡ frnAs ref 1 (concat (profileAt categories p))
+pub seek-end : (ref p f : ℕ) → Seeking ref p f → 36 ≤ f → none ≡ frnAs ref 1 (flatten (profileAt categories p))
 unfolding frnAs
 seek-end ref p f s h =
-    let k : length (concat (profileAt categories p)) ≤ f - 1 = omega (arith, profile-few p) in
-    sym (ap (frnAs ref f) (drop-of-length-le (concat (profileAt categories p)) k)) ∙ s .same
+    let k : length (flatten (profileAt categories p)) ≤ f - 1 = omega (arith, profile-few p) in
+    sym (ap (frnAs ref f) (drop-of-length-le (flatten (profileAt categories p)) k)) ∙ s .same
 
 -- ---- the search and the rules' own
 
@@ -158,6 +158,6 @@ missed ref k (some p ∷ ps) e =
     (if-inv (eqb ref (p .reference)) (some k) (frnAs ref (k + 1) ps) e)
 
 -- of a whole profile: the place is the one at the FRN
-pub found-place : (ref f : ℕ) (pss : List (List (Option Place))) (d : Found ref 1 f (concat pss)) → placeAt pss f ≡ some (d .place)
+pub found-place : (ref f : ℕ) (pss : List (List (Option Place))) (d : Found ref 1 f (flatten pss)) → placeAt pss f ≡ some (d .place)
 found-place ref zero pss d = absurd (not-suc-le-zero (d .from))
 found-place ref (suc f) pss d = let e : suc f - 1 ≡ f = omega arith in rw e at (d .here)

@@ -7,7 +7,7 @@ use mathlib.Core.List.{List}
 use native.Mathlib.Omega.{arith}
 use lib.IntN.{ℤ}
 use lib.ListN.{length}
-use Rattle.rules.specs.Layout.{concat}
+use Rattle.rules.specs.Layout.{flatten}
 use Rattle.rules.specs.Presence.{present, placeAt}
 use Rattle.rules.specs.Entry.{categories, profileAt, readOne, writeOne, leaves}
 use Rattle.tables.specs.Places.{frnAs}
@@ -58,7 +58,7 @@ pub one-profile-of : (category a b : ℕ) → a ≡ profileIn category categorie
 one-profile-of category a b p q = p ∙ sym q
 
 pub one-frn-of : (profile reference : ℕ) (a b : FrnFound)
-    → frnOf a ≡ frnAs reference 1 (concat (profileAt categories profile)) → frnOf b ≡ frnAs reference 1 (concat (profileAt categories profile))
+    → frnOf a ≡ frnAs reference 1 (flatten (profileAt categories profile)) → frnOf b ≡ frnAs reference 1 (flatten (profileAt categories profile))
     → a ≡ b
 one-frn-of profile reference a b p q = same-frn a b (p ∙ sym q)
 

@@ -18,7 +18,7 @@ pub use write::write_item;
 ghost use mathlib.Core.Path.{_≡_};
 ghost use mathlib.Core.Bool.{true};
 ghost use Prim.Native.Nat.{_<_, _+_};
-ghost use Rattle.rules.specs.Layout.{concat};
+ghost use Rattle.rules.specs.Layout.{flatten};
 ghost use Rattle.rules.specs.Presence.{present, placeAt};
 ghost use Rattle.rules.specs.Answer.{expect_or_};
 ghost use Rattle.rules.specs.Entry.{categories, profileAt, layoutOf, readOne, leaves};
@@ -84,7 +84,7 @@ pub enum FrnFound {
 
 // The FRN of the item with a reference: the number after its slash.
 pub fn frn_of(profile: usize, reference: u16) -> FrnFound
-    ensures { λ r. ⌜ frnOf r ≡ frnAs reference 1 (concat (profileAt categories profile)) ⌝ }
+    ensures { λ r. ⌜ frnOf r ≡ frnAs reference 1 (flatten (profileAt categories profile)) ⌝ }
 {
     let mut frn: usize = 1;
     while frn < FRNS {

@@ -15,7 +15,7 @@ use borrow.Author.Tests.{eq-eqb, ne-eqb}
 use mir.Syntax.{w64}
 use mir.Val.{SFits}
 use mir.ValLaws.{toZ-ofZ}
-use Rattle.rules.specs.Layout.{concat}
+use Rattle.rules.specs.Layout.{flatten}
 use Rattle.tables.specs.declared.tables.FieldRow.{FieldRow}
 use Rattle.tables.specs.declared.tables.GroupRow.{GroupRow}
 use Rattle.tables.specs.Tables.{groupAt}
@@ -105,7 +105,7 @@ pub record StoreParts (step group c₀ : ℕ) (s : List ℕ) (at : ℕ) (out₀ 
   pub sound : partsSound step g k ≡ true
   pub place : p + span step g k ≡ at + span step group c₀
   pub room : q + holds step g k ≡ holds step group c₀
-  pub same : sets out q (concat (partValues step g k (drop p s))) ≡ sets out₀ 0 (concat (partValues step group c₀ (drop at s)))
+  pub same : sets out q (flatten (partValues step g k (drop p s))) ≡ sets out₀ 0 (flatten (partValues step group c₀ (drop at s)))
 
 pub store-begun : (step group c₀ : ℕ) (s : List ℕ) (at : ℕ) (out₀ : List ℤ) → partsSound step group c₀ ≡ true → StoreParts step group c₀ s at out₀ at group c₀ 0 out₀
 store-begun step group c₀ s at out₀ h = record { sound = h; place = refl; room = zero-add _; same = refl }
@@ -117,7 +117,7 @@ holds-cons step g zero h = absurd (not-suc-le-zero h)
 holds-cons step g (suc k) h = let e : suc k - 1 ≡ k = omega arith in rw e
 
 values-cons : (step g k : ℕ) (s : List ℕ) (p : ℕ) → 0 < k
-    → concat (partValues step g k (drop p s)) ≡ values (rowsAt g) (partAt step g (drop p s)) ++ concat (partValues step (g + step) (k - 1) (drop (p + groupAt g .0) s))
+    → flatten (partValues step g k (drop p s)) ≡ values (rowsAt g) (partAt step g (drop p s)) ++ flatten (partValues step (g + step) (k - 1) (drop (p + groupAt g .0) s))
 unfolding partValues
 values-cons step g zero s p h = absurd (not-suc-le-zero h)
 values-cons step g (suc k) s p h = let e : suc k - 1 ≡ k = omega arith in rw (e, drop-drop (groupAt g .0) p s)
@@ -129,7 +129,7 @@ pub part-stored : (step group c₀ : ℕ) (s : List ℕ) (at : ℕ) (out₀ : Li
 part-stored step group c₀ s at out₀ p g k q q' out out' c h er eo =
     let f : First step g k s p = first-part step g k s p h (c .sound) in
     let vs : List ℤ = values (rowsAt g) (partAt step g (drop p s)) in
-    let rest : List ℤ = concat (partValues step (g + step) (k - 1) (drop (p + groupAt g .0) s)) in
+    let rest : List ℤ = flatten (partValues step (g + step) (k - 1) (drop (p + groupAt g .0) s)) in
     subst (λ (r : GroupRow). StoreParts step group c₀ s at out₀ (p + r .0) (g + step) (k - 1) q' out') (sym er)
     (record {
       sound = f .rest;
@@ -144,18 +144,18 @@ part-stored step group c₀ s at out₀ p g k q q' out out' c h er eo =
     })
 
 pub parts-stored : (step group c₀ : ℕ) (s : List ℕ) (at : ℕ) (out₀ : List ℤ) (p g k q : ℕ) (out : List ℤ) → StoreParts step group c₀ s at out₀ p g k q out → k ≤ 0
-    → (q ≡ holds step group c₀) × (out ≡ sets out₀ 0 (concat (partValues step group c₀ (drop at s))))
+    → (q ≡ holds step group c₀) × (out ≡ sets out₀ 0 (flatten (partValues step group c₀ (drop at s))))
 unfolding holds partValues
 parts-stored step group c₀ s at out₀ p g k q out c h =
     let z : k ≡ 0 = omega arith in
-    (sym (ap (λ x. q + holds step g x) z ∙ add-zero q) ∙ c .room, sym (ap (λ x. sets out q (concat (partValues step g x (drop p s)))) z) ∙ c .same)
+    (sym (ap (λ x. q + holds step g x) z ∙ add-zero q) ∙ c .room, sym (ap (λ x. sets out q (flatten (partValues step g x (drop p s)))) z) ∙ c .same)
 
 -- how many values so many parts have
-pub length-held : (step g c : ℕ) (bs : List ℕ) → length (concat (partValues step g c bs)) ≡ holds step g c
+pub length-held : (step g c : ℕ) (bs : List ℕ) → length (flatten (partValues step g c bs)) ≡ holds step g c
 unfolding partValues holds
 length-held step g zero bs = refl
 length-held step g (suc c) bs =
-    rw (length-append (values (rowsAt g) (partAt step g bs)) (concat (partValues step (g + step) c (drop (groupAt g .0) bs))), length-values (rowsAt g) (partAt step g bs), length-held step (g + step) c (drop (groupAt g .0) bs))
+    rw (length-append (values (rowsAt g) (partAt step g bs)) (flatten (partValues step (g + step) c (drop (groupAt g .0) bs))), length-values (rowsAt g) (partAt step g bs), length-held step (g + step) c (drop (groupAt g .0) bs))
 
 -- what storing an item asks, and gives, of the step and the head that were worked out
 module _ (st hd a c : ℕ) {step head : ℕ} (es : step ≡ st) (eh : head ≡ hd) where
@@ -165,7 +165,7 @@ module _ (st hd a c : ℕ) {step head : ℕ} (es : step ≡ st) (eh : head ≡ h
       let e : span step a c ≡ span st a c = ap (λ x. span x a c) es in
       ((one, ap (λ x. partsSound x a c) es ∙ sound, omega (arith, e, eh, there)), subst (λ x. holds x a c ≤ 8_192) (sym es) room)
 
-  pub store-gives : (bs : List ℕ) (old new : List ℤ) (q : ℕ) → (q ≡ holds step a c) × (new ≡ sets old 0 (concat (partValues step a c (drop head bs))))
-      → (q ≡ holds st a c) × (new ≡ sets old 0 (concat (partValues st a c (drop hd bs))))
+  pub store-gives : (bs : List ℕ) (old new : List ℤ) (q : ℕ) → (q ≡ holds step a c) × (new ≡ sets old 0 (flatten (partValues step a c (drop head bs))))
+      → (q ≡ holds st a c) × (new ≡ sets old 0 (flatten (partValues st a c (drop hd bs))))
   store-gives bs old new q h =
-      (h .0 ∙ ap (λ x. holds x a c) es, h .1 ∙ ap (λ x. sets old 0 (concat (partValues x a c (drop head bs)))) es ∙ ap (λ x. sets old 0 (concat (partValues st a c (drop x bs)))) eh)
+      (h .0 ∙ ap (λ x. holds x a c) es, h .1 ∙ ap (λ x. sets old 0 (flatten (partValues x a c (drop head bs)))) es ∙ ap (λ x. sets old 0 (flatten (partValues st a c (drop x bs)))) eh)

@@ -7,7 +7,7 @@ use native.Mathlib.Omega.{arith}
 use lib.IntN.{ℤ}
 use lib.ListN.{drop}
 use lib.Seq.{sets}
-use Rattle.rules.specs.Layout.{concat}
+use Rattle.rules.specs.Layout.{flatten}
 use Rattle.rules.proofs.AnswerLaws.{ok-inj}
 use Rattle.tables.specs.declared.tables.LayoutRow.{LayoutRow}
 use Rattle.layouts.specs.declared.parts.Shape.{Shape}
@@ -31,7 +31,7 @@ one-whole-of l s a b p q = shape-told a b (p ∙ sym q)
 
 -- the answer, and what the output then holds
 pub one-item-store : (l : LayoutRow) (s : List ℕ) (parts : ℕ) (out : List ℤ) (a b : ℕ) (left right : List ℤ)
-    → (a ≡ holds (stepOf (l .0)) (l .3) parts) × (left ≡ sets out 0 (concat (partValues (stepOf (l .0)) (l .3) parts (drop (headOf (l .0)) s))))
-    → (b ≡ holds (stepOf (l .0)) (l .3) parts) × (right ≡ sets out 0 (concat (partValues (stepOf (l .0)) (l .3) parts (drop (headOf (l .0)) s))))
+    → (a ≡ holds (stepOf (l .0)) (l .3) parts) × (left ≡ sets out 0 (flatten (partValues (stepOf (l .0)) (l .3) parts (drop (headOf (l .0)) s))))
+    → (b ≡ holds (stepOf (l .0)) (l .3) parts) × (right ≡ sets out 0 (flatten (partValues (stepOf (l .0)) (l .3) parts (drop (headOf (l .0)) s))))
     → (a ≡ b) × (left ≡ right)
 one-item-store l s parts out a b left right p q = (p .0 ∙ sym (q .0), p .1 ∙ sym (q .1))

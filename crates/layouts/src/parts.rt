@@ -16,7 +16,7 @@ ghost use mathlib.Core.Bool.{true};
 ghost use Prim.Native.Nat.{_+_, _-_, _*_, _%_, _≤_, _<_, _^_};
 ghost use lib.ListN.{length, take, drop};
 ghost use lib.Seq.{sets};
-ghost use Rattle.rules.specs.Layout.{joined, concat};
+ghost use Rattle.rules.specs.Layout.{joined, flatten};
 ghost use Rattle.layouts.specs.Read.{rowsAt, partAt, legal, span, partSound, partsSound, partsLegal, values, count, holds, partValues, shapeIs, chain, listShape, headOf, stepOf, shapeOf, wholeOf, rowSound};
 ghost use lib.Dec.{eqb};
 ghost use Rattle.tables.specs.Tables.{groupAt};
@@ -250,7 +250,7 @@ pub fn parts_store(
 ) -> usize
     requires { ⌜ (step ≤ 1) × (partsSound step group parts ≡ true) × (at + span step group parts ≤ length (now s)) ⌝ }
     requires { ⌜ holds step group parts ≤ 8_192 ⌝ }
-    ensures { λ r. ⌜ (r ≡ holds step group parts) × (now (out .exit) ≡ sets (now (out .entry)) 0 (concat (partValues step group parts (drop at (now (s .entry)))))) ⌝ }
+    ensures { λ r. ⌜ (r ≡ holds step group parts) × (now (out .exit) ≡ sets (now (out .entry)) 0 (flatten (partValues step group parts (drop at (now (s .entry)))))) ⌝ }
 {
     let mut p = at;
     let mut g = group;
@@ -280,7 +280,7 @@ fn step_of(kind: u8) -> usize
 pub fn item_store(l: LayoutRow, s: &[u8], parts: usize, out: &mut [i64; 8192]) -> usize
     requires { ⌜ (partsSound (stepOf (l .0)) (l .3) parts ≡ true) × (headOf (l .0) + span (stepOf (l .0)) (l .3) parts ≤ length (now s)) ⌝ }
     requires { ⌜ holds (stepOf (l .0)) (l .3) parts ≤ 8_192 ⌝ }
-    ensures { λ r. ⌜ (r ≡ holds (stepOf (l .0)) (l .3) parts) × (now (out .exit) ≡ sets (now (out .entry)) 0 (concat (partValues (stepOf (l .0)) (l .3) parts (drop (headOf (l .0)) (now (s .entry)))))) ⌝ }
+    ensures { λ r. ⌜ (r ≡ holds (stepOf (l .0)) (l .3) parts) × (now (out .exit) ≡ sets (now (out .entry)) 0 (flatten (partValues (stepOf (l .0)) (l .3) parts (drop (headOf (l .0)) (now (s .entry)))))) ⌝ }
 {
     let kind = l.0;
     parts_store(s, head_of(kind), parts, l.3, step_of(kind), out)

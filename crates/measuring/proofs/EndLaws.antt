@@ -28,8 +28,8 @@ use Rattle.sets.specs.declared.ItemSet.{ItemSet}
 use Rattle.sets.specs.declared.SetRead.{SetRead}
 use Rattle.sets.specs.declared.SetRead.the-variants as set
 use Rattle.sets.proofs.FlagLaws.{flags-split}
-use Rattle.steps.specs.Told.{digitAt, digitOf}
-use Rattle.steps.proofs.ItemLaws.{octet-at}
+use Rattle.quick_items.specs.Told.{digitAt, digitOf}
+use Rattle.quick_items.proofs.ItemLaws.{octet-at}
 use Rattle.measuring.specs.Measure.{fixedOctets, variableOctets, octetsAt, endFrom, endOf, startOf, timeFrn, isIn, isUntimed, clockAt, timeIn, sized, measureBy, measureIn, measureOf}
 
 -- ---- the octets of an item

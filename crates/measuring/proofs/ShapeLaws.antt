@@ -21,10 +21,10 @@ use Rattle.items.specs.Answers.{profileIn}
 use Rattle.sets.specs.Sets.{categoryAt, setAt}
 use Rattle.sets.specs.Steps.{setFrom}
 use Rattle.sets.proofs.SetLaws.{octets-all}
-use Rattle.steps.specs.Told.{allBelow}
-use Rattle.steps.proofs.ToldLaws.{all-below}
-use Rattle.plain.specs.Shape.{lowNumber, lowOctets, usedOf, profileOf}
-use Rattle.plain.proofs.ShapeLaws.{cut-same, fspec-told}
+use Rattle.quick_items.specs.Told.{allBelow}
+use Rattle.quick_items.proofs.ToldLaws.{all-below}
+use Rattle.quick_records.specs.Shape.{lowNumber, lowOctets, usedOf, profileOf}
+use Rattle.quick_records.proofs.ShapeLaws.{cut-same, fspec-told}
 use Rattle.measuring.specs.Measure.{fixedOctets, variableOctets, octetsAt, endFrom, endOf, startOf, timeFrn, isIn, isUntimed, clockAt, timeIn, sized, measureBy, measureIn, measureOf}
 use Rattle.measuring.specs.declared.record.Measured.{Measured}
 use Rattle.measuring.specs.Shape.{isFixed, partOctets, isEven, baseFrom, allFixed, oneList, flagsBefore, startsAt, timeAt, timeOf, baseOf, placeOf, partOf, rowBy, soundRow, soundShapes, Told}

@@ -27,9 +27,9 @@ use Rattle.layouts.proofs.ReadLaws.{le-or-lt}
 use Rattle.items.specs.Answers.{checkAt}
 use Rattle.items.proofs.CheckLaws.{check-place}
 use Rattle.records.proofs.PlaceLaws.{check-few}
-use Rattle.steps.specs.Told.{allBelow, digitAt, digitOf}
-use Rattle.steps.proofs.ItemLaws.{octet-at}
-use Rattle.steps.proofs.ToldLaws.{all-below, other}
+use Rattle.quick_items.specs.Told.{allBelow, digitAt, digitOf}
+use Rattle.quick_items.proofs.ItemLaws.{octet-at}
+use Rattle.quick_items.proofs.ToldLaws.{all-below, other}
 use Rattle.measuring.specs.Measure.{fixedOctets, variableOctets, octetsAt}
 
 -- ---- parts by FX bits: two at most, of an octet each

@@ -16,7 +16,7 @@ use lib.IntN.{pos}
 use borrow.Author.Tests.{le-leb}
 use Rattle.rules.specs.Answer.{ok, _>>=_, if_then_else_, later, octetsOf}
 use Rattle.rules.specs.Field.{value, unsigned}
-use Rattle.rules.specs.Layout.{Layout, Values, concat, item, joined, writeItem}
+use Rattle.rules.specs.Layout.{Layout, Values, flatten, item, joined, writeItem}
 use Rattle.rules.specs.Presence.{has}
 use Rattle.rules.specs.Record.{Category, Place, Record, places, items, valueOf, typeOf, judge, writePlace, writeRecord, readRecord}
 use Rattle.rules.specs.Block.{categoryOf}
@@ -173,10 +173,10 @@ module _ (i : ℕ) (c : Category) (bs : List ℕ) (r : Record) (rest : List ℕ)
   written : RecordWritten c r (split .out)
   written = record-written c r (split .out) (split .writes)
 
-  items-lie : Lies (0 ∷ bs) (1 + length r) (itemOctets (places c) (concat r))
+  items-lie : Lies (0 ∷ bs) (1 + length r) (itemOctets (places c) (flatten r))
   items-lie =
-      subst (λ z. Lies (0 ∷ bs) (1 + z) (itemOctets (places c) (concat r))) (written .count)
-      (lies-second (written .fspec) (itemOctets (places c) (concat r))
+      subst (λ z. Lies (0 ∷ bs) (1 + z) (itemOctets (places c) (flatten r))) (written .count)
+      (lies-second (written .fspec) (itemOctets (places c) (flatten r))
       (record { before = 0 ∷ []; after = rest; joins = ap (λ l. 0 ∷ l) (split .joins ∙ ap (λ l. l ++ rest) (written .joins)); starts = refl }))
 
   seen : (ref n w hi : ℕ) → layoutAs ref (places c) ≡ some (numberOf n w hi) → indexAs ref (places c) < 35
@@ -193,21 +193,21 @@ module _ (i : ℕ) (c : Category) (bs : List ℕ) (r : Record) (rest : List ℕ)
       by none e = absent (go (isIn (g + 1) (lay .bits)) refl)
         where
           go : (t : Bool) → isIn (g + 1) (lay .bits) ≡ t → isIn (g + 1) (lay .bits) ≡ false
-          go true z = absurd (omega (arith, lay .there g low z, at ∙ start-absent (places c) (concat r) ref (1 + length r) e))
+          go true z = absurd (omega (arith, lay .there g low z, at ∙ start-absent (places c) (flatten r) ref (1 + length r) e))
           go false z = z
       by (some v) e =
-          let f : ItemFound (places c) (concat r) ref (1 + length r) (0 ∷ bs) v =
-          item-found (places c) (concat r) ref (1 + length r) (0 ∷ bs) v (written .each) once items-lie e in
+          let f : ItemFound (places c) (flatten r) ref (1 + length r) (0 ∷ bs) v =
+          item-found (places c) (flatten r) ref (1 + length r) (0 ∷ bs) v (written .each) once items-lie e in
           let k : IsNumber n v (f .out) = number-item n w 0 hi v (f .out) (ap (λ y. writeItem y v) (some-inj (sym layout ∙ f .is-layout)) ∙ f .writes) in
-          let s : getD (m .starts) g 0 ≡ f .item .start = at ∙ start-found (places c) (concat r) ref (1 + length r) (f .item) once (f .is-laid) in
+          let s : getD (m .starts) g 0 ≡ f .item .start = at ∙ start-found (places c) (flatten r) ref (1 + length r) (f .item) once (f .is-laid) in
           go f k s (isIn (g + 1) (lay .bits)) refl
         where
-          go : (f : ItemFound (places c) (concat r) ref (1 + length r) (0 ∷ bs) v) → IsNumber n v (f .out) → getD (m .starts) g 0 ≡ f .item .start
+          go : (f : ItemFound (places c) (flatten r) ref (1 + length r) (0 ∷ bs) v) → IsNumber n v (f .out) → getD (m .starts) g 0 ≡ f .item .start
               → (t : Bool) → isIn (g + 1) (lay .bits) ≡ t → Seen bs (isIn (g + 1) (lay .bits)) (start (g + 1)) n (some v)
           go f k s true z =
               subst (λ x. Seen bs (isIn (g + 1) (lay .bits)) (start (g + 1)) n (some x)) (sym (k .value-is))
               (there (f .out) z (lies-on (subst (λ x. Lies (0 ∷ bs) x (f .out)) (sym s ∙ lay .there g low z) (f .lies))) (k .size))
-          go f k s false z = absurd (omega (arith, s, lay .absent g low z, laid-low ref (1 + length r) (places c) (concat r) (f .item) (f .is-laid)))
+          go f k s false z = absurd (omega (arith, s, lay .absent g low z, laid-low ref (1 + length r) (places c) (flatten r) (f .item) (f .is-laid)))
 
   -- ---- its time
 

@@ -13,7 +13,7 @@ use Rattle.rules.specs.Presence.{flags}
 use Rattle.rules.specs.Entry.{categories}
 use Rattle.items.specs.Answers.{profileIn}
 use Rattle.sets.specs.Sets.{setAt}
-use Rattle.steps.specs.Told.{digitOf}
+use Rattle.quick_items.specs.Told.{digitOf}
 use Rattle.measuring.specs.declared.record.Measured.{Measured}
 
 -- ---- an item, at an FRN of a profile

@@ -12,8 +12,8 @@ use Rattle.rules.specs.Answer.{Answer, ok, refused}
 use Rattle.rules.specs.Presence.{flags}
 use Rattle.sets.specs.Sets.{categoryAt}
 use Rattle.sets.specs.Steps.{setFrom}
-use Rattle.steps.specs.Told.{allBelow}
-use Rattle.plain.specs.Shape.{lowOctets, usedOf, profileOf}
+use Rattle.quick_items.specs.Told.{allBelow}
+use Rattle.quick_records.specs.Shape.{lowOctets, usedOf, profileOf}
 use Rattle.measuring.specs.Measure.{fixedOctets, octetsAt, timeFrn, isIn, measureIn}
 use Rattle.measuring.specs.declared.record.Measured.{Measured}
 

@@ -5,10 +5,10 @@ use super::record::octet_at;
 use super::record::timed;
 use super::record::untimed;
 use items::profile_of;
-use plain::first_five;
-use plain::long;
-use plain::slot_of;
-use steps::octet;
+use quick_items::octet;
+use quick_records::first_five;
+use quick_records::long;
+use quick_records::slot_of;
 ghost use mathlib.Core.Path.{_≡_};
 ghost use mathlib.Core.Bool.{true};
 ghost use Rattle.measuring.specs.Measure.{isUntimed, measureOf};
@@ -16,7 +16,7 @@ ghost use Rattle.measuring.specs.Shape.{soundShapes, Told};
 
 pub type Shapes = [u64; 128];
 
-// 64 shapes, made and compared by docs/make/shapes.py, each where `plain::slot_of` looks for it: those of `plain` that have no item with FX bits, one list or
+// 64 shapes, made and compared by model/shapes.py, each where `quick_records::slot_of` looks for it: those of `quick_records` that have no item with FX bits, one list or
 // led item at most, and no time after that. A shape has two words, with columns: the category, less 17; nothing; the octets of the FSPEC; the FSPEC, its
 // first octet lowest _ where in the record the time stands; the octets of the record without the parts of its list; where the list stands; the octets
 // of a part. A led item is a list of octets, its length octet among them. Where there is no time or no list, its columns are 0.

@@ -14,7 +14,7 @@ use borrow.Author.Tests.{le-leb, lt-leb, leb-true, leb-false, ltb-true, eqb-true
 use lib.ListN.{length, take, drop, getD, length-append, length-drop, take-append-drop, List·getD-append}
 use lib.Seq.{length-take-le, getD-take, drop-at, take-append-le, drop-append-le}
 use Rattle.rules.specs.Answer.{Answer, ok, refused, _>>=_, need_or_then_, if_then_else_, expect_or_, later}
-use Rattle.rules.specs.Layout.{concat}
+use Rattle.rules.specs.Layout.{flatten}
 use Rattle.rules.specs.Block.{Head, categoryOf}
 use Rattle.rules.specs.Entry.{categories, Counts, checkRecording}
 use Rattle.rules.proofs.AnswerLaws.{refused-ok, ok-inj, bind-in, bind-out, bind-elim, need-in, later-in, later-out, if-inv, if-true, if-false, Octets, octets-left, octets-right}
@@ -306,7 +306,7 @@ AllWhole (p ∷ ps) = Whole p × AllWhole ps
 pub record Blocks (p : List ℕ) : Type 0 where
   pub blocks : List (List ℕ)
   pub whole : AllWhole blocks
-  pub are : concat blocks ≡ p
+  pub are : flatten blocks ≡ p
 
 -- a block alone
 pub one-block : (p : List ℕ) → Whole p → Blocks p
@@ -318,21 +318,21 @@ Pieces [] = Unit {0}
 Pieces (p ∷ []) = Unit {0}
 Pieces (p ∷ (q ∷ ps)) = Blocks p × Pieces (q ∷ ps)
 
-fed-blocks : (s : Answer SoFar) (bs : List (List ℕ)) (rest : List ℕ) → Fit s → AllWhole bs → Octets (concat bs ++ rest) → fed s (concat bs ++ rest) ≡ fed (fed s (concat bs)) rest
+fed-blocks : (s : Answer SoFar) (bs : List (List ℕ)) (rest : List ℕ) → Fit s → AllWhole bs → Octets (flatten bs ++ rest) → fed s (flatten bs ++ rest) ≡ fed (fed s (flatten bs)) rest
 fed-blocks s [] rest f w o = ap (λ z. fed z rest) (sym (fed-none s f))
 fed-blocks s (p ∷ bs) rest f w o =
-    let e : (p ++ concat bs) ++ rest ≡ p ++ (concat bs ++ rest) = append-assoc p (concat bs) rest in
-    let o₁ : Octets (p ++ (concat bs ++ rest)) = subst Octets e o in
+    let e : (p ++ flatten bs) ++ rest ≡ p ++ (flatten bs ++ rest) = append-assoc p (flatten bs) rest in
+    let o₁ : Octets (p ++ (flatten bs ++ rest)) = subst Octets e o in
     ap (fed s) e
-    ∙ fed-join s p (concat bs ++ rest) (w .0) o₁
-    ∙ fed-blocks (fed s p) bs rest (fed-fits s p) (w .1) (octets-right p (concat bs ++ rest) o₁)
-    ∙ ap (λ z. fed z rest) (sym (fed-join s p (concat bs) (w .0) (octets-left (p ++ concat bs) rest o)))
+    ∙ fed-join s p (flatten bs ++ rest) (w .0) o₁
+    ∙ fed-blocks (fed s p) bs rest (fed-fits s p) (w .1) (octets-right p (flatten bs ++ rest) o₁)
+    ∙ ap (λ z. fed z rest) (sym (fed-join s p (flatten bs) (w .0) (octets-left (p ++ flatten bs) rest o)))
 
 -- fed one after the other or all at once
-fed-all : (s : Answer SoFar) (p : List ℕ) (ps : List (List ℕ)) → Fit s → Pieces (p ∷ ps) → Octets (concat (p ∷ ps)) → feedAll s (p ∷ ps) ≡ fed s (concat (p ∷ ps))
+fed-all : (s : Answer SoFar) (p : List ℕ) (ps : List (List ℕ)) → Fit s → Pieces (p ∷ ps) → Octets (flatten (p ∷ ps)) → feedAll s (p ∷ ps) ≡ fed s (flatten (p ∷ ps))
 fed-all s p [] f w o = ap (fed s) (sym (append-nil p))
 fed-all s p (q ∷ ps) f w o =
-    let later-on : List ℕ = concat (q ∷ ps) in
+    let later-on : List ℕ = flatten (q ∷ ps) in
     let b : Blocks p = w .0 in
     fed-all (fed s p) q ps (fed-fits s p) (w .1) (octets-right p later-on o)
     ∙ ap (λ z. fed (fed s z) later-on) (sym (b .are))
@@ -353,9 +353,9 @@ fed-whole p o l =
     ∙ ap (refused n) (ap capped (zero-add q) ∙ capped-is q (omega (arith, place-few p o n q e, l))) ∙ sym e)
 
 -- FEEDING IS CHECKING: however a recording is cut at its blocks' ends, the last piece being what is left over, the answer is that of the whole
-pub feeding : (ps : List (List ℕ)) → Octets (concat ps) → length (concat ps) < 2 ^ 64 → Pieces ps → finished (feedAll started ps) ≡ checkRecording (concat ps)
+pub feeding : (ps : List (List ℕ)) → Octets (flatten ps) → length (flatten ps) < 2 ^ 64 → Pieces ps → finished (feedAll started ps) ≡ checkRecording (flatten ps)
 feeding [] o l w = finish-ok (sofar 0 0 0) ∙ sym (sym (counts-start []) ∙ counts-end 0 0 0 [] refl)
-feeding (p ∷ ps) o l w = ap finished (fed-all started p ps (omega arith, omega arith, omega arith) w o) ∙ fed-whole (concat (p ∷ ps)) o l
+feeding (p ∷ ps) o l w = ap finished (fed-all started p ps (omega arith, omega arith, omega arith) w o) ∙ fed-whole (flatten (p ∷ ps)) o l
 
 -- ---- cut as it is read: a head, and then as many octets as it says, or what there is of them
 
@@ -363,12 +363,12 @@ abbrev pub cutFrom : ℕ → List ℕ → List (List ℕ)
 cutFrom zero bs = bs ∷ []
 cutFrom (suc f) bs = if ltb (blockLength bs) (length bs) then take (blockLength bs) bs ∷ cutFrom f (drop (blockLength bs) bs) else bs ∷ []
 
-cut-joins : (f : ℕ) (bs : List ℕ) → concat (cutFrom f bs) ≡ bs
+cut-joins : (f : ℕ) (bs : List ℕ) → flatten (cutFrom f bs) ≡ bs
 cut-joins zero bs = append-nil bs
 cut-joins (suc f) bs =
     ⊎-elim
-    (λ (e, g). ap concat (sym g) ∙ ap (λ z. take (blockLength bs) bs ++ z) (cut-joins f (drop (blockLength bs) bs)) ∙ take-append-drop (blockLength bs) bs)
-    (λ (e, g). ap concat (sym g) ∙ append-nil bs)
+    (λ (e, g). ap flatten (sym g) ∙ ap (λ z. take (blockLength bs) bs ++ z) (cut-joins f (drop (blockLength bs) bs)) ∙ take-append-drop (blockLength bs) bs)
+    (λ (e, g). ap flatten (sym g) ∙ append-nil bs)
     (if-inv (ltb (blockLength bs) (length bs)) (take (blockLength bs) bs ∷ cutFrom f (drop (blockLength bs) bs)) (bs ∷ []) refl)
 
 least-by : (t : Bool) (n : ℕ) → 3 ≤ (if t then max 3 n else 3)
@@ -406,5 +406,5 @@ cut-pieces (suc f) bs =
 
 pub cutting : (bs : List ℕ) → Octets bs → length bs < 2 ^ 64 → finished (feedAll started (cutFrom (length bs) bs)) ≡ checkRecording bs
 cutting bs o l =
-    let e : concat (cutFrom (length bs) bs) ≡ bs = cut-joins (length bs) bs in
+    let e : flatten (cutFrom (length bs) bs) ≡ bs = cut-joins (length bs) bs in
     feeding (cutFrom (length bs) bs) (subst Octets (sym e) o) (subst (λ z. length z < 2 ^ 64) (sym e) l) (cut-pieces (length bs) bs) ∙ ap checkRecording e

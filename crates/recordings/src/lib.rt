@@ -1,15 +1,15 @@
 // A recording: blocks end to end, checked whole, or block by block as it is read (document 01, "What the reader and writer cover").
 use blocks::FrontChecked;
-use plain::Sets;
-use plain::Types;
-use steps::Steps;
+use quick_items::Steps;
+use quick_records::Sets;
+use quick_records::Types;
 ghost use mathlib.Core.Path.{_≡_};
 ghost use mathlib.Core.Bool.{true};
 ghost use Prim.Native.Nat.{_+_, _<_};
 ghost use Rattle.rules.specs.Entry.{checkRecording};
-ghost use Rattle.steps.specs.Item.{soundSteps};
-ghost use Rattle.plain.specs.Record.{soundTypes};
-ghost use Rattle.plain.specs.Shape.{soundSets};
+ghost use Rattle.quick_items.specs.Item.{soundSteps};
+ghost use Rattle.quick_records.specs.Record.{soundTypes};
+ghost use Rattle.quick_records.specs.Shape.{soundSets};
 ghost use Rattle.recordings.specs.Feed.{capped, started, fed, finished, blockLength};
 ghost use Rattle.recordings.specs.Answers.{countsOf, frontNumber, frontPlace, stateOf};
 
@@ -68,9 +68,9 @@ fn check_blocks(steps: &Steps, types: &Types, sets: &Sets, recording: &[u8]) -> 
 pub fn check_recording(recording: &[u8]) -> RecordingChecked
     ensures { λ r. ⌜ countsOf r ≡ checkRecording (now (recording .entry)) ⌝ }
 {
-    let steps = steps::steps();
-    let types = plain::type_table();
-    let sets = plain::set_table();
+    let steps = quick_items::steps();
+    let types = quick_records::type_table();
+    let sets = quick_records::set_table();
     check_blocks(&steps, &types, &sets, recording)
 }
 

@@ -14,7 +14,7 @@ use lib.ListN.{length, getD, length-append}
 use mir.Syntax.{w8}
 use mir.Val.{Fits}
 use Rattle.rules.specs.Answer.{Answer, ok, refused, _>>=_, need_or_then_, later, octetsOf}
-use Rattle.rules.specs.Layout.{concat}
+use Rattle.rules.specs.Layout.{flatten}
 use Rattle.rules.specs.Presence.{flags, writePresence, readRows, allUsable, setFlags}
 use Rattle.rules.specs.Record.{Record, judge, readPlace}
 use Rattle.rules.specs.Entry.{newRecord}
@@ -54,7 +54,7 @@ module _ (i bits : ℕ) (bs : List ℕ) (o : Octets bs) (fits : bits < 2 ^ 64) (
   rows-of : setFlags 1 (categoryAt i .profile) (frnsOf bits) ≡ setRows i bits fits u
   rows-of = set-rows i bits fits u
 
-  from-rows : (a : Answer Came) → walk i (flags 63 (bitsOf (concat (setRows i bits fits u)))) 1 bs (startAt 0) ≡ a → walk i (flags 63 bits) 1 bs (startAt 0) ≡ a
+  from-rows : (a : Answer Came) → walk i (flags 63 (bitsOf (flatten (setRows i bits fits u)))) 1 bs (startAt 0) ≡ a → walk i (flags 63 bits) 1 bs (startAt 0) ≡ a
   from-rows a e = ap (λ n. walk i (flags 63 n) 1 bs (startAt 0)) (sym (set-rows-bits i bits fits u)) ∙ e
 
   fspec-of : octetsOf (writePresence (categoryAt i .profile) (setFlags 1 (categoryAt i .profile) (frnsOf bits))) ≡ fspecAt i bits

@@ -10,7 +10,7 @@ use native.Mathlib.Omega.{arith}
 use lib.ListN.{length, getD}
 use Rattle.rules.specs.Answer.{Answer, ok, refused, _>>=_, need_or_then_, if_then_else_, expect_or_}
 use Rattle.rules.specs.Field.{Field, spare, value, Kind, unsigned, signed, get, unpack}
-use Rattle.rules.specs.Layout.{Layout, fixed, repeated, led, extended, concat, readNum, readMany, readChain, readParts, unpackAll, readItem}
+use Rattle.rules.specs.Layout.{Layout, fixed, repeated, led, extended, flatten, readNum, readMany, readChain, readParts, unpackAll, readItem}
 use Rattle.rules.specs.Presence.{placeAt}
 use Rattle.rules.specs.Record.{Place}
 use Rattle.rules.specs.Entry.{categories, profileAt}
@@ -118,13 +118,13 @@ some-within (x ∷ l) zero a h = omega arith
 some-within (x ∷ l) (suc n) a h = omega (arith, some-within l n a h)
 
 -- a profile has no item at FRN 0, nor past FRN 35
-place-few : (ps : List (List (Option Place))) (f : ℕ) (p : Place) → length (concat ps) ≤ 35 → placeAt ps f ≡ some p → (1 ≤ f) × (f ≤ 35)
+place-few : (ps : List (List (Option Place))) (f : ℕ) (p : Place) → length (flatten ps) ≤ 35 → placeAt ps f ≡ some p → (1 ≤ f) × (f ≤ 35)
 place-few ps zero p l h = none-some h
-place-few ps (suc f) p l h = (omega arith, omega (arith, some-within (concat ps) f p h))
+place-few ps (suc f) p l h = (omega arith, omega (arith, some-within (flatten ps) f p h))
 
 pub check-few : (i f : ℕ) (bs : List ℕ) (n : ℕ) → checkAt i f bs ≡ ok n → (1 ≤ f) × (f ≤ 35)
 unfolding checkAt
 check-few i f bs n h =
     bind-elim _ _ h λ p q h₁.
     expect-elim _ _ q λ e.
-    place-few (profileAt categories i) f p (subst (λ ps. length (concat ps) ≤ 35) (profile-at i) (places-few i)) e
+    place-few (profileAt categories i) f p (subst (λ ps. length (flatten ps) ≤ 35) (profile-at i) (places-few i)) e

@@ -13,7 +13,7 @@ use lib.Seq.{drop-at}
 use mir.Syntax.{w8}
 use mir.Val.{Fits}
 use Rattle.rules.specs.Answer.{Answer, ok, refused, octetsOf}
-use Rattle.rules.specs.Layout.{concat, readChain}
+use Rattle.rules.specs.Layout.{flatten, readChain}
 use Rattle.rules.specs.Presence.{flags, readPresence, readRows, readPlaces}
 use Rattle.rules.specs.Record.{Record, places, judge, readPlace, writeRecord, readRecord}
 use Rattle.rules.specs.Entry.{RecordMap, mapOf, over, laid, startOf, countOf}
@@ -43,13 +43,13 @@ use Rattle.records.proofs.ItemLaws.{cameTo, octetsIn, walk-refused, wal
 module _ (i k : ℕ) (bs : List ℕ) (o : Octets bs) (b : k + length bs < 65_536) where
   -- the FSPEC was read, and the items
   module _ (ts : List (List Bool)) (bs₁ : List ℕ) (f : Fspec i bs ts bs₁) (h : readPresence 5 (categoryAt i .profile) bs ≡ ok (ts, bs₁)) where
-    set-ok : setAt i bs ≡ ok (bitsOf (concat ts), length bs - length bs₁)
+    set-ok : setAt i bs ≡ ok (bitsOf (flatten ts), length bs - length bs₁)
     unfolding setAt
     set-ok = bind-in _ h refl
 
-    from-items : (a : Answer Came) → walk i (flags 63 (bitsOf (concat ts))) 1 bs₁ (startAt (k + (length bs - length bs₁))) ≡ a
-        → walk i (flags 63 (bitsOf (concat ts))) 1 (drop (length bs - length bs₁) bs) (startAt (k + (length bs - length bs₁))) ≡ a
-    from-items a e = ap (λ l. walk i (flags 63 (bitsOf (concat ts))) 1 l (startAt (k + (length bs - length bs₁)))) (f .left) ∙ e
+    from-items : (a : Answer Came) → walk i (flags 63 (bitsOf (flatten ts))) 1 bs₁ (startAt (k + (length bs - length bs₁))) ≡ a
+        → walk i (flags 63 (bitsOf (flatten ts))) 1 (drop (length bs - length bs₁) bs) (startAt (k + (length bs - length bs₁))) ≡ a
+    from-items a e = ap (λ l. walk i (flags 63 (bitsOf (flatten ts))) 1 l (startAt (k + (length bs - length bs₁)))) (f .left) ∙ e
 
     module _ (r : Record) (rest : List ℕ) (g : readRows readPlace (categoryAt i .profile) ts bs₁ ≡ ok (r, rest)) where
       -- where the items start, and what the walk over them comes to
@@ -75,13 +75,13 @@ module _ (i k : ℕ) (bs : List ℕ) (o : Octets bs) (b : k + length bs < 65_536
         fspec-count : length r ≡ length bs - length bs₁
         fspec-count = rows-count i at ts bs₁ (f .rows) (f .clean) r rest g ∙ sym (f .took)
 
-        starts : cameTo i at r .starts ≡ over (map startOf (laid (k + length r) (places (categoryAt i)) (concat r))) (replicate 35 0)
+        starts : cameTo i at r .starts ≡ over (map startOf (laid (k + length r) (places (categoryAt i)) (flatten r))) (replicate 35 0)
         starts =
-            comes-starts i 0 (places (categoryAt i)) (concat r) (startAt at) [] 35 refl refl (places-few i)
+            comes-starts i 0 (places (categoryAt i)) (flatten r) (startAt at) [] 35 refl refl (places-few i)
             (let l : length bs ≡ length ts + length bs₁ = f .long in
             let t : length bs - length bs₁ ≡ length ts = f .took in
             omega (arith, items-long i at ts bs₁ (f .rows) (f .clean) r rest g, b))
-            ∙ ap (λ n. over (map startOf (laid (k + n) (places (categoryAt i)) (concat r))) (replicate 35 0)) (sym fspec-count)
+            ∙ ap (λ n. over (map startOf (laid (k + n) (places (categoryAt i)) (flatten r))) (replicate 35 0)) (sym fspec-count)
 
         ends : cameTo i at r .here ≡ k + length (octetsOf (writeRecord (categoryAt i) r))
         ends =
@@ -95,9 +95,9 @@ module _ (i k : ℕ) (bs : List ℕ) (o : Octets bs) (b : k + length bs < 65_536
             ≡ record { start = k; starts = cameTo i at r .starts; end = cameTo i at r .here; count = cameTo i at r .count }
         unfolding mapOf
         map-is =
-            rw (starts, ends, comes-count i 1 (places (categoryAt i)) (concat r) (startAt at) (stands i at ts bs₁ (f .rows) (f .clean) r rest g), zero-add (countOf (concat r)))
+            rw (starts, ends, comes-count i 1 (places (categoryAt i)) (flatten r) (startAt at) (stands i at ts bs₁ (f .rows) (f .clean) r rest g), zero-add (countOf (flatten r)))
 
-      by-judge : (t : TypePlace i) (x : Answer (Unit {0})) → judgeSet i (bitsOf (concat ts)) (cameTo i at r .kind) ≡ x → recordBy i k bs ≡ recordAt i k bs
+      by-judge : (t : TypePlace i) (x : Answer (Unit {0})) → judgeSet i (bitsOf (flatten ts)) (cameTo i at r .kind) ≡ x → recordBy i k bs ≡ recordAt i k bs
       unfolding recordBy recordAt readRecord
       by-judge t (refused n p) e =
           bind-in _ (later-in k set-ok) (bind-in _ (from-items _ (walk-came i at ts bs₁ (f .rows) (f .clean) r rest g)) (bind-out _ (later-out k e)))
@@ -124,7 +124,7 @@ module _ (i k : ℕ) (bs : List ℕ) (o : Octets bs) (b : k + length bs < 65_536
   by-rows ts bs₁ f h (ok (r, rest)) g =
       ⊎-elim
       (λ z. no-profile z h)
-      (λ t. by-judge ts bs₁ f h r rest g t (judgeSet i (bitsOf (concat ts)) (cameTo i (k + (length bs - length bs₁)) r .kind)) refl)
+      (λ t. by-judge ts bs₁ f h r rest g t (judgeSet i (bitsOf (flatten ts)) (cameTo i (k + (length bs - length bs₁)) r .kind)) refl)
       (type-place i)
 
   by-presence : (x : Answer (List (List Bool) × List ℕ)) → readPresence 5 (categoryAt i .profile) bs ≡ x → recordBy i k bs ≡ recordAt i k bs

@@ -13,7 +13,7 @@ use lib.Dec.{T}
 use lib.ListN.{length, take, drop, getD, replicate, length-append}
 use lib.Seq.{take-at, drop-at, drop-drop, getD-drop}
 use Rattle.rules.specs.Answer.{Answer, ok, refused, _>>=_, later, octetsOf}
-use Rattle.rules.specs.Layout.{Values, concat}
+use Rattle.rules.specs.Layout.{Values, flatten}
 use Rattle.rules.specs.Presence.{flags, usable, readRow, readRows}
 use Rattle.rules.specs.Record.{Place, Record, places, readPlace, writePlace}
 use Rattle.rules.specs.Entry.{categories, profileAt}
@@ -62,11 +62,11 @@ module _ (i : ℕ) where
 
   -- an item that is there
   module _ (g : ℕ) (p : Place) (ps qs : List (Option Place)) (ts us : List Bool) (bs : List ℕ) (w : Came)
-      (e : drop g (concat (profileAt categories i)) ≡ some p ∷ (ps ++ qs)) (o : Octets bs)
+      (e : drop g (flatten (profileAt categories i)) ≡ some p ∷ (ps ++ qs)) (o : Octets bs)
       (ih : (rest : List ℕ) (v : Came) → Octets rest → walk i (ts ++ us) (suc (suc g)) rest v ≡ (later (v .here) (readRow readPlace ps ts rest) >>= onward (suc g) ps us v)) where
     size : checkAt i (suc g) bs ≡ sizeOf (p .layout) bs
     unfolding checkAt
-    size = bind-in (λ q. sizeOf (q .layout) bs) (expect-in 21 (first (concat (profileAt categories i)) g (some p) (ps ++ qs) none e)) refl
+    size = bind-in (λ q. sizeOf (q .layout) bs) (expect-in 21 (first (flatten (profileAt categories i)) g (some p) (ps ++ qs) none e)) refl
 
     item-step : (x : Answer (Values × List ℕ)) → readPlace p bs ≡ x
         → walk i (true ∷ (ts ++ us)) (suc g) bs w ≡ (later (w .here) (readRow readPlace (some p ∷ ps) (true ∷ ts) bs) >>= onward g (some p ∷ ps) us w)
@@ -93,7 +93,7 @@ module _ (i : ℕ) where
         ∙ sym (later-map (w .here) (later n (readRow readPlace ps ts rest)) _ (onward g (some p ∷ ps) us w))
         ∙ ap (λ z. later (w .here) z >>= onward g (some p ∷ ps) us w) (sym (bind-in _ h refl))
 
-  walk-row : (g : ℕ) (ps qs : List (Option Place)) (ts us : List Bool) (bs : List ℕ) (w : Came) → drop g (concat (profileAt categories i)) ≡ ps ++ qs → T (usable ps ts) → Octets bs
+  walk-row : (g : ℕ) (ps qs : List (Option Place)) (ts us : List Bool) (bs : List ℕ) (w : Came) → drop g (flatten (profileAt categories i)) ≡ ps ++ qs → T (usable ps ts) → Octets bs
       → walk i (ts ++ us) (suc g) bs w ≡ (later (w .here) (readRow readPlace ps ts bs) >>= onward g ps us w)
   unfolding walk readRow usable
   walk-row g [] qs [] us bs w e u o = ap (λ f. walk i us f bs w) (sym (add-zero (suc g))) ∙ sym (bind-in (onward g [] us w) (later-in (w .here) refl) refl)
@@ -116,15 +116,15 @@ module _ (i : ℕ) where
   -- ---- rows end to end
 
   abbrev rowsOn : ℕ → List (List (Option Place)) → List (List Bool) → List Bool → Came → Record × List ℕ → Answer Came
-  rowsOn g ps ts us w x = walk i us (suc g + length (concat ts)) (x .1) (comes i (suc g) (concat ps) (concat (x .0)) w)
+  rowsOn g ps ts us w x = walk i us (suc g + length (flatten ts)) (x .1) (comes i (suc g) (flatten ps) (flatten (x .0)) w)
 
   -- a row, then those after it
   module _ (g : ℕ) (p : List (Option Place)) (ps : List (List (Option Place))) (t : List Bool) (ts : List (List Bool)) (us : List Bool) (bs : List ℕ) (w : Came)
       (u : T (usable p t)) (o : Octets bs)
       (ih : (rest : List ℕ) (v : Came) → Octets rest
-      → walk i (concat ts ++ us) (suc (g + length p)) rest v ≡ (later (v .here) (readRows readPlace ps ts rest) >>= rowsOn (g + length p) ps ts us v)) where
+      → walk i (flatten ts ++ us) (suc (g + length p)) rest v ≡ (later (v .here) (readRows readPlace ps ts rest) >>= rowsOn (g + length p) ps ts us v)) where
     row-step : (x : Answer (List (Option Values) × List ℕ)) → readRow readPlace p t bs ≡ x
-        → (later (w .here) x >>= onward g p (concat ts ++ us) w) ≡ (later (w .here) (readRows readPlace (p ∷ ps) (t ∷ ts) bs) >>= rowsOn g (p ∷ ps) (t ∷ ts) us w)
+        → (later (w .here) x >>= onward g p (flatten ts ++ us) w) ≡ (later (w .here) (readRows readPlace (p ∷ ps) (t ∷ ts) bs) >>= rowsOn g (p ∷ ps) (t ∷ ts) us w)
     unfolding readRows
     row-step (refused n q) h = bind-out _ (later-out (w .here) refl) ∙ sym (bind-out _ (later-out (w .here) (bind-out _ h)))
     row-step (ok (vs, rest)) h =
@@ -136,30 +136,30 @@ module _ (i : ℕ) where
         let b : w₁ .here ≡ w .here + n = comes-here i (suc g) p vs w ∙ ap (λ l. w .here + length l) (k .octets) ∙ (let c : w .here + length (s .out) ≡ w .here + n = omega arith in c) in
         let pl : suc g + length p ≡ suc (g + length p) = omega arith in
         let tl : length t ≡ length p = usable-length p t u in
-        let ll : length (t ++ concat ts) ≡ length t + length (concat ts) = length-append t (concat ts) in
-        let fl : suc (g + length p) + length (concat ts) ≡ suc g + length (t ++ concat ts) = omega arith in
+        let ll : length (t ++ flatten ts) ≡ length t + length (flatten ts) = length-append t (flatten ts) in
+        let fl : suc (g + length p) + length (flatten ts) ≡ suc g + length (t ++ flatten ts) = omega arith in
         bind-in _ (later-in (w .here) refl) refl
-        ∙ ap (λ f. walk i (concat ts ++ us) f rest w₁) pl
+        ∙ ap (λ f. walk i (flatten ts ++ us) f rest w₁) pl
         ∙ ih rest w₁ (after s o)
         ∙ bind-cong _ _ _ (λ y.
-        ap₂ (λ f v. walk i us f (y .1) v) fl (ap (λ m. comes i m (concat ps) (concat (y .0)) w₁) (sym pl) ∙ sym (comes-append i (suc g) p (concat ps) vs (concat (y .0)) w (k .count))))
+        ap₂ (λ f v. walk i us f (y .1) v) fl (ap (λ m. comes i m (flatten ps) (flatten (y .0)) w₁) (sym pl) ∙ sym (comes-append i (suc g) p (flatten ps) vs (flatten (y .0)) w (k .count))))
         ∙ ap (λ m. later m (readRows readPlace ps ts rest) >>= (λ y. rowsOn g (p ∷ ps) (t ∷ ts) us w (vs ∷ y .0, y .1))) b
         ∙ ap (λ z. z >>= (λ y. rowsOn g (p ∷ ps) (t ∷ ts) us w (vs ∷ y .0, y .1))) (sym (later-later (w .here) n (readRows readPlace ps ts rest)))
         ∙ sym (later-map (w .here) (later n (readRows readPlace ps ts rest)) _ (rowsOn g (p ∷ ps) (t ∷ ts) us w))
         ∙ ap (λ z. later (w .here) z >>= rowsOn g (p ∷ ps) (t ∷ ts) us w) (sym (bind-in _ h refl))
 
   walk-rows : (g : ℕ) (ps : List (List (Option Place))) (ts : List (List Bool)) (us : List Bool) (bs : List ℕ) (w : Came)
-      → drop g (concat (profileAt categories i)) ≡ concat ps → RowsUsable ps ts → Octets bs
-      → walk i (concat ts ++ us) (suc g) bs w ≡ (later (w .here) (readRows readPlace ps ts bs) >>= rowsOn g ps ts us w)
+      → drop g (flatten (profileAt categories i)) ≡ flatten ps → RowsUsable ps ts → Octets bs
+      → walk i (flatten ts ++ us) (suc g) bs w ≡ (later (w .here) (readRows readPlace ps ts bs) >>= rowsOn g ps ts us w)
   unfolding readRows
   walk-rows g ps [] us bs w e u o =
-      ap₂ (λ f v. walk i us f bs v) (sym (add-zero (suc g))) (sym (comes-none i (suc g) (concat ps) w)) ∙ sym (bind-in (rowsOn g ps [] us w) (later-in (w .here) refl) refl)
+      ap₂ (λ f v. walk i us f bs v) (sym (add-zero (suc g))) (sym (comes-none i (suc g) (flatten ps) w)) ∙ sym (bind-in (rowsOn g ps [] us w) (later-in (w .here) refl) refl)
   walk-rows g [] (t ∷ ts) us bs w e u o = absurd u
   walk-rows g (p ∷ ps) (t ∷ ts) us bs w e u o =
-      ap (λ l. walk i l (suc g) bs w) (append-assoc t (concat ts) us)
-      ∙ walk-row g p (concat ps) t (concat ts ++ us) bs w e (u .0) o
+      ap (λ l. walk i l (suc g) bs w) (append-assoc t (flatten ts) us)
+      ∙ walk-row g p (flatten ps) t (flatten ts ++ us) bs w e (u .0) o
       ∙ row-step g p ps t ts us bs w (u .0) o
-      (λ rest v r. walk-rows (g + length p) ps ts us rest v (past (concat (profileAt categories i)) g p (concat ps) e) (u .1) r) (readRow readPlace p t bs) refl
+      (λ rest v r. walk-rows (g + length p) ps ts us rest v (past (flatten (profileAt categories i)) g p (flatten ps) e) (u .1) r) (readRow readPlace p t bs) refl
 
 -- ---- the items of a set
 
@@ -169,10 +169,10 @@ walk-blank i zero f bs w = refl
 walk-blank i (suc m) f bs w = walk-blank i m (f + 1) bs w
 
 pub items-law : (i : ℕ) (ts : List (List Bool)) (bs : List ℕ) (k : ℕ) → RowsUsable (categoryAt i .profile) ts → Octets bs
-    → walk i (flags 63 (bitsOf (concat ts))) 1 bs (startAt k)
-    ≡ (later k (readRows readPlace (categoryAt i .profile) ts bs) >>= (λ x. ok (comes i 1 (places (categoryAt i)) (concat (x .0)) (startAt k))))
+    → walk i (flags 63 (bitsOf (flatten ts))) 1 bs (startAt k)
+    ≡ (later k (readRows readPlace (categoryAt i .profile) ts bs) >>= (λ x. ok (comes i 1 (places (categoryAt i)) (flatten (x .0)) (startAt k))))
 items-law i ts bs k u o =
-    let few : length (concat ts) ≤ 63 = omega (arith, rows-few (categoryAt i .profile) ts u, places-few i) in
-    ap (λ l. walk i l 1 bs (startAt k)) (bits-flags-tail (concat ts) ∙ over-pad (concat ts) 63 false few)
-    ∙ walk-rows i 0 (categoryAt i .profile) ts (replicate (63 - length (concat ts)) false) bs (startAt k) (ap concat (sym (profile-at i))) u o
-    ∙ bind-cong _ _ _ (λ y. walk-blank i (63 - length (concat ts)) _ (y .1) (comes i 1 (places (categoryAt i)) (concat (y .0)) (startAt k)))
+    let few : length (flatten ts) ≤ 63 = omega (arith, rows-few (categoryAt i .profile) ts u, places-few i) in
+    ap (λ l. walk i l 1 bs (startAt k)) (bits-flags-tail (flatten ts) ∙ over-pad (flatten ts) 63 false few)
+    ∙ walk-rows i 0 (categoryAt i .profile) ts (replicate (63 - length (flatten ts)) false) bs (startAt k) (ap flatten (sym (profile-at i))) u o
+    ∙ bind-cong _ _ _ (λ y. walk-blank i (63 - length (flatten ts)) _ (y .1) (comes i 1 (places (categoryAt i)) (flatten (y .0)) (startAt k)))

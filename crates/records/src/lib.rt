@@ -2,6 +2,7 @@
 // numbers and their order"). Profile 0 is category 017, edition 1.3; profile 1 is category 018, edition 1.6.
 use items::ItemCheck;
 use items::check_item;
+use quick_items::told_item;
 use sets::ItemSet;
 use sets::Judgement;
 use sets::SetRead;
@@ -11,7 +12,6 @@ use sets::octets_of;
 use sets::set_number;
 use sets::type_frn;
 use sets::usable;
-use steps::told_item;
 ghost use mathlib.Core.Path.{_≡_};
 ghost use Prim.Native.Nat.{_+_, _^_, _<_};
 ghost use lib.ListN.{length, getD};

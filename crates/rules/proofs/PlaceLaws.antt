@@ -11,7 +11,7 @@ use native.Mathlib.Nat.{add-assoc, add-zero}
 use lib.Dec.{eqb}
 use lib.ListN.{length, getD, getElem?, length-append}
 use Rattle.rules.specs.Answer.{ok, octetsOf}
-use Rattle.rules.specs.Layout.{Values, concat, octets}
+use Rattle.rules.specs.Layout.{Values, flatten, octets}
 use Rattle.rules.specs.Record.{Place, Category, Record, places, named, writePlace, writeRecord}
 use Rattle.rules.specs.Legal.{bodyOf, blockOf, LastRow}
 use Rattle.rules.specs.Entry.{Laid, laid, laidItems, laidAs, Numbered, numbered, countOf}
@@ -99,9 +99,9 @@ pub record-tiles : (c : Category) (k : ℕ) (r : Record) (u : List ℕ) → writ
     → EndToEnd (k + length r) (k + length (octetsOf (writeRecord c r))) (laidItems c k r)
 record-tiles c k r u h =
     let w : RecordWritten c r u = record-written c r u h in
-    let e : length (octetsOf (writeRecord c r)) ≡ length r + length (itemOctets (places c) (concat r)) =
-    ap length (octetsOf-ok h ∙ w .joins) ∙ length-append (w .fspec) (itemOctets (places c) (concat r)) ∙ ap (λ n. n + length (itemOctets (places c) (concat r))) (w .count) in
-    laid-tiles (places c) (concat r) (k + length r) (k + length (octetsOf (writeRecord c r))) (omega arith)
+    let e : length (octetsOf (writeRecord c r)) ≡ length r + length (itemOctets (places c) (flatten r)) =
+    ap length (octetsOf-ok h ∙ w .joins) ∙ length-append (w .fspec) (itemOctets (places c) (flatten r)) ∙ ap (λ n. n + length (itemOctets (places c) (flatten r))) (w .count) in
+    laid-tiles (places c) (flatten r) (k + length r) (k + length (octetsOf (writeRecord c r))) (omega arith)
 
 tiles-le : (ls : List (Option Laid)) (k e : ℕ) → EndToEnd k e ls → k ≤ e
 tiles-le [] k e t = omega arith

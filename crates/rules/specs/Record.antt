@@ -7,7 +7,7 @@ use mathlib.Core.List.{List, [], _∷_, _++_}
 use lib.Dec.{eqb}
 use lib.IntN.{pos, negsuc}
 use Rattle.rules.specs.Answer.{Answer, ok, refused, _>>=_, need_or_then_, if_then_else_, Read, Write}
-use Rattle.rules.specs.Layout.{Layout, Values, concat, readItem, writeItem}
+use Rattle.rules.specs.Layout.{Layout, Values, flatten, readItem, writeItem}
 use Rattle.rules.specs.Presence.{has, writePlaces, readPlaces}
 
 -- what the profile has at an FRN: the number after the slash of the item's reference, and its layout
@@ -45,7 +45,7 @@ Record = List (List (Option Values))
 
 -- the places of a profile, FRN 1 first
 abbrev pub places : Category → List (Option Place)
-places c = concat (c .profile)
+places c = flatten (c .profile)
 
 -- the items that are there, each with its reference, in the order of the profile
 abbrev pub named : List (Option Place) → List (Option Values) → List (ℕ × Values)
@@ -56,7 +56,7 @@ named (none ∷ ps) (some v ∷ vs) = named ps vs
 named (some p ∷ ps) (some v ∷ vs) = (p .reference, v) ∷ named ps vs
 
 abbrev pub items : Category → Record → List (ℕ × Values)
-items c r = named (places c) (concat r)
+items c r = named (places c) (flatten r)
 
 abbrev pub references : List (ℕ × Values) → List ℕ
 references [] = []

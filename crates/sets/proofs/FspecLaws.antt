@@ -15,7 +15,7 @@ use borrow.Author.Tests.{lt-ltb, eq-eqb, ne-eqb, eqb-true, eqb-false, lt-leb, le
 use lib.ListN.{length, take, drop, getD, replicate, length-append, length-drop, length-map, length-replicate, take-append-drop, replicate-append-replicate, List·getD-eq-default}
 use lib.Seq.{drop-cons, drop-drop, length-take-le, take-at, drop-at}
 use Rattle.rules.specs.Answer.{ok, octetsOf}
-use Rattle.rules.specs.Layout.{concat, octets, writeNum, writeChain}
+use Rattle.rules.specs.Layout.{flatten, octets, writeNum, writeChain}
 use Rattle.rules.specs.Presence.{flags, number, present, usable, house, numbers, writePresence, has, allUsable, rowFlags, anySet, keepRow, setFlags}
 use Rattle.rules.specs.Record.{Place, places}
 use Rattle.rules.specs.Entry.{over}
@@ -67,12 +67,12 @@ skip-step [] (suc g) ts = refl
 skip-step (x ∷ l) zero ts = refl
 skip-step (x ∷ l) (suc g) ts = skip-step l g ts
 
-usable-from : {P : Type 0} (ps : List (List (Option P))) (g : ℕ) (ts : List Bool) → allUsable ps (frnsFrom (suc g) ts) ≡ within ts (map present (drop g (concat ps)))
+usable-from : {P : Type 0} (ps : List (List (Option P))) (g : ℕ) (ts : List Bool) → allUsable ps (frnsFrom (suc g) ts) ≡ within ts (map present (drop g (flatten ps)))
 usable-from ps g [] = refl
-usable-from ps g (false ∷ ts) = usable-from ps (suc g) ts ∙ sym (skip-step (concat ps) g ts)
-usable-from ps g (true ∷ ts) = ap (λ b. present (getD (concat ps) g none) && b) (usable-from ps (suc g) ts) ∙ sym (usable-step (concat ps) g ts)
+usable-from ps g (false ∷ ts) = usable-from ps (suc g) ts ∙ sym (skip-step (flatten ps) g ts)
+usable-from ps g (true ∷ ts) = ap (λ b. present (getD (flatten ps) g none) && b) (usable-from ps (suc g) ts) ∙ sym (usable-step (flatten ps) g ts)
 
-pub frns-usable : {P : Type 0} (ps : List (List (Option P))) (ts : List Bool) → allUsable ps (frnsFrom 0 ts) ≡ within ts (false ∷ map present (concat ps))
+pub frns-usable : {P : Type 0} (ps : List (List (Option P))) (ts : List Bool) → allUsable ps (frnsFrom 0 ts) ≡ within ts (false ∷ map present (flatten ps))
 frns-usable ps [] = refl
 frns-usable ps (false ∷ ts) = usable-from ps 0 ts
 frns-usable ps (true ∷ ts) = refl
@@ -89,11 +89,11 @@ row-is f (q ∷ p) ts h =
     ap₂ _∷_ (ap (λ x. has x (frnsFrom 0 ts)) (sym (zero-add f)) ∙ frns-has 0 f ts) (row-is (suc f) p ts (omega arith))
     ∙ ap (take (suc (length p))) (sym (drop-cons ts f false (omega arith)))
 
-rows-are : {P : Type 0} (f : ℕ) (ps : List (List (Option P))) (ts : List Bool) → f + length (concat ps) ≤ length ts → setFlags f ps (frnsFrom 0 ts) ≡ trim ps (drop f ts)
+rows-are : {P : Type 0} (f : ℕ) (ps : List (List (Option P))) (ts : List Bool) → f + length (flatten ps) ≤ length ts → setFlags f ps (frnsFrom 0 ts) ≡ trim ps (drop f ts)
 unfolding setFlags
 rows-are f [] ts h = refl
 rows-are f (p ∷ ps) ts h =
-    let a : length (p ++ concat ps) ≡ length p + length (concat ps) = length-append p (concat ps) in
+    let a : length (p ++ flatten ps) ≡ length p + length (flatten ps) = length-append p (flatten ps) in
     rw (row-is f p ts (omega arith), rows-are (f + length p) ps ts (omega arith), drop-drop (length p) f ts)
 
 any-number : (ts : List Bool) → anySet ts ≡ ltb 0 (number ts)
@@ -134,54 +134,54 @@ kept Q false t [] f g = f refl refl
 kept Q false t (u ∷ ts) f g = g
 
 -- the flags of a row, and those after it
-module _ {P : Type 0} (p : List (Option P)) (ps : List (List (Option P))) (ts : List Bool) (h : length (p ++ concat ps) ≤ length ts) where
+module _ {P : Type 0} (p : List (Option P)) (ps : List (List (Option P))) (ts : List Bool) (h : length (p ++ flatten ps) ≤ length ts) where
   row-fits : length p ≤ length ts
-  row-fits = let a : length (p ++ concat ps) ≡ length p + length (concat ps) = length-append p (concat ps) in omega arith
+  row-fits = let a : length (p ++ flatten ps) ≡ length p + length (flatten ps) = length-append p (flatten ps) in omega arith
 
   row-length : length (take (length p) ts) ≡ length p
   row-length = length-take-le (length p) ts row-fits
 
-  rest-fits : length (concat ps) ≤ length (drop (length p) ts)
+  rest-fits : length (flatten ps) ≤ length (drop (length p) ts)
   rest-fits =
-      let a : length (p ++ concat ps) ≡ length p + length (concat ps) = length-append p (concat ps) in
+      let a : length (p ++ flatten ps) ≡ length p + length (flatten ps) = length-append p (flatten ps) in
       let b : length (drop (length p) ts) ≡ length ts - length p = length-drop (length p) ts in
       omega arith
 
-  row-within : within ts (map present (p ++ concat ps)) ≡ within (take (length p) ts) (map present p) && within (drop (length p) ts) (map present (concat ps))
+  row-within : within ts (map present (p ++ flatten ps)) ≡ within (take (length p) ts) (map present p) && within (drop (length p) ts) (map present (flatten ps))
   row-within =
-      ap₂ within (sym (take-append-drop (length p) ts)) (map-append present p (concat ps))
-      ∙ within-append (take (length p) ts) (map present p) (drop (length p) ts) (map present (concat ps)) (row-length ∙ sym (length-map p present))
+      ap₂ within (sym (take-append-drop (length p) ts)) (map-append present p (flatten ps))
+      ∙ within-append (take (length p) ts) (map present p) (drop (length p) ts) (map present (flatten ps)) (row-length ∙ sym (length-map p present))
 
 -- each row is usable
-pub trim-usable : (ps : List (List (Option Place))) (ts : List Bool) → length (concat ps) ≤ length ts → within ts (map present (concat ps)) ≡ true → RowsUsable ps (trim ps ts)
+pub trim-usable : (ps : List (List (Option Place))) (ts : List Bool) → length (flatten ps) ≤ length ts → within ts (map present (flatten ps)) ≡ true → RowsUsable ps (trim ps ts)
 trim-usable [] ts h w = tt
 trim-usable (p ∷ ps) ts h w =
-    let b : within (take (length p) ts) (map present p) && within (drop (length p) ts) (map present (concat ps)) ≡ true = sym (row-within p ps ts h) ∙ w in
+    let b : within (take (length p) ts) (map present p) && within (drop (length p) ts) (map present (flatten ps)) ≡ true = sym (row-within p ps ts h) ∙ w in
     let u : usable p (take (length p) ts) ≡ true =
-    usable-within p (take (length p) ts) (row-length p ps ts h) ∙ both-left (within (take (length p) ts) (map present p)) (within (drop (length p) ts) (map present (concat ps))) b in
+    usable-within p (take (length p) ts) (row-length p ps ts h) ∙ both-left (within (take (length p) ts) (map present p)) (within (drop (length p) ts) (map present (flatten ps))) b in
     kept (RowsUsable (p ∷ ps)) (anySet (take (length p) ts)) (take (length p) ts) (trim ps (drop (length p) ts)) (λ _ _. tt)
-    (T-true u, trim-usable ps (drop (length p) ts) (rest-fits p ps ts h) (both-right (within (take (length p) ts) (map present p)) (within (drop (length p) ts) (map present (concat ps))) b))
+    (T-true u, trim-usable ps (drop (length p) ts) (rest-fits p ps ts h) (both-right (within (take (length p) ts) (map present p)) (within (drop (length p) ts) (map present (flatten ps))) b))
 
 -- they are the flags themselves, up to those at the end that are not set
-pub trim-flags : (ps : List (List (Option Place))) (ts : List Bool) → length (concat ps) ≤ length ts → within ts (map present (concat ps)) ≡ true
-    → concat (trim ps ts) ++ replicate (length ts - length (concat (trim ps ts))) false ≡ ts
+pub trim-flags : (ps : List (List (Option Place))) (ts : List Bool) → length (flatten ps) ≤ length ts → within ts (map present (flatten ps)) ≡ true
+    → flatten (trim ps ts) ++ replicate (length ts - length (flatten (trim ps ts))) false ≡ ts
 trim-flags [] ts h w = ap (λ n. replicate n false) (sub-zero (length ts)) ∙ sym (no-places ts w)
 trim-flags (p ∷ ps) ts h w =
     let r : List Bool = take (length p) ts in
     let s : List Bool = drop (length p) ts in
-    let b : within r (map present p) && within s (map present (concat ps)) ≡ true = sym (row-within p ps ts h) ∙ w in
-    let ih : concat (trim ps s) ++ replicate (length s - length (concat (trim ps s))) false ≡ s =
-    trim-flags ps s (rest-fits p ps ts h) (both-right (within r (map present p)) (within s (map present (concat ps))) b) in
+    let b : within r (map present p) && within s (map present (flatten ps)) ≡ true = sym (row-within p ps ts h) ∙ w in
+    let ih : flatten (trim ps s) ++ replicate (length s - length (flatten (trim ps s))) false ≡ s =
+    trim-flags ps s (rest-fits p ps ts h) (both-right (within r (map present p)) (within s (map present (flatten ps))) b) in
     let rs : r ++ s ≡ ts = take-append-drop (length p) ts in
     let ls : length ts ≡ length r + length s = sym (ap length rs) ∙ length-append r s in
-    kept (λ l. concat l ++ replicate (length ts - length (concat l)) false ≡ ts) (anySet r) r (trim ps s)
+    kept (λ l. flatten l ++ replicate (length ts - length (flatten l)) false ≡ ts) (anySet r) r (trim ps s)
     (λ e z.
-    let es : replicate (length s) false ≡ s = ap (λ n. replicate n false) (sym (sub-zero (length s))) ∙ ap (λ l. concat l ++ replicate (length s - length (concat l)) false) (sym z) ∙ ih in
+    let es : replicate (length s) false ≡ s = ap (λ n. replicate n false) (sym (sub-zero (length s))) ∙ ap (λ l. flatten l ++ replicate (length s - length (flatten l)) false) (sym z) ∙ ih in
     ap (λ n. replicate n false) (sub-zero (length ts) ∙ ls) ∙ sym (replicate-append-replicate (length r) (length s) false) ∙ ap₂ _++_ (sym (none-set r e)) es ∙ rs)
-    (append-assoc r (concat (trim ps s)) (replicate (length ts - length (r ++ concat (trim ps s))) false)
-    ∙ ap (λ n. r ++ (concat (trim ps s) ++ replicate n false))
-    (let a : length (r ++ concat (trim ps s)) ≡ length r + length (concat (trim ps s)) = length-append r (concat (trim ps s)) in
-    let d : length ts - length (r ++ concat (trim ps s)) ≡ length s - length (concat (trim ps s)) = omega arith in d)
+    (append-assoc r (flatten (trim ps s)) (replicate (length ts - length (r ++ flatten (trim ps s))) false)
+    ∙ ap (λ n. r ++ (flatten (trim ps s) ++ replicate n false))
+    (let a : length (r ++ flatten (trim ps s)) ≡ length r + length (flatten (trim ps s)) = length-append r (flatten (trim ps s)) in
+    let d : length ts - length (r ++ flatten (trim ps s)) ≡ length s - length (flatten (trim ps s)) = omega arith in d)
     ∙ ap (λ l. r ++ l) ih
     ∙ rs)
 
@@ -267,20 +267,20 @@ flags-none zero = refl
 flags-none (suc k) = ap₂ _∷_ (lt-leb (2 ^ k) 0 (pow-pos k)) (ap (flags k) (mod-eq-of-lt (pow-pos k)) ∙ flags-none k)
 
 -- a set whose rows are all empty is empty
-trim-none : (ps : List (List (Option Place))) (ts : List Bool) → length (concat ps) ≤ length ts → within ts (map present (concat ps)) ≡ true → trim ps ts ≡ [] → number ts ≡ 0
+trim-none : (ps : List (List (Option Place))) (ts : List Bool) → length (flatten ps) ≤ length ts → within ts (map present (flatten ps)) ≡ true → trim ps ts ≡ [] → number ts ≡ 0
 trim-none ps ts h w e =
-    ap number (sym (trim-flags ps ts h w) ∙ ap (λ l. concat l ++ replicate (length ts - length (concat l)) false) e) ∙ number-none (length ts - 0)
+    ap number (sym (trim-flags ps ts h w) ∙ ap (λ l. flatten l ++ replicate (length ts - length (flatten l)) false) e) ∙ number-none (length ts - 0)
 
 rows-done : (l n : ℕ) → rowsLeft l n 0 ≡ n
 unfolding rowsLeft
 rows-done zero n = refl
 rows-done (suc l) n = if-true _ refl refl
 
-concat-sevens : (ps : List (List (Option Place))) → sevens ps ≡ true → length (concat ps) ≡ 7 * length ps
-concat-sevens [] s = refl
-concat-sevens (p ∷ ps) s =
-    length-append p (concat ps)
-    ∙ ap₂ _+_ (eqb-true (length p) 7 (both-left (eqb (length p) 7) (sevens ps) s)) (concat-sevens ps (both-right (eqb (length p) 7) (sevens ps) s))
+flatten-sevens : (ps : List (List (Option Place))) → sevens ps ≡ true → length (flatten ps) ≡ 7 * length ps
+flatten-sevens [] s = refl
+flatten-sevens (p ∷ ps) s =
+    length-append p (flatten ps)
+    ∙ ap₂ _+_ (eqb-true (length p) 7 (both-left (eqb (length p) 7) (sevens ps) s)) (flatten-sevens ps (both-right (eqb (length p) 7) (sevens ps) s))
     ∙ (let e : 7 + 7 * length ps ≡ 7 * suc (length ps) = omega arith in e)
 
 -- the first row of a number's flags, where there are so many more
@@ -293,11 +293,11 @@ module _ (p : List (Option Place)) (ps : List (List (Option Place))) (m x : ℕ)
       ap (λ k. keepRow (anySet (take k (flags (7 + m) x))) (take k (flags (7 + m) x)) (trim ps (drop k (flags (7 + m) x)))) seven
       ∙ ap₂ (λ r l. keepRow (anySet r) r (trim ps l)) (row-flags m x h .0) (row-flags m x h .1)
 
-  rest-within : within (flags (7 + m) x) (map present (p ++ concat ps)) ≡ true → within (flags m (x % 2 ^ m)) (map present (concat ps)) ≡ true
+  rest-within : within (flags (7 + m) x) (map present (p ++ flatten ps)) ≡ true → within (flags m (x % 2 ^ m)) (map present (flatten ps)) ≡ true
   rest-within w =
-      both-right (within (flags 7 (x / 2 ^ m)) (map present p)) (within (flags m (x % 2 ^ m)) (map present (concat ps)))
-      (sym (within-append (flags 7 (x / 2 ^ m)) (map present p) (flags m (x % 2 ^ m)) (map present (concat ps)) (flags-length 7 (x / 2 ^ m) ∙ sym (length-map p present ∙ seven)))
-      ∙ ap₂ within (sym (flags-split 7 m x h)) (sym (map-append present p (concat ps)))
+      both-right (within (flags 7 (x / 2 ^ m)) (map present p)) (within (flags m (x % 2 ^ m)) (map present (flatten ps)))
+      (sym (within-append (flags 7 (x / 2 ^ m)) (map present p) (flags m (x % 2 ^ m)) (map present (flatten ps)) (flags-length 7 (x / 2 ^ m) ∙ sym (length-map p present ∙ seven)))
+      ∙ ap₂ within (sym (flags-split 7 m x h)) (sym (map-append present p (flatten ps)))
       ∙ w)
 
 count-step : (l n x y : ℕ) → (x ≡ 0 → ⊥) → y ≡ x % 2 ^ (63 - 7 * (n + 1)) → rowsLeft (suc l) n x ≡ rowsLeft l (n + 1) y
@@ -305,8 +305,8 @@ unfolding rowsLeft
 count-step l n x y h e = if-false _ (ne-eqb x 0 h) (ap (rowsLeft l (n + 1)) (sym e))
 
 -- the rows left, the octets so far given
-trim-count : (ps : List (List (Option Place))) (n m x l : ℕ) → sevens ps ≡ true → m ≡ 63 - 7 * n → length (concat ps) ≤ m → x < 2 ^ m
-    → within (flags m x) (map present (concat ps)) ≡ true → length ps ≤ l → n + length (trim ps (flags m x)) ≡ rowsLeft l n x
+trim-count : (ps : List (List (Option Place))) (n m x l : ℕ) → sevens ps ≡ true → m ≡ 63 - 7 * n → length (flatten ps) ≤ m → x < 2 ^ m
+    → within (flags m x) (map present (flatten ps)) ≡ true → length ps ≤ l → n + length (trim ps (flags m x)) ≡ rowsLeft l n x
 trim-count [] n m x l s e f h w c =
     let z : x ≡ 0 = sym (number-flags m x h) ∙ ap number (no-places (flags m x) w) ∙ number-none (length (flags m x)) in
     add-zero n ∙ sym (rows-done l n) ∙ ap (rowsLeft l n) (sym z)
@@ -316,7 +316,7 @@ trim-count (p ∷ ps) n m x (suc l) s e f h w c =
     (λ k q o v. trim-count ps (n + 1) k (x % 2 ^ k) l (both-right (eqb (length p) 7) (sevens ps) s) q o (mod-lt x (pow-pos k)) v (omega arith))
   where
     go : (t : Bool) → eqb x 0 ≡ t
-        → ((k : ℕ) → k ≡ 63 - 7 * (n + 1) → length (concat ps) ≤ k → within (flags k (x % 2 ^ k)) (map present (concat ps)) ≡ true
+        → ((k : ℕ) → k ≡ 63 - 7 * (n + 1) → length (flatten ps) ≤ k → within (flags k (x % 2 ^ k)) (map present (flatten ps)) ≡ true
         → n + 1 + length (trim ps (flags k (x % 2 ^ k))) ≡ rowsLeft l (n + 1) (x % 2 ^ k))
         → n + length (trim (p ∷ ps) (flags m x)) ≡ rowsLeft (suc l) n x
     go true z ih =
@@ -329,13 +329,13 @@ trim-count (p ∷ ps) n m x (suc l) s e f h w c =
         ∙ ap (rowsLeft (suc l) n) (sym x0)
     go false z ih =
         let k : ℕ = m - 7 in
-        let a : length (p ++ concat ps) ≡ length p + length (concat ps) = length-append p (concat ps) in
+        let a : length (p ++ flatten ps) ≡ length p + length (flatten ps) = length-append p (flatten ps) in
         let p7 : length p ≡ 7 = eqb-true (length p) 7 (both-left (eqb (length p) 7) (sevens ps) s) in
         let mk : m ≡ 7 + k = omega arith in
         let q : k ≡ 63 - 7 * (n + 1) = omega arith in
         let hk : x < 2 ^ (7 + k) = subst (λ j. x < 2 ^ j) mk h in
-        let wk : within (flags (7 + k) x) (map present (p ++ concat ps)) ≡ true = subst (λ j. within (flags j x) (map present (p ++ concat ps)) ≡ true) mk w in
-        let fk : length (p ++ concat ps) ≤ length (flags (7 + k) x) = rw (flags-length (7 + k) x) (omega arith) in
+        let wk : within (flags (7 + k) x) (map present (p ++ flatten ps)) ≡ true = subst (λ j. within (flags j x) (map present (p ++ flatten ps)) ≡ true) mk w in
+        let fk : length (p ++ flatten ps) ≤ length (flags (7 + k) x) = rw (flags-length (7 + k) x) (omega arith) in
         let row : List Bool = flags 7 (x / 2 ^ k) in
         let more : List (List Bool) = trim ps (flags k (x % 2 ^ k)) in
         let fr : trim (p ∷ ps) (flags (7 + k) x) ≡ keepRow (anySet row) row more = first-row p ps k x s hk in
@@ -372,11 +372,11 @@ seven-bits x m j h =
     let e : m ≡ (m - (7 + j)) + 7 + j = omega arith in
     ap (λ k. x % 2 ^ k / 2 ^ j % 128) e ∙ ap (λ y. y % 128) (field x (m - (7 + j) + 7) j) ∙ mod-mod-pow (x / 2 ^ j) (m - (7 + j)) 7
 
-trim-octet : (ps : List (List (Option Place))) (m x k : ℕ) → sevens ps ≡ true → length (concat ps) ≤ m → x < 2 ^ m → k < length (trim ps (flags m x))
+trim-octet : (ps : List (List (Option Place))) (m x k : ℕ) → sevens ps ≡ true → length (flatten ps) ≤ m → x < 2 ^ m → k < length (trim ps (flags m x))
     → getD (map number (trim ps (flags m x))) k 0 ≡ x / 2 ^ (m - 7 - 7 * k) % 128
 trim-octet [] m x k s f h l = absurd (omega arith)
 trim-octet (p ∷ ps) m x k s f h l =
-    let a : length (p ++ concat ps) ≡ length p + length (concat ps) = length-append p (concat ps) in
+    let a : length (p ++ flatten ps) ≡ length p + length (flatten ps) = length-append p (flatten ps) in
     let p7 : length p ≡ 7 = eqb-true (length p) 7 (both-left (eqb (length p) 7) (sevens ps) s) in
     let mk : m ≡ 7 + (m - 7) = omega arith in
     let hk : x < 2 ^ (7 + (m - 7)) = subst (λ j. x < 2 ^ j) mk h in
@@ -393,16 +393,16 @@ trim-octet (p ∷ ps) m x k s f h l =
         → getD (map number (trim ps (flags (m - 7) (x % 2 ^ (m - 7))))) j 0 ≡ x % 2 ^ (m - 7) / 2 ^ (m - 7 - 7 - 7 * j) % 128)
         → getD (number (flags 7 (x / 2 ^ (m - 7))) ∷ map number (trim ps (flags (m - 7) (x % 2 ^ (m - 7))))) k 0 ≡ x / 2 ^ (m - 7 - 7 * k) % 128
     go zero z ih =
-        let a : length (p ++ concat ps) ≡ length p + length (concat ps) = length-append p (concat ps) in
+        let a : length (p ++ flatten ps) ≡ length p + length (flatten ps) = length-append p (flatten ps) in
         let p7 : length p ≡ 7 = eqb-true (length p) 7 (both-left (eqb (length p) 7) (sevens ps) s) in
         let mk : m ≡ 7 + (m - 7) = omega arith in
         let b : x / 2 ^ (m - 7) < 2 ^ 7 = shr-lt 7 (m - 7) (subst (λ j. x < 2 ^ j) mk h) in
         let e : m - 7 ≡ m - 7 - 7 * 0 = omega arith in
         number-flags 7 (x / 2 ^ (m - 7)) b ∙ sym (mod-eq-of-lt b) ∙ ap (λ j. x / 2 ^ j % 128) e
     go (suc j) z ih =
-        let a : length (p ++ concat ps) ≡ length p + length (concat ps) = length-append p (concat ps) in
+        let a : length (p ++ flatten ps) ≡ length p + length (flatten ps) = length-append p (flatten ps) in
         let p7 : length p ≡ 7 = eqb-true (length p) 7 (both-left (eqb (length p) 7) (sevens ps) s) in
-        let q : length (concat ps) ≡ 7 * length ps = concat-sevens ps (both-right (eqb (length p) 7) (sevens ps) s) in
+        let q : length (flatten ps) ≡ 7 * length ps = flatten-sevens ps (both-right (eqb (length p) 7) (sevens ps) s) in
         let r : 7 + (m - 7 - 7 - 7 * j) ≤ m - 7 = omega (arith, trim-short ps (flags (m - 7) (x % 2 ^ (m - 7)))) in
         let e : m - 7 - 7 - 7 * j ≡ m - 7 - 7 * suc j = omega arith in
         ih j (omega arith) ∙ seven-bits x (m - 7) (m - 7 - 7 - 7 * j) r ∙ ap (λ y. x / 2 ^ y % 128) e
@@ -463,7 +463,7 @@ module _ (i bits : ℕ) (fits : bits < 2 ^ 64) (u : within (flags 64 bits) (flag
   no-rows h z =
       absurd (h
       (sym (number-flags 63 bits set-low)
-      ∙ ap number (no-places (flags 63 bits) (subst (λ ps. within (flags 63 bits) (map present (concat ps)) ≡ true) z tail-within))
+      ∙ ap number (no-places (flags 63 bits) (subst (λ ps. within (flags 63 bits) (map present (flatten ps)) ≡ true) z tail-within))
       ∙ number-none (length (flags 63 bits))))
 
   -- the rows of its FSPEC
@@ -479,12 +479,12 @@ module _ (i bits : ℕ) (fits : bits < 2 ^ 64) (u : within (flags 64 bits) (flag
   pub set-rows-usable : RowsUsable (categoryAt i .profile) setRows
   set-rows-usable = trim-usable (categoryAt i .profile) (flags 63 bits) tail-fits tail-within
 
-  pub set-rows-bits : bitsOf (concat setRows) ≡ bits
+  pub set-rows-bits : bitsOf (flatten setRows) ≡ bits
   set-rows-bits =
-      let t : concat setRows ++ replicate (length (flags 63 bits) - length (concat setRows)) false ≡ flags 63 bits = trim-flags (categoryAt i .profile) (flags 63 bits) tail-fits tail-within in
-      let l : length (concat setRows) ≤ 63 = omega (arith, rows-few (categoryAt i .profile) setRows set-rows-usable, places-few i) in
-      bits-tail (concat setRows)
-      ∙ ap number (over-pad (concat setRows) 63 false l ∙ ap (λ k. concat setRows ++ replicate (k - length (concat setRows)) false) (sym (flags-length 63 bits)) ∙ t)
+      let t : flatten setRows ++ replicate (length (flags 63 bits) - length (flatten setRows)) false ≡ flags 63 bits = trim-flags (categoryAt i .profile) (flags 63 bits) tail-fits tail-within in
+      let l : length (flatten setRows) ≤ 63 = omega (arith, rows-few (categoryAt i .profile) setRows set-rows-usable, places-few i) in
+      bits-tail (flatten setRows)
+      ∙ ap number (over-pad (flatten setRows) 63 false l ∙ ap (λ k. flatten setRows ++ replicate (k - length (flatten setRows)) false) (sym (flags-length 63 bits)) ∙ t)
       ∙ number-flags 63 bits set-low
 
   pub rows-counted : length setRows ≡ rowsLeft 9 0 bits

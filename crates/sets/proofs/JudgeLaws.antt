@@ -13,7 +13,7 @@ use lib.Dec.{eqb}
 use borrow.Author.Tests.{eqb-true, eq-eqb, ne-eqb, not-true, not-false}
 use lib.ListN.{length, getD, replicate, List·getD-map, length-map}
 use Rattle.rules.specs.Answer.{Answer, ok, refused, _>>=_, need_or_then_, if_then_else_}
-use Rattle.rules.specs.Layout.{Values, concat}
+use Rattle.rules.specs.Layout.{Values, flatten}
 use Rattle.rules.specs.Presence.{flags, present, has}
 use Rattle.rules.specs.Record.{Place, Message, Record, places, named, items, references, valueOf, allIn, typeOf, messageOf, judge}
 use Rattle.rules.specs.Entry.{categories, over, isItem}
@@ -302,10 +302,10 @@ two-tests true true x = refl
 two-tests true false x = refl
 two-tests false b x = refl
 
-module _ (i : ℕ) (r : Record) (kind : ℕ) (t : TypePlace i) (stand : stands (concat r) (places (categoryAt i)) ≡ true) (long : length (concat r) ≤ 63)
-    (type : (v : Values) → getD (concat r) (t .index) none ≡ some v → typeOf (some v) ≡ ok kind) where
-  few : length (map present (concat r)) ≤ 63
-  few = let e : length (map present (concat r)) ≡ length (concat r) = length-map (concat r) present in omega arith
+module _ (i : ℕ) (r : Record) (kind : ℕ) (t : TypePlace i) (stand : stands (flatten r) (places (categoryAt i)) ≡ true) (long : length (flatten r) ≤ 63)
+    (type : (v : Values) → getD (flatten r) (t .index) none ≡ some v → typeOf (some v) ≡ ok kind) where
+  few : length (map present (flatten r)) ≤ 63
+  few = let e : length (map present (flatten r)) ≡ length (flatten r) = length-map (flatten r) present in omega arith
 
   marks-few : (rs : List ℕ) → length (marks rs (places (categoryAt i))) ≤ 63
   marks-few rs = omega (arith, marks-length rs (places (categoryAt i)), places-few i)
@@ -313,26 +313,26 @@ module _ (i : ℕ) (r : Record) (kind : ℕ) (t : TypePlace i) (stand : stands (
   pad : (ts us : List Bool) → length ts ≤ 63 → length us ≤ 63 → within (flags 64 (bitsOf ts)) (flags 64 (bitsOf us)) ≡ within ts us
   pad ts us h k = ap₂ within (bits-flags ts) (bits-flags us) ∙ within-pad 64 (false ∷ ts) (false ∷ us) (omega arith) (omega arith)
 
-  type-flag : getD (flags 64 (bitsOf (map present (concat r)))) (typeFrn i) false ≡ present (getD (concat r) (t .index) none)
+  type-flag : getD (flags 64 (bitsOf (map present (flatten r)))) (typeFrn i) false ≡ present (getD (flatten r) (t .index) none)
   type-flag =
-      ap₂ (λ l k. getD l k false) (bits-flags (map present (concat r))) (t .frn)
-      ∙ over-flag (map present (concat r)) 63 (t .index) few
-      ∙ List·getD-map present (concat r) (t .index) none
+      ap₂ (λ l k. getD l k false) (bits-flags (map present (flatten r))) (t .frn)
+      ∙ over-flag (map present (flatten r)) 63 (t .index) few
+      ∙ List·getD-map present (flatten r) (t .index) none
 
-  type-value : valueOf 0 (items (categoryAt i) r) ≡ getD (concat r) (t .index) none
-  type-value = value-at (places (categoryAt i)) (concat r) (t .index) _ (places-distinct i) (t .place)
+  type-value : valueOf 0 (items (categoryAt i) r) ≡ getD (flatten r) (t .index) none
+  type-value = value-at (places (categoryAt i)) (flatten r) (t .index) _ (places-distinct i) (t .place)
 
   each-row : (m : Message) → messageOf kind (categoryAt i .messages) ≡ ok m
       → (need allIn (m .compulsory) (references (items (categoryAt i) r)) or 14 then
       need allIn (references (items (categoryAt i) r)) (m .compulsory ++ m .optional) or 15 then ok r)
-      ≡ (judgeRow (bitsOf (map present (concat r))) (markBits i (m .compulsory), markBits i (m .compulsory ++ m .optional)) >>= (λ u. ok r))
+      ≡ (judgeRow (bitsOf (map present (flatten r))) (markBits i (m .compulsory), markBits i (m .compulsory ++ m .optional)) >>= (λ u. ok r))
   each-row m e =
       ap₂ (λ a b. need a or 14 then need b or 15 then ok r)
-      (must-have (places (categoryAt i)) (concat r) (m .compulsory) (places-distinct i)
+      (must-have (places (categoryAt i)) (flatten r) (m .compulsory) (places-distinct i)
       (message-items (places (categoryAt i)) (categoryAt i .messages) kind m (category-test (λ c. allMessages (places c) (c .messages)) tables-messages refl i) e)
-      ∙ sym (pad (marks (m .compulsory) (places (categoryAt i))) (map present (concat r)) (marks-few (m .compulsory)) few))
-      (may-have (places (categoryAt i)) (concat r) (m .compulsory ++ m .optional) stand
-      ∙ sym (pad (map present (concat r)) (marks (m .compulsory ++ m .optional) (places (categoryAt i))) few (marks-few (m .compulsory ++ m .optional))))
+      ∙ sym (pad (marks (m .compulsory) (places (categoryAt i))) (map present (flatten r)) (marks-few (m .compulsory)) few))
+      (may-have (places (categoryAt i)) (flatten r) (m .compulsory ++ m .optional) stand
+      ∙ sym (pad (map present (flatten r)) (marks (m .compulsory ++ m .optional) (places (categoryAt i))) few (marks-few (m .compulsory ++ m .optional))))
       ∙ two-tests _ _ r
 
   -- what the rules do with a type
@@ -342,23 +342,23 @@ module _ (i : ℕ) (r : Record) (kind : ℕ) (t : TypePlace i) (stand : stands (
       need allIn (m .compulsory) (references (items (categoryAt i) r)) or 14 then
       need allIn (references (items (categoryAt i) r)) (m .compulsory ++ m .optional) or 15 then ok r)
 
-  typed : judgeType kind ≡ ((rowAt i kind >>= judgeRow (bitsOf (map present (concat r)))) >>= (λ u. ok r))
+  typed : judgeType kind ≡ ((rowAt i kind >>= judgeRow (bitsOf (map present (flatten r)))) >>= (λ u. ok r))
   unfolding rowAt _>>=_
   typed =
       bind-same (messageOf kind (categoryAt i .messages)) _ _ each-row
       ∙ sym (ap (λ z. z >>= (λ u. ok r)) (bind-assoc (messageOf kind (categoryAt i .messages)) _ _) ∙ bind-assoc (messageOf kind (categoryAt i .messages)) _ _)
 
-  by-type : (x : Option Values) → getD (concat r) (t .index) none ≡ x
-      → (typeOf x >>= judgeType) ≡ ((need present x or 12 then (rowAt i kind >>= judgeRow (bitsOf (map present (concat r))))) >>= (λ u. ok r))
+  by-type : (x : Option Values) → getD (flatten r) (t .index) none ≡ x
+      → (typeOf x >>= judgeType) ≡ ((need present x or 12 then (rowAt i kind >>= judgeRow (bitsOf (map present (flatten r))))) >>= (λ u. ok r))
   by-type none e = unfold typeOf need_or_then_ _>>=_ in refl
   by-type (some v) e = bind-in judgeType (type v e) (typed ∙ sym (need-bind true 12 _ _ ∙ need-in true 12 tt refl))
 
-  pub judge-law : judge (categoryAt i) r ≡ (judgeSet i (bitsOf (map present (concat r))) kind >>= (λ u. ok r))
+  pub judge-law : judge (categoryAt i) r ≡ (judgeSet i (bitsOf (map present (flatten r))) kind >>= (λ u. ok r))
   unfolding judge judgeSet
   judge-law =
       ap (λ x. typeOf x >>= judgeType) type-value
-      ∙ by-type (getD (concat r) (t .index) none) refl
-      ∙ ap (λ b. (need b or 12 then (rowAt i kind >>= judgeRow (bitsOf (map present (concat r))))) >>= (λ u. ok r)) (sym type-flag)
+      ∙ by-type (getD (flatten r) (t .index) none) refl
+      ∙ ap (λ b. (need b or 12 then (rowAt i kind >>= judgeRow (bitsOf (map present (flatten r))))) >>= (λ u. ok r)) (sym type-flag)
 
 -- ---- the steps of the judgement: f is the message type item's FRN, t whether it is there
 

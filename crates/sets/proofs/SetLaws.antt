@@ -17,7 +17,7 @@ use lib.Seq.{take-all}
 use mir.Syntax.{w8}
 use mir.Val.{Fits}
 use Rattle.rules.specs.Answer.{Answer, ok, refused, _>>=_, need_or_then_, if_then_else_}
-use Rattle.rules.specs.Layout.{concat, joined, readNum, readChain}
+use Rattle.rules.specs.Layout.{flatten, joined, readNum, readChain}
 use Rattle.rules.specs.Presence.{flags, number, present, usable, house, flagRows, readPresence}
 use Rattle.rules.specs.Record.{Place, places}
 use Rattle.rules.proofs.AnswerLaws.{refused-ok, ok-inj, bind-in, bind-elim, bind-assoc, if-inv, if-true, if-false, both-left, both-right, Octets}
@@ -93,9 +93,9 @@ weighed bits used (n ∷ ns) = weighed (bits + n * 2 ^ (56 - 7 * used)) (used + 
 abbrev sevenFlags : List ℕ → List (List Bool)
 sevenFlags ns = map (flags 7) ns
 
-seven-length : (ns : List ℕ) → length (concat (sevenFlags ns)) ≡ 7 * length ns
+seven-length : (ns : List ℕ) → length (flatten (sevenFlags ns)) ≡ 7 * length ns
 seven-length [] = refl
-seven-length (n ∷ ns) = length-append (flags 7 n) (concat (sevenFlags ns)) ∙ ap₂ _+_ (flags-length 7 n) (seven-length ns) ∙ omega arith
+seven-length (n ∷ ns) = length-append (flags 7 n) (flatten (sevenFlags ns)) ∙ ap₂ _+_ (flags-length 7 n) (seven-length ns) ∙ omega arith
 
 -- what one octet adds
 one-weight : (n m k : ℕ) → 7 * (k + suc m) ≤ 63 → n * 2 ^ (7 * m) * 2 ^ (63 - 7 * (k + suc m)) ≡ n * 2 ^ (56 - 7 * k)
@@ -104,10 +104,10 @@ one-weight n m k h =
     rw (e, pow-add 2 (7 * m) (63 - 7 * (k + suc m))) (omega arith)
 
 weighed-is : (ns : List ℕ) (bits used : ℕ) → Small ns → 7 * (used + length ns) ≤ 63
-    → weighed bits used ns ≡ bits + number (concat (sevenFlags ns)) * 2 ^ (63 - 7 * (used + length ns))
+    → weighed bits used ns ≡ bits + number (flatten (sevenFlags ns)) * 2 ^ (63 - 7 * (used + length ns))
 weighed-is [] bits used s h = unfold number in (omega arith)
 weighed-is (n ∷ ns) bits used s h =
-    let x : List Bool = concat (sevenFlags ns) in
+    let x : List Bool = flatten (sevenFlags ns) in
     let w : ℕ = 2 ^ (63 - 7 * (used + suc (length ns))) in
     let e : 7 * (used + 1 + length ns) ≡ 7 * (used + suc (length ns)) = omega arith in
     let q : number (flags 7 n ++ x) ≡ n * 2 ^ (7 * length ns) + number x =
@@ -126,14 +126,14 @@ bits-number ts h =
     ∙ ap₂ (λ a b. number ts * 2 ^ a + b) (length-replicate (63 - length ts) false) (number-none (63 - length ts))
     ∙ (let r : number ts * 2 ^ (63 - length ts) + 0 ≡ number ts * 2 ^ (63 - length ts) = omega arith in r)
 
-weighed-bits : (ns : List ℕ) → Small ns → length ns ≤ 8 → weighed 0 0 ns ≡ bitsOf (concat (sevenFlags ns))
+weighed-bits : (ns : List ℕ) → Small ns → length ns ≤ 8 → weighed 0 0 ns ≡ bitsOf (flatten (sevenFlags ns))
 weighed-bits ns s h =
-    let l : length (concat (sevenFlags ns)) ≡ 7 * length ns = seven-length ns in
+    let l : length (flatten (sevenFlags ns)) ≡ 7 * length ns = seven-length ns in
     let e : 0 + length ns ≡ length ns = omega arith in
     weighed-is ns 0 0 s (omega arith)
-    ∙ (let r : 0 + number (concat (sevenFlags ns)) * 2 ^ (63 - 7 * (0 + length ns)) ≡ number (concat (sevenFlags ns)) * 2 ^ (63 - 7 * (0 + length ns)) = omega arith in r)
-    ∙ ap (λ m. number (concat (sevenFlags ns)) * 2 ^ (63 - m)) (ap (λ m. 7 * m) e ∙ sym l)
-    ∙ sym (bits-number (concat (sevenFlags ns)) (omega arith))
+    ∙ (let r : 0 + number (flatten (sevenFlags ns)) * 2 ^ (63 - 7 * (0 + length ns)) ≡ number (flatten (sevenFlags ns)) * 2 ^ (63 - 7 * (0 + length ns)) = omega arith in r)
+    ∙ ap (λ m. number (flatten (sevenFlags ns)) * 2 ^ (63 - m)) (ap (λ m. 7 * m) e ∙ sym l)
+    ∙ sym (bits-number (flatten (sevenFlags ns)) (omega arith))
 
 -- ---- which of its FRNs are usable
 
@@ -158,7 +158,7 @@ need-both true false x f = refl
 need-both false b x f = refl
 
 rows-within : (ps : List (List (Option Place))) (ns : List ℕ) → sevens ps ≡ true → Small ns → length ns ≤ length ps
-    → flagRows ps ns ≡ (need within (concat (sevenFlags ns)) (map present (concat ps)) or 8 then ok (sevenFlags ns))
+    → flagRows ps ns ≡ (need within (flatten (sevenFlags ns)) (map present (flatten ps)) or 8 then ok (sevenFlags ns))
 unfolding flagRows need_or_then_
 rows-within ps [] h s l = refl
 rows-within [] (n ∷ ns) h s l = absurd (omega arith)
@@ -169,9 +169,9 @@ rows-within (p ∷ ps) (n ∷ ns) h s l =
     rw (e, lt-ltb n 128 (s .0), rows-within ps ns (both-right (eqb (length p) 7) (sevens ps) h) (s .1) (omega arith))
     (need-both (usable p (flags 7 n)) _ (sevenFlags ns) _
     ∙ ap (λ t. need t or 8 then ok (flags 7 n ∷ sevenFlags ns))
-    (ap (λ t. t && within (concat (sevenFlags ns)) (map present (concat ps))) (usable-within p (flags 7 n) g)
-    ∙ sym (within-append (flags 7 n) (map present p) (concat (sevenFlags ns)) (map present (concat ps)) f)
-    ∙ ap (within (flags 7 n ++ concat (sevenFlags ns))) (sym (map-append present p (concat ps)))))
+    (ap (λ t. t && within (flatten (sevenFlags ns)) (map present (flatten ps))) (usable-within p (flags 7 n) g)
+    ∙ sym (within-append (flags 7 n) (map present p) (flatten (sevenFlags ns)) (map present (flatten ps)) f)
+    ∙ ap (within (flags 7 n ++ flatten (sevenFlags ns))) (sym (map-append present p (flatten ps)))))
 
 -- ---- the law
 
@@ -231,7 +231,7 @@ abbrev withRest : List ℕ → List (List Bool) → Answer (List (List Bool) × 
 withRest rest ts = ok (ts, rest)
 
 abbrev asSet : List ℕ → List (List Bool) × List ℕ → Answer (ℕ × ℕ)
-asSet bs y = ok (bitsOf (concat (y .0)), length bs - length (y .1))
+asSet bs y = ok (bitsOf (flatten (y .0)), length bs - length (y .1))
 
 pub set-law : (i : ℕ) (bs : List ℕ) → Octets bs → setFrom i (length (categoryAt i .profile)) bs 0 0 ≡ setAt i bs
 unfolding setAt readPresence
@@ -245,11 +245,11 @@ set-law i bs o =
         ≡ (((need house (x .0) or 7 then flagRows (categoryAt i .profile) (x .0)) >>= withRest (x .1)) >>= asSet bs)
     each x c =
         let few : length (x .0) ≤ 8 = omega (arith, profile-short i) in
-        let w : weighed 0 0 (x .0) ≡ bitsOf (concat (sevenFlags (x .0))) = weighed-bits (x .0) (c .small) few in
+        let w : weighed 0 0 (x .0) ≡ bitsOf (flatten (sevenFlags (x .0))) = weighed-bits (x .0) (c .small) few in
         let n : 0 + length (x .0) ≡ length bs - length (x .1) = omega arith in
-        let l : length (concat (sevenFlags (x .0))) ≤ 63 = omega (arith, seven-length (x .0)) in
+        let l : length (flatten (sevenFlags (x .0))) ≤ 63 = omega (arith, seven-length (x .0)) in
         rw (rows-within (categoryAt i .profile) (x .0) (profile-sevens i) (c .small) (c .few), w, n, bind-assoc _ (withRest (x .1)) (asSet bs))
-        (two-needs (house (x .0)) _ _ (sevenFlags (x .0)) _ _ (usable-flags i (concat (sevenFlags (x .0))) l) (bind-in _ refl refl))
+        (two-needs (house (x .0)) _ _ (sevenFlags (x .0)) _ _ (usable-flags i (flatten (sevenFlags (x .0))) l) (bind-in _ refl refl))
 
 -- ---- the steps of the loop: at most so many octets, some of them read
 

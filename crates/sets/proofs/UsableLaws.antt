@@ -11,7 +11,7 @@ use lib.Dec.{T}
 use lib.ListN.{length, drop, length-append, length-map}
 use lib.Seq.{drop-at}
 use Rattle.rules.specs.Answer.{ok}
-use Rattle.rules.specs.Layout.{concat}
+use Rattle.rules.specs.Layout.{flatten}
 use Rattle.rules.specs.Presence.{present, usable, numbers, writePresence, readPresence}
 use Rattle.rules.specs.Record.{Place}
 use Rattle.rules.proofs.AnswerLaws.{refused-ok, ok-inj, bind-elim, need-elim, Octets, Split, after}
@@ -33,20 +33,20 @@ T-is : (t : Bool) → T t → t ≡ true
 T-is true h = refl
 T-is false h = absurd h
 
-pub rows-within : (ps : List (List (Option Place))) (ts : List (List Bool)) → RowsUsable ps ts → within (concat ts) (map present (concat ps)) ≡ true
+pub rows-within : (ps : List (List (Option Place))) (ts : List (List Bool)) → RowsUsable ps ts → within (flatten ts) (map present (flatten ps)) ≡ true
 rows-within ps [] u = refl
 rows-within [] (t ∷ ts) u = absurd u
 rows-within (p ∷ ps) (t ∷ ts) u =
-    ap (within (t ++ concat ts)) (map-append present p (concat ps))
-    ∙ within-append t (map present p) (concat ts) (map present (concat ps)) (usable-length p t (u .0) ∙ sym (length-map p present))
+    ap (within (t ++ flatten ts)) (map-append present p (flatten ps))
+    ∙ within-append t (map present p) (flatten ts) (map present (flatten ps)) (usable-length p t (u .0) ∙ sym (length-map p present))
     ∙ ap₂ _&&_ (sym (usable-within p t (usable-length p t (u .0))) ∙ T-is (usable p t) (u .0)) (rows-within ps ts (u .1))
 
-pub rows-few : (ps : List (List (Option Place))) (ts : List (List Bool)) → RowsUsable ps ts → length (concat ts) ≤ length (concat ps)
+pub rows-few : (ps : List (List (Option Place))) (ts : List (List Bool)) → RowsUsable ps ts → length (flatten ts) ≤ length (flatten ps)
 rows-few ps [] u = omega arith
 rows-few [] (t ∷ ts) u = absurd u
 rows-few (p ∷ ps) (t ∷ ts) u =
-    let a : length (t ++ concat ts) ≡ length t + length (concat ts) = length-append t (concat ts) in
-    let b : length (p ++ concat ps) ≡ length p + length (concat ps) = length-append p (concat ps) in
+    let a : length (t ++ flatten ts) ≡ length t + length (flatten ts) = length-append t (flatten ts) in
+    let b : length (p ++ flatten ps) ≡ length p + length (flatten ps) = length-append p (flatten ps) in
     omega (arith, usable-length p t (u .0), rows-few ps ts (u .1))
 
 -- ---- what an FSPEC leaves
@@ -87,6 +87,6 @@ pub set-bounds : (i : ℕ) (bs : List ℕ) (bits used : ℕ) → setAt i bs ≡ 
 unfolding setAt
 set-bounds i bs bits used h =
     bind-elim _ _ h λ x p h₁.
-    let e : _≡_ {A = ℕ × ℕ} (bitsOf (concat (x .0)), length bs - length (x .1)) (bits, used) = ok-inj h₁ in
+    let e : _≡_ {A = ℕ × ℕ} (bitsOf (flatten (x .0)), length bs - length (x .1)) (bits, used) = ok-inj h₁ in
     let u : length bs - length (x .1) ≡ used = ap (λ z. z .1) e in
-    (subst (λ n. n < 2 ^ 63) (ap (λ z. z .0) e) (bits-lt (concat (x .0))), omega arith)
+    (subst (λ n. n < 2 ^ 63) (ap (λ z. z .0) e) (bits-lt (flatten (x .0))), omega arith)

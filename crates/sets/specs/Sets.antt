@@ -5,7 +5,7 @@ use mathlib.Core.Bool.{Bool, true, false, _&&_}
 use mathlib.Core.List.{List, [], _∷_}
 use lib.ListN.{length, replicate}
 use Rattle.rules.specs.Answer.{Answer, ok, _>>=_, need_or_then_, octetsOf}
-use Rattle.rules.specs.Layout.{concat}
+use Rattle.rules.specs.Layout.{flatten}
 use Rattle.rules.specs.Presence.{flags, number, writePresence, readPresence, allUsable, setFlags}
 use Rattle.rules.specs.Record.{Category}
 use Rattle.rules.specs.Entry.{categories, over}
@@ -45,7 +45,7 @@ within (true ∷ ts) (u ∷ us) = u && within ts us
 unfoldable pub setAt : ℕ → List ℕ → Answer (ℕ × ℕ)
 setAt i bs = do
   (ts, rest) ← readPresence 5 (categoryAt i .profile) bs
-  ok (bitsOf (concat ts), length bs - length rest)
+  ok (bitsOf (flatten ts), length bs - length rest)
 
 -- the octets of a set's FSPEC; none where the set is empty or names an FRN that the profile lacks
 unfoldable pub fspecAt : ℕ → ℕ → List ℕ

@@ -14,7 +14,7 @@ use lib.ListN.{length, getD, drop, replicate, List·getD-map, List·getD-append,
 use lib.Seq.{slice, getD-append-add}
 use borrow.Author.Tests.{ltb-true, leb-true}
 use Rattle.rules.specs.Field.{Field}
-use Rattle.rules.specs.Layout.{concat}
+use Rattle.rules.specs.Layout.{flatten}
 use Rattle.rules.proofs.AnswerLaws.{both-left, both-right}
 use Rattle.rules.specs.Presence.{present, placeAt}
 use Rattle.rules.specs.Record.{Place, Category, places}
@@ -106,7 +106,7 @@ profile-past zero h = absurd (not-suc-le-zero h)
 profile-past (suc zero) h = absurd (not-suc-le-zero (le-of-suc-le-suc h))
 profile-past (suc (suc p)) h = refl
 
-pub profile-few : (p : ℕ) → length (concat (profileAt categories p)) ≤ 35
+pub profile-few : (p : ℕ) → length (flatten (profileAt categories p)) ≤ 35
 unfolding categories
 profile-few zero = le-of-suc-le-suc few017
 profile-few (suc zero) = le-of-suc-le-suc few018

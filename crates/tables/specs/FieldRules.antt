@@ -6,7 +6,7 @@ use mathlib.Core.List.{List, [], _∷_, map}
 use lib.Dec.{leb, eqb}
 use lib.ListN.{length, getD}
 use Rattle.rules.specs.Field.{Field, spare, value, unsigned, signed, bits}
-use Rattle.rules.specs.Layout.{Group, concat}
+use Rattle.rules.specs.Layout.{Group, flatten}
 use Rattle.rules.specs.Entry.{categories}
 use Rattle.tables.specs.declared.tables.LayoutRow.{LayoutRow}
 use Rattle.tables.specs.Tables.{groups, groupRows, groupAt, layoutAt, profileRows, isFree}
@@ -38,7 +38,7 @@ allObeyed (r ∷ rs) n = obeys r n && allObeyed rs n
 -- ---- the tables of the code
 
 unfoldable pub rules : List Rule
-rules = concat (map (λ g. rulesOf (g .fields)) groups)
+rules = flatten (map (λ g. rulesOf (g .fields)) groups)
 
 -- the place of each group's first rule, and of the end
 abbrev pub firstRules : ℕ → List Group → List ℕ

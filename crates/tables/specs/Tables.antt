@@ -9,7 +9,7 @@ use lib.IntN.{ℤ, pos, negsuc}
 use lib.ListN.{length, getD, replicate}
 use lib.Seq.{slice}
 use Rattle.rules.specs.Field.{Field, spare, value, unsigned, signed, any, half, arity}
-use Rattle.rules.specs.Layout.{Group, Layout, fixed, repeated, led, extended, group, concat}
+use Rattle.rules.specs.Layout.{Group, Layout, fixed, repeated, led, extended, group, flatten}
 use Rattle.rules.specs.Record.{Place, Category, places, at}
 use Rattle.rules.specs.Entry.{categories, over}
 use Rattle.tables.specs.declared.tables.FieldRow.{FieldRow}
@@ -32,13 +32,13 @@ groupsOf (led lo) = group 1 (any 8 ∷ []) ∷ []
 groupsOf (extended gs) = gs
 
 unfoldable pub layouts : List Layout
-layouts = concat (map (λ c. layoutsOf (places c)) categories)
+layouts = flatten (map (λ c. layoutsOf (places c)) categories)
 
 unfoldable pub groups : List Group
-groups = concat (map groupsOf layouts)
+groups = flatten (map groupsOf layouts)
 
 unfoldable pub fields : List Field
-fields = concat (map (λ g. g .fields) groups)
+fields = flatten (map (λ g. g .fields) groups)
 
 -- ---- the rows of the code
 

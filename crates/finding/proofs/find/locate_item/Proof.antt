@@ -6,7 +6,7 @@ use borrow.Author.Needs.{needs}
 use native.Mathlib.Omega.{arith}
 use lib.ListN.{length, take, drop, getD}
 use Rattle.rules.specs.Answer.{ok, refused}
-use Rattle.rules.specs.Layout.{concat}
+use Rattle.rules.specs.Layout.{flatten}
 use Rattle.rules.specs.Record.{places}
 use Rattle.rules.proofs.AnswerLaws.{refused-ok, ok-inj}
 use Rattle.items.specs.Answers.{frnOf, checkedOf, checkAt}
@@ -34,7 +34,7 @@ is-open c =
 named : (c : tie.After-known-told) → NamedAt (c .before .before .before .before .before .before .before .before .args .reference) 1 (places (opening (c .before .before .before .before) .category)) (c .before .named .given .0 .0)
 named c =
     frn-some _ 1 (places (opening (c .before .before .before .before) .category)) _
-    (ap (λ z. frnAs (c .before .before .before .before .before .before .before .before .args .reference) 1 (concat z)) (profile-is (c .before .before .before .before .before .before .open-block .result .profile)) ∙ sym (c .before .before .before .frn-of .ensures) ∙ ap frnOf (c .before .named .given .1))
+    (ap (λ z. frnAs (c .before .before .before .before .before .before .before .before .args .reference) 1 (flatten z)) (profile-is (c .before .before .before .before .before .before .open-block .result .profile)) ∙ sym (c .before .before .before .frn-of .ensures) ∙ ap frnOf (c .before .named .given .1))
 
 -- the record that was sought
 sought : (c : tie.After-known-told2)
@@ -89,7 +89,7 @@ returns-2 c =
     ap itemSpan
     (sym (item-unknown _ _ _ (opening (c .before .before .before)) (is-open (c .before .before .before))
     (frn-none _ 1 (places (opening (c .before .before .before) .category))
-    (ap (λ z. frnAs (c .before .before .before .before .before .before .before .args .reference) 1 (concat z)) (profile-is (c .before .before .before .before .before .open-block .result .profile)) ∙ sym (c .before .before .frn-of .ensures) ∙ ap frnOf (c .enum-told3 .given .1)))))
+    (ap (λ z. frnAs (c .before .before .before .before .before .before .before .args .reference) 1 (flatten z)) (profile-is (c .before .before .before .before .before .open-block .result .profile)) ∙ sym (c .before .before .frn-of .ensures) ∙ ap frnOf (c .enum-told3 .given .1)))))
 
 sub-seek-record : tie.Need-sub-seek-record
 sub-seek-record c = omega (arith, is-open (c .before .before .before .before) .room)

@@ -4,7 +4,7 @@ use mathlib.Core.Path.{_≡_, refl}
 use mathlib.Core.Option.{Option}
 use mathlib.Core.List.{List}
 use native.Mathlib.Omega.{arith}
-use Rattle.plain.specs.Shape.{usedOf}
+use Rattle.quick_records.specs.Shape.{usedOf}
 use Rattle.measuring.specs.declared.record.Measured.{Measured}
 use Rattle.measuring.specs.Measure.{sized}
 use Rattle.measuring.specs.Shape.{timeOf, baseOf, partOf, Told}

@@ -7,7 +7,7 @@ use Rattle.rules.specs.Category018.{category018}
 use Rattle.rules.specs.Entry.{categories}
 use Rattle.sets.specs.Sets.{categoryAt, bitsOf}
 use Rattle.sets.specs.Steps.{usableBits, ended, setFrom}
-use Rattle.steps.specs.Told.{digitAt, digitOf}
+use Rattle.quick_items.specs.Told.{digitAt, digitOf}
 use Rattle.measuring.specs.Measure.{fixedOctets, variableOctets, octetsAt}
 use Rattle.measuring.specs.Shape.{soundRow, soundShapes}
 use Rattle.measuring.proofs.shape.shapes.Statement.{statement}

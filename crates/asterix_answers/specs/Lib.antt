@@ -1,2 +1,0 @@
--- What the crate's contracts cite: the text that answers a line. Assumes nothing.
-pub mod Text

@@ -1,2 +1,0 @@
--- What the crate's contracts cite: the text of what answers share. Assumes nothing.
-pub mod Text

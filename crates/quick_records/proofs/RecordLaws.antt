@@ -1,0 +1,418 @@
+-- A record that is plainly legal is legal: its tables, its items walked by the highest bit that is left, and what the message type asks for.
+--
+-- In order: the tables; flags that are not set; free items; the first three items; the steps of the loop; the record. Assumes nothing.
+use Prim.Native.Nat.{ℕ, zero, suc, _+_, _-_, _*_, _/_, _%_, _^_, _≤_, _<_}
+use mathlib.Core.Path.{_≡_, refl, sym, ap, ap₂, _∙_, subst}
+use mathlib.Core.Bool.{Bool, true, false, not, _&&_, false≢true}
+use mathlib.Core.Logic.{⊎-elim}
+use mathlib.Core.List.{List, [], _∷_, _++_}
+use native.Mathlib.Omega.{arith}
+use native.Mathlib.Nat.{add-assoc, add-zero, zero-add, mod-lt, mod-eq-of-lt, mod-eq-sub-mod, pow-suc}
+use lib.Count.{leadingZeros, leading-top}
+use lib.Pow.{pow-pos, pow-mono}
+use lib.Dec.{ltb, eqb}
+use lib.ListN.{length, take, drop, getD, length-drop}
+use lib.Seq.{drop-drop, getD-drop}
+use mir.Syntax.{w8}
+use mir.Val.{Fits}
+use borrow.Author.Tests.{lt-leb, le-leb, ltb-true, eqb-true, eq-eqb, ne-eqb}
+use Rattle.rules.specs.Answer.{Answer, ok, refused, if_then_else_}
+use Rattle.rules.specs.Presence.{flags}
+use Rattle.rules.specs.Category017.{category017}
+use Rattle.rules.specs.Category018.{category018}
+use Rattle.rules.specs.Entry.{categories, RecordMap, mapOf}
+use Rattle.rules.proofs.AnswerLaws.{ok-inj, bind-in, bind-elim, later-in, both-left, both-right, Octets}
+use Rattle.rules.proofs.PresenceLaws.{flags-length}
+use Rattle.items.specs.Answers.{checkAt}
+use Rattle.tables.specs.Places.{frnAs}
+use Rattle.tables.specs.FieldRules.{singles}
+use Rattle.quick_items.specs.Item.{Plainly}
+use Rattle.tables.specs.Tables.{layoutAt, layouts, groupAt, groups}
+use Rattle.layouts.proofs.ReadLaws.{le-or-lt, octets-drop}
+use Rattle.quick_items.proofs.ItemLaws.{free-check}
+use Rattle.sets.specs.Sets.{categoryAt, setAt, within}
+use Rattle.sets.specs.Steps.{typeFrn, rowAt, judgeSet}
+use Rattle.records.specs.Walk.{Came, passed, walk, startAt, recordBy}
+use Rattle.sets.specs.Answers.{setOf}
+use Rattle.records.specs.Answers.{recordAt}
+use Rattle.quick_items.specs.Told.{allBelow}
+use Rattle.quick_records.specs.Record.{typeSets, isRow, soundRow, free, allFree, freeSum, soundSum, soundTypes, Content, Goes, Later, Walks, Passed, endAt}
+use Rattle.sets.specs.declared.ItemSet.{ItemSet}
+use Rattle.sets.specs.declared.SetRead.{SetRead}
+use Rattle.sets.specs.declared.SetRead.the-variants as set
+use Rattle.sets.proofs.FlagLaws.{flags-split, has-bit}
+use Rattle.sets.proofs.SetLaws.{octets-all, to-end}
+use Rattle.records.proofs.PlaceLaws.{check-within}
+use Rattle.quick_items.proofs.ToldLaws.{all-below, other}
+use Rattle.records.proofs.WalkLaws.{walk-none}
+use Rattle.sets.proofs.JudgeLaws.{judge-right}
+use Rattle.records.proofs.RecordLaws.{record-law, record-read, RecordRead}
+
+-- ---- the tables
+
+pub type-three : (i : ℕ) → i < 2 → 3 ≡ typeFrn i
+unfolding typeFrn frnAs if_then_else_ categoryAt categories category017 category018
+type-three zero h = refl
+type-three (suc zero) h = refl
+type-three (suc (suc i)) h = absurd (omega arith)
+
+pub sets-long : length typeSets ≡ 72
+unfolding typeSets categoryAt categories category017 category018
+sets-long = refl
+
+module _ (ts : List ℕ) (i : ℕ) (s : soundTypes ts ≡ true) (h : i < 2) where
+  abbrev rowsOf : ℕ → Bool
+  rowsOf t = soundRow i t (getD ts (i * 112 + t) 0)
+
+  abbrev sumsOf : ℕ → Bool
+  sumsOf v = soundSum i v (getD ts (224 + i * 16 + v) 0)
+
+  sound-both : allBelow 112 rowsOf && allBelow 16 sumsOf ≡ true
+  unfolding soundTypes
+  sound-both = all-below 2 (λ i. allBelow 112 (λ t. soundRow i t (getD ts (i * 112 + t) 0)) && allBelow 16 (λ v. soundSum i v (getD ts (224 + i * 16 + v) 0))) i s h
+
+  row-sound : (t r : ℕ) → t < 112 → getD ts (i * 112 + t) 0 ≡ r → (r ≡ 0 → ⊥) → ltb r 36 && isRow (rowAt i t) (getD typeSets (2 * r) 0) (getD typeSets (2 * r + 1) 0) ≡ true
+  row-sound t r k e n =
+      other (eqb r 0) _ (subst (λ x. soundRow i t x ≡ true) e (all-below 112 rowsOf t (both-left (allBelow 112 rowsOf) (allBelow 16 sumsOf) sound-both) k)) (λ q. n (eqb-true r 0 q))
+
+  pub row-few : (t r : ℕ) → t < 112 → getD ts (i * 112 + t) 0 ≡ r → (r ≡ 0 → ⊥) → r < 36
+  row-few t r k e n = ltb-true r 36 (both-left (ltb r 36) _ (row-sound t r k e n))
+
+  pub row-under : (t r : ℕ) → t < 112 → getD ts (i * 112 + t) 0 ≡ r → r < 36
+  row-under t r k e = ⊎-elim (λ (z : r ≤ 0). omega arith) (λ (p : 0 < r). row-few t r k e (λ z. omega arith)) (le-or-lt r 0)
+
+  -- a row that the table has for a type
+  pub row-read : (t r : ℕ) → t < 112 → getD ts (i * 112 + t) 0 ≡ r → (r ≡ 0 → ⊥) → rowAt i t ≡ ok (getD typeSets (2 * r) 0, getD typeSets (2 * r + 1) 0)
+  row-read t r k e n =
+      go (rowAt i t) (both-right (ltb r 36) _ (row-sound t r k e n))
+    where
+      go : (a : Answer (ℕ × ℕ)) → isRow a (getD typeSets (2 * r) 0) (getD typeSets (2 * r + 1) 0) ≡ true → a ≡ ok (getD typeSets (2 * r) 0, getD typeSets (2 * r + 1) 0)
+      go (ok (a, b)) q =
+          ap₂ (λ x y. ok (x, y)) (eqb-true a (getD typeSets (2 * r) 0) (both-left _ _ q)) (eqb-true b (getD typeSets (2 * r + 1) 0) (both-right (eqb a (getD typeSets (2 * r) 0)) _ q))
+      go (refused n p) q = absurd (false≢true q)
+
+  pub sum-read : (v m : ℕ) → v < 16 → getD ts (224 + i * 16 + v) 0 ≡ m → (m ≡ 0 → ⊥) → (allFree i 4 (flags 4 v) ≡ true) × (m ≡ 5 + freeSum i 4 (flags 4 v))
+  sum-read v m k e n =
+      let q : allFree i 4 (flags 4 v) && eqb m (5 + freeSum i 4 (flags 4 v)) ≡ true =
+      other (eqb m 0) _ (subst (λ x. soundSum i v x ≡ true) e (all-below 16 sumsOf v (both-right (allBelow 112 rowsOf) (allBelow 16 sumsOf) sound-both) k)) (λ q. n (eqb-true m 0 q)) in
+      (both-left _ _ q, eqb-true m _ (both-right (allFree i 4 (flags 4 v)) _ q))
+
+-- the message type is content
+pub content : (i bits kind must may : ℕ) {a b : Bool} → i < 2 → bits / 2 ^ 60 ≡ 7 → rowAt i kind ≡ ok (must, may)
+    → a ≡ within (flags 64 must) (flags 64 bits) → not a ≡ false → b ≡ within (flags 64 bits) (flags 64 may) → Content b (judgeSet i bits kind)
+content i bits kind must may {b = true} h e r g m k =
+    let l : bits < 2 ^ 64 = omega arith in
+    let o : bits / 2 ^ (63 - 3) % 2 ≡ 1 = omega arith in
+    sym (judge-right i bits kind 3 {t = true} (type-three i h) (sym (has-bit bits 3 l (omega arith) ∙ eq-eqb _ 1 o)) refl r g m k refl)
+content i bits kind must may {b = false} h e r g m k = tt
+
+pub right : (t : Bool) (a : Answer (Unit {0})) → Content t a → not t ≡ false → Content true a
+right true a h n = h
+right false a h n = absurd (false≢true (sym n))
+
+pub tell : (n : ℕ) (a : Answer ℕ) → a ≡ ok n → Plainly n a
+tell zero a h = tt
+tell (suc n) a h = h
+
+-- ---- flags that are not set
+
+pub blank : (i j m f left : ℕ) (bs : List ℕ) (w : Came) → left < 2 ^ m → walk i (flags (j + m) left) f bs w ≡ walk i (flags m left) (f + j) bs w
+unfolding walk flags
+blank i zero m f left bs w h = ap₂ (λ x y. walk i (flags x left) y bs w) (zero-add m) (sym (add-zero f))
+blank i (suc j) m f left bs w h =
+    let k : left < 2 ^ (j + m) = (let p : 2 ^ m ≤ 2 ^ (j + m) = pow-mono (omega arith) in omega arith) in
+    let e : suc j + m ≡ suc (j + m) = omega arith in
+    let g : f + 1 + j ≡ f + suc j = omega arith in
+    ap (λ x. walk i (flags x left) f bs w) e
+    ∙ rw (lt-leb (2 ^ (j + m)) left k, mod-eq-of-lt k) (blank i j m (f + 1) left bs w h)
+    ∙ ap (λ x. walk i (flags m left) x bs w) g
+
+-- ---- one item, and items that are free
+
+pub one : (i f n : ℕ) (ts : List Bool) (bs : List ℕ) (w : Came) → checkAt i f bs ≡ ok n → walk i (true ∷ ts) f bs w ≡ walk i ts (f + 1) (drop n bs) (passed i f n (take n bs) w)
+unfolding walk
+one i f n ts bs w c = bind-in _ (later-in (w .here) c) refl
+
+pub none-here : (i f : ℕ) (ts : List Bool) (bs : List ℕ) (w : Came) → walk i (false ∷ ts) f bs w ≡ walk i ts (f + 1) bs w
+unfolding walk
+none-here i f ts bs w = refl
+
+-- an item after the message type item leaves the type as it is
+pub kind-stays : (i f n : ℕ) (item : List ℕ) (w : Came) → i < 2 → 3 < f → passed i f n item w .kind ≡ w .kind
+unfolding if_then_else_
+kind-stays i f n item w h k = rw (← type-three i h, ne-eqb f 3 (λ e. omega arith))
+
+pub record Skipped (i f t : ℕ) (us : List Bool) (bs : List ℕ) (w : Came) (a : Answer Came) : Type 0 where
+  pub came : Came
+  pub walks : a ≡ walk i us f (drop t bs) came
+  pub here : came .here ≡ w .here + t
+  pub kind : came .kind ≡ w .kind
+
+skip-free : (i f : ℕ) (ts us : List Bool) (bs : List ℕ) (w : Came) → i < 2 → 3 < f → f + length ts ≤ 36 → Octets bs → allFree i f ts ≡ true → freeSum i f ts ≤ length bs
+    → Skipped i (f + length ts) (freeSum i f ts) us bs w (walk i (ts ++ us) f bs w)
+skip-free i f [] us bs w h k l o a b = record { came = w; walks = ap (λ x. walk i us x bs w) (sym (add-zero f)); here = sym (add-zero (w .here)); kind = refl }
+skip-free i f (false ∷ ts) us bs w h k l o a b =
+    let s : Skipped i (f + 1 + length ts) (freeSum i (f + 1) ts) us bs w (walk i (ts ++ us) (f + 1) bs w) = skip-free i (f + 1) ts us bs w h (omega arith) (omega arith) o a b in
+    record { came = s .came; walks = none-here i f (ts ++ us) bs w ∙ s .walks ∙ ap (λ x. walk i us x (drop (freeSum i (f + 1) ts) bs) (s .came)) (omega arith); here = s .here; kind = s .kind }
+skip-free i f (true ∷ ts) us bs w h k l o a b =
+    let n : ℕ = free i f in
+    let q = both-left (ltb 0 n && ltb n 8) (allFree i (f + 1) ts) a in
+    let c : checkAt i f bs ≡ ok n = free-check i f n bs h (omega arith) o refl (ltb-true 0 n (both-left _ _ q)) (ltb-true n 8 (both-right (ltb 0 n) _ q)) (omega arith) in
+    let v : Came = passed i f n (take n bs) w in
+    let s : Skipped i (f + 1 + length ts) (freeSum i (f + 1) ts) us (drop n bs) v (walk i (ts ++ us) (f + 1) (drop n bs) v) =
+    skip-free i (f + 1) ts us (drop n bs) v h (omega arith) (omega arith) (octets-drop n bs o) (both-right (ltb 0 n && ltb n 8) (allFree i (f + 1) ts) a) (omega (arith, length-drop n bs)) in
+    record {
+      came = s .came;
+      walks =
+          one i f n (ts ++ us) bs w c ∙ s .walks
+          ∙ ap₂ (λ x l. walk i us x l (s .came)) (omega arith) (drop-drop (freeSum i (f + 1) ts) n bs);
+      here = s .here ∙ add-assoc (w .here) n (freeSum i (f + 1) ts);
+      kind = s .kind ∙ kind-stays i f n (take n bs) w h k;
+    }
+
+-- ---- the first three items: source, destination, message type
+
+free-one : (i : ℕ) → i < 2 → (free i 1 ≡ 2) × (free i 2 ≡ 2) × (free i 3 ≡ 1)
+unfolding singles layoutAt layouts groupAt groups categories category017 category018
+free-one zero h = (refl, refl, refl)
+free-one (suc zero) h = (refl, refl, refl)
+free-one (suc (suc i)) h = absurd (omega arith)
+
+module _ (i : ℕ) (us : List Bool) (bs : List ℕ) (k : ℕ) (h : i < 2) (o : Octets bs) (b : 5 ≤ length bs) where
+  abbrev pub third : Came
+  third = passed i 3 1 (take 1 (drop 4 bs)) (passed i 2 2 (take 2 (drop 2 bs)) (passed i 1 2 (take 2 bs) (startAt k)))
+
+  pub first-three : walk i (true ∷ true ∷ true ∷ us) 1 bs (startAt k) ≡ walk i us 4 (drop 5 bs) third
+  first-three =
+      let a : checkAt i 1 bs ≡ ok 2 = free-check i 1 2 bs h (omega arith) o (free-one i h .0) (omega arith) (omega arith) (omega arith) in
+      let c : checkAt i 2 (drop 2 bs) ≡ ok 2 = free-check i 2 2 (drop 2 bs) h (omega arith) (octets-drop 2 bs o) (free-one i h .1) (omega arith) (omega arith) (omega (arith, length-drop 2 bs)) in
+      let d : checkAt i 3 (drop 4 bs) ≡ ok 1 = free-check i 3 1 (drop 4 bs) h (omega arith) (octets-drop 4 bs o) (free-one i h .2) (omega arith) (omega arith) (omega (arith, length-drop 4 bs)) in
+      one i 1 2 (true ∷ true ∷ us) bs (startAt k) a
+      ∙ one i 2 2 (true ∷ us) (drop 2 bs) (passed i 1 2 (take 2 bs) (startAt k)) c
+      ∙ ap (λ l. walk i (true ∷ us) 3 l (passed i 2 2 (take 2 (drop 2 bs)) (passed i 1 2 (take 2 bs) (startAt k)))) (drop-drop 2 2 bs)
+      ∙ one i 3 1 us (drop 4 bs) (passed i 2 2 (take 2 (drop 2 bs)) (passed i 1 2 (take 2 bs) (startAt k))) d
+      ∙ ap (λ l. walk i us 4 l third) (drop-drop 1 4 bs)
+
+  pub third-here : third .here ≡ k + 5
+  third-here = omega arith
+
+  pub third-kind : third .kind ≡ getD bs 4 0
+  unfolding if_then_else_
+  third-kind = rw (← type-three i h) (first (drop 4 bs) ∙ getD-drop 4 bs 0 0)
+    where
+      first : (l : List ℕ) → getD (take 1 l) 0 0 ≡ getD l 0 0
+      first [] = refl
+      first (x ∷ l) = refl
+
+-- ---- the next item of a set: the highest bit that is left
+
+module _ (left : ℕ) (below : left < 2 ^ 60) (some : left ≡ 0 → ⊥) where
+  -- the FRN and the place of its bit make 63
+  pub record Next : Type 0 where
+    pub bit : ℕ
+    pub frn : leadingZeros 64 left + bit ≡ 63
+    pub low : bit < 60
+    pub there : 2 ^ bit ≤ left
+    pub top : left < 2 ^ suc bit
+
+  pub next : Next
+  next =
+      let t = leading-top 64 left (⊎-elim (λ (z : left ≤ 0). absurd (some (omega arith))) (λ z. z) (le-or-lt left 0)) (omega (arith, below)) in
+      record {
+        bit = t .0;
+        frn = omega (arith, t .1);
+        low = ⊎-elim (λ (z : 60 ≤ t .0). absurd (let p : 2 ^ 60 ≤ 2 ^ t .0 = pow-mono z in omega (arith, below, t .2))) (λ z. z) (le-or-lt 60 (t .0));
+        there = t .2;
+        top = t .3;
+      }
+
+  module _ (f : ℕ) (ef : f ≡ leadingZeros 64 left) where
+    weight-is : 63 - f ≡ next .bit
+    weight-is = omega (arith, next .frn)
+
+    pub weight-there : 2 ^ (63 - f) ≤ left
+    weight-there = rw weight-is (next .there)
+
+    less : left - 2 ^ (63 - f) < 2 ^ next .bit
+    less = let e : 2 ^ suc (next .bit) ≡ 2 ^ next .bit * 2 = pow-suc 2 (next .bit) in let w : 2 ^ (63 - f) ≡ 2 ^ next .bit = ap (λ x. 2 ^ x) weight-is in omega (arith, next .top)
+
+    taken : flags (suc (next .bit)) left ≡ true ∷ flags (next .bit) (left - 2 ^ (63 - f))
+    unfolding flags
+    taken =
+        let m : left % 2 ^ next .bit ≡ left - 2 ^ (63 - f) =
+        mod-eq-sub-mod (next .there) ∙ mod-eq-of-lt (subst (λ x. left - 2 ^ x < 2 ^ next .bit) weight-is less) ∙ ap (λ x. left - 2 ^ x) (sym weight-is) in
+        rw (le-leb (2 ^ next .bit) left (next .there), m)
+
+-- ---- the steps of the loop: what is left of the set has no FRN under 4, and walking on from FRN 4 gives what the whole walk gives
+
+-- where a walk over the items has come
+pub record Onward (i bits : ℕ) (part : List ℕ) (left : ℕ) (rest : List ℕ) (w : Came) : Type 0 where
+  pub came : Came
+  pub walks : walk i (flags 60 bits) 4 part w ≡ walk i (flags 60 left) 4 rest came
+  pub here : came .here ≡ w .here + (length part - length rest)
+  pub kind : came .kind ≡ w .kind
+
+pub record Standing (i bits : ℕ) (part : List ℕ) (left : ℕ) (rest : List ℕ) : Type 0 where
+  pub below : left < 2 ^ 60
+  pub fewer : length rest ≤ length part
+  pub onward : (w : Came) → Onward i bits part left rest w
+
+module _ (i bits : ℕ) (part : List ℕ) (h : i < 2) where
+  pub stand-first : bits < 2 ^ 60 → Standing i bits part bits part
+  stand-first b = record { below = b; fewer = omega arith; onward = λ w. record { came = w; walks = refl; here = omega arith; kind = refl } }
+
+  pub stand-next : (left : ℕ) (rest : List ℕ) (s : Standing i bits part left rest) (some : left ≡ 0 → ⊥) (f : ℕ) (ef : f ≡ leadingZeros 64 left) (n : ℕ) → checkAt i f rest ≡ ok n → Standing i bits part (left - 2 ^ (63 - f)) (take (length rest - n) (drop n rest))
+  stand-next left rest s some f ef n c =
+      let x : Next left (s .below) some = next left (s .below) some in
+      let d : left - 2 ^ (63 - f) < 2 ^ x .bit = less left (s .below) some f ef in
+      let j : ℕ = x .bit in
+      let l : n ≤ length rest = check-within i f rest n c in
+      let m : length (drop n rest) ≡ length rest - n = length-drop n rest in
+      record {
+        below = (let q : j ≤ 60 = omega (arith, x .low) in let p : 2 ^ j ≤ 2 ^ 60 = pow-mono q in omega (arith, d));
+        fewer = rw to-end (omega (arith, s .fewer));
+        onward = λ y.
+            let w : Came = s .onward y .came in
+            let v : Came = passed i f n (take n rest) w in
+            record {
+              came = v;
+              walks =
+                  s .onward y .walks
+                  ∙ ap (λ y. walk i (flags y left) 4 rest w) (omega (arith, x .low))
+                  ∙ blank i (59 - j) (suc j) 4 left rest w (x .top)
+                  ∙ ap₂ (λ ts y. walk i ts y rest w) (taken left (s .below) some f ef) (omega (arith, x .low, x .frn))
+                  ∙ one i f n (flags j (left - 2 ^ (63 - f))) rest w c
+                  ∙ ap (λ y. walk i (flags j (left - 2 ^ (63 - f))) y (drop n rest) v) (omega (arith, x .low, x .frn))
+                  ∙ sym (blank i (60 - j) j 4 (left - 2 ^ (63 - f)) (drop n rest) v d)
+                  ∙ ap₂ (λ y r. walk i (flags y (left - 2 ^ (63 - f))) 4 r v) (omega (arith, x .low)) (sym (to-end rest n));
+              here = ap (λ z. z + n) (s .onward y .here) ∙ rw to-end (omega (arith, s .fewer));
+              kind = kind-stays i f n (take n rest) w h (omega (arith, x .low, x .frn)) ∙ s .onward y .kind;
+            };
+      }
+
+  pub stand-end : (left n : ℕ) (rest : List ℕ) → Standing i bits part left rest → left ≡ 0 → n ≡ length part - length rest + 1 → Later i bits part n
+  stand-end left zero rest s z e = tt
+  stand-end left (suc n) rest s z e =
+      let m : n ≡ length part - length rest = omega arith in (
+        omega arith,
+        λ w. record {
+          came = s .onward w .came;
+          walks = s .onward w .walks ∙ ap (λ x. walk i (flags 60 x) 4 rest (s .onward w .came)) z ∙ walk-none i 60 4 rest (s .onward w .came);
+          here = s .onward w .here ∙ ap (λ x. w .here + x) (sym m);
+          kind = s .onward w .kind;
+        },
+      )
+
+-- ---- all items of a set that has FRN 1 to 3
+
+pub later-within : (i bits : ℕ) (bs : List ℕ) (n : ℕ) → Later i bits bs n → (n ≡ 0 → ⊥) → n ≤ length bs + 1
+later-within i bits bs zero l z = absurd (z refl)
+later-within i bits bs (suc n) l z = omega (arith, l .0)
+
+module _ (i bits : ℕ) (part : List ℕ) (h : i < 2) (o : Octets part) (b : bits / 2 ^ 60 ≡ 7) where
+  bits-below : bits < 2 ^ (3 + 60)
+  bits-below = omega arith
+
+  pub seven : flags 63 bits ≡ true ∷ true ∷ true ∷ flags 60 (bits % 2 ^ 60)
+  unfolding flags
+  seven = flags-split 3 60 bits bits-below ∙ ap (λ x. flags 3 x ++ flags 60 (bits % 2 ^ 60)) b
+
+  -- the first three, and then those from FRN 4 on
+  pub pass-three : (n : ℕ) → 5 ≤ length part → Later i (bits % 2 ^ 60) (take (length part - 5) (drop 5 part)) n → (n ≡ 0 → ⊥) → Passed i bits part (4 + n)
+  pass-three zero l g z = absurd (z refl)
+  pass-three (suc n) l g z = let e : suc (4 + n) ≡ 4 + suc n = omega arith in subst (Passed i bits part) e (λ k.
+      let u : Came = third i (flags 60 (bits % 2 ^ 60)) part k h o l in
+      let q : Goes i (bits % 2 ^ 60) (take (length part - 5) (drop 5 part)) n u = g .1 u in
+      record {
+        came = q .came;
+        walks =
+            ap (λ ts. walk i ts 1 part (startAt k)) seven
+            ∙ first-three i (flags 60 (bits % 2 ^ 60)) part k h o l
+            ∙ ap (λ r. walk i (flags 60 (bits % 2 ^ 60)) 4 r u) (sym (to-end part 5))
+            ∙ q .walks;
+        here = q .here ∙ (let e : u .here + n ≡ k + suc (4 + n) = omega arith in e);
+        kind = q .kind ∙ third-kind i (flags 60 (bits % 2 ^ 60)) part k h o l;
+      })
+
+  -- the first seven, where those after the third are free
+  module _ (v n : ℕ) (ev : v ≡ bits / 2 ^ 56 % 16) (a : allFree i 4 (flags 4 v) ≡ true) (en : n ≡ 5 + freeSum i 4 (flags 4 v)) (l : n ≤ length part) where
+    low : bits % 2 ^ 60 % 2 ^ 56 ≡ bits % 2 ^ 56
+    low = omega arith
+
+    high : bits % 2 ^ 60 / 2 ^ 56 ≡ v
+    high = omega arith
+
+    four : flags 60 (bits % 2 ^ 60) ≡ flags 4 v ++ flags 56 (bits % 2 ^ 56)
+    four = flags-split 4 56 (bits % 2 ^ 60) (mod-lt bits (pow-pos 60)) ∙ ap₂ (λ x y. flags 4 x ++ flags 56 y) high low
+
+    pass-seven : (m : ℕ) → Later i (bits % 2 ^ 56) (take (length part - n) (drop n part)) (suc m) → (k : ℕ) → Walks i bits part (n + m) k
+    pass-seven m g k =
+        let five : 5 ≤ length part = omega arith in
+        let u : Came = third i (flags 60 (bits % 2 ^ 60)) part k h o five in
+        let s : Skipped i (4 + length (flags 4 v)) (freeSum i 4 (flags 4 v)) (flags 56 (bits % 2 ^ 56)) (drop 5 part) u (walk i (flags 4 v ++ flags 56 (bits % 2 ^ 56)) 4 (drop 5 part) u) =
+        skip-free i 4 (flags 4 v) (flags 56 (bits % 2 ^ 56)) (drop 5 part) u h (omega arith) (omega (arith, flags-length 4 v)) (octets-drop 5 part o) a (omega (arith, length-drop 5 part)) in
+        let q : Goes i (bits % 2 ^ 56) (take (length part - n) (drop n part)) m (s .came) = g .1 (s .came) in
+        record {
+          came = q .came;
+          walks =
+              ap (λ ts. walk i ts 1 part (startAt k)) seven
+              ∙ first-three i (flags 60 (bits % 2 ^ 60)) part k h o five
+              ∙ ap (λ ts. walk i ts 4 (drop 5 part) u) four
+              ∙ s .walks
+              ∙ ap (λ f. walk i (flags 56 (bits % 2 ^ 56)) (4 + f) (drop (freeSum i 4 (flags 4 v)) (drop 5 part)) (s .came)) (flags-length 4 v)
+              ∙ ap (λ r. walk i (flags 56 (bits % 2 ^ 56)) 8 r (s .came)) (drop-drop (freeSum i 4 (flags 4 v)) 5 part ∙ ap (λ x. drop x part) (sym en) ∙ sym (to-end part n))
+              ∙ sym (blank i 4 56 4 (bits % 2 ^ 56) (take (length part - n) (drop n part)) (s .came) (mod-lt bits (pow-pos 56)))
+              ∙ q .walks;
+          here = q .here ∙ ap (λ x. x + m) (s .here) ∙ (let e : u .here + freeSum i 4 (flags 4 v) + m ≡ k + (n + m) = omega arith in e);
+          kind = q .kind ∙ s .kind ∙ third-kind i (flags 60 (bits % 2 ^ 60)) part k h o five;
+        }
+
+  pub pass-sum : (ts : List ℕ) (v n m : ℕ) → soundTypes ts ≡ true → v ≡ bits / 2 ^ 56 % 16 → n ≡ getD ts (224 + i * 16 + v) 0 → (n ≡ 0 → ⊥) → n ≤ length part
+      → Later i (bits % 2 ^ 56) (take (length part - n) (drop n part)) m → (m ≡ 0 → ⊥) → Passed i bits part (n + m - 1)
+  pass-sum ts v n zero t ev en z l g y = absurd (y refl)
+  pass-sum ts v zero (suc m) t ev en z l g y = absurd (z refl)
+  pass-sum ts v (suc n) (suc m) t ev en z l g y =
+      let r : (allFree i 4 (flags 4 v) ≡ true) × (suc n ≡ 5 + freeSum i 4 (flags 4 v)) = sum-read ts i t h v (suc n) (omega arith) (sym en) z in
+      let e : suc (n + m) ≡ suc n + suc m - 1 = omega arith in
+      let d : suc n + m ≡ suc (n + m) = omega arith in
+      subst (Passed i bits part) e (λ k. subst (λ x. Walks i bits part x k) d (pass-seven v (suc n) ev (r .0) (r .1) l m g k))
+
+-- ---- the record
+
+module _ (i : ℕ) (bs : List ℕ) (known : (j : ℕ) → Fits w8 (getD bs j 0)) (b : length bs < 65_536) where
+  clean : Octets bs
+  clean = octets-all bs known
+
+  -- the set, what the message type asks for and the items told so
+  pub quick-whole : (s : SetRead) (found : ItemSet) (used n : ℕ) → setOf s ≡ setAt i bs → s ≡ set.Items found used
+      → (c : ℕ) → c ≡ getD (take (length bs - used) (drop used bs)) 4 0 → Content true (judgeSet i (found .bits) c) → (n ≡ 0 → ⊥) → Passed i (found .bits) (take (length bs - used) (drop used bs)) n
+      → endAt i 0 bs ≡ ok (used + n)
+  unfolding recordBy
+  quick-whole s found used zero h e c ec j z p = absurd (z refl)
+  quick-whole s found used (suc n) h e c ec j z p =
+      let w : Walks i (found .bits) (take (length bs - used) (drop used bs)) (suc n) (0 + used) = p (0 + used) in
+      let r : recordBy i 0 bs ≡ ok (record { start = 0; starts = w .came .starts; end = w .came .here; count = w .came .count }) =
+      bind-in _ (later-in 0 (sym h ∙ ap setOf e))
+      (bind-in _ (ap (λ l. walk i (flags 63 (found .bits)) 1 l (startAt (0 + used))) (sym (to-end bs used)) ∙ w .walks)
+      (bind-in _ (later-in 0 (ap (judgeSet i (found .bits)) (w .kind ∙ sym ec) ∙ j)) refl)) in
+      bind-in _ (sym (record-law i 0 bs clean (omega arith)) ∙ r) (ap ok (w .here ∙ ap (λ x. x + suc n) (zero-add used)))
+
+  -- wherever it stands
+  pub end-anywhere : (k n : ℕ) → endAt i 0 bs ≡ ok n → endAt i k bs ≡ ok (k + n)
+  unfolding recordAt
+  end-anywhere k n h =
+      bind-elim _ _ h λ m p e.
+      let r : RecordRead i 0 bs m = record-read i 0 bs m clean p in
+      let m₁ : RecordMap = mapOf (categoryAt i) (record { start = k; value = r .value }) in
+      let q : recordAt i k bs ≡ ok m₁ = later-in k (bind-in _ (r .reads) refl) in
+      let r₁ : RecordRead i k bs m₁ = record-read i k bs m₁ clean q in
+      let same : r₁ .rest ≡ r .rest = ap (λ x. x .1) (ok-inj (sym (r₁ .reads) ∙ r .reads)) in
+      let l : length (r₁ .rest) ≡ length (r .rest) = ap length same in
+      let f : m .end ≡ n = ok-inj e in
+      bind-in _ q (ap ok (omega (arith, r .ends, r₁ .ends)))
+
+  pub end-within : (n : ℕ) → endAt i 0 bs ≡ ok n → n ≤ length bs
+  end-within n h =
+      bind-elim _ _ h λ m p e.
+      let f : m .end ≡ n = ok-inj e in
+      omega (arith, record-read i 0 bs m clean p .ends)

@@ -1,0 +1,22 @@
+-- `quick_records::lent::type_table` meets its contract: no entry says what the rules do not have. Assumes nothing.
+use mathlib.Core.Path.{refl}
+use Rattle.rules.specs.Answer.{_>>=_, if_then_else_}
+use Rattle.rules.specs.Presence.{number, flags}
+use Rattle.rules.specs.Record.{messageOf}
+use Rattle.rules.specs.Category017.{category017}
+use Rattle.rules.specs.Category018.{category018}
+use Rattle.rules.specs.Entry.{categories}
+use Rattle.tables.specs.FieldRules.{singles}
+use Rattle.tables.specs.Tables.{layoutAt, layouts, groupAt, groups}
+use Rattle.sets.specs.Sets.{categoryAt, bitsOf}
+use Rattle.sets.specs.Steps.{rowAt}
+use Rattle.quick_records.specs.Record.{typeSets, soundTypes}
+use Rattle.quick_records.proofs.lent.type_table.Statement.{statement}
+use Rattle.quick_records.proofs.lent.type_table.Tie as tie
+
+returns : tie.Need-returns
+unfolding soundTypes typeSets rowAt messageOf if_then_else_ _>>=_ flags singles layoutAt layouts groupAt groups categoryAt categories category017 category018 bitsOf number
+returns c = refl
+
+pub type-table-spec : {M : Type 1} → statement M
+type-table-spec = tie.close (tie.spec returns)

@@ -1,0 +1,121 @@
+// The record that is plainly legal: its set, what its message type asks for, its items.
+use super::lent::Sets;
+use super::lent::Types;
+use quick_items::Steps;
+use quick_items::octet;
+use quick_items::quick_item;
+use sets::ItemSet;
+use sets::SetRead;
+ghost use mathlib.Core.Path.{_≡_};
+ghost use mathlib.Core.Bool.{true};
+ghost use Prim.Native.Nat.{_/_, _≤_, _<_, _+_, _-_, _^_};
+ghost use lib.ListN.{length};
+ghost use Rattle.quick_items.specs.Item.{Plainly, soundSteps};
+ghost use Rattle.sets.specs.Steps.{judgeSet};
+ghost use Rattle.quick_records.specs.Record.{soundTypes, Content, Later, Passed, endAt};
+ghost use Rattle.quick_records.specs.Shape.{soundSets};
+
+// Whether a record has what its message type asks for: true only where it does.
+fn is_content(types: &Types, sets: &Sets, profile: usize, items: ItemSet, kind: u8) -> bool
+    requires { ⌜ (soundTypes (now types) ≡ true) × (soundSets (now sets) ≡ true) × (profile < 2) × (items .bits / 2 ^ 60 ≡ 7) ⌝ }
+    ensures { λ r. ⌜ Content r (judgeSet profile (items .bits) kind) ⌝ }
+{
+    if 112 <= kind {
+        return false;
+    }
+    let row = octet(types[profile * 112 + octet(kind)]);
+    if row == 0 {
+        return false;
+    }
+    let must = ItemSet {
+        bits: sets[2 * row],
+    };
+    if !must.is_within(items) {
+        return false;
+    }
+    items.is_within(ItemSet {
+        bits: sets[2 * row + 1],
+    })
+}
+
+// The bit of an FRN.
+fn weight(frn: usize) -> u64
+    requires { ⌜ frn ≤ 63 ⌝ }
+    ensures { λ r. ⌜ r ≡ 2 ^ (63 - frn) ⌝ }
+{
+    1u64 << (63 - frn)
+}
+
+// One more than the octets of the items of a set that has no FRN under 4.
+pub fn later_items(steps: &Steps, profile: usize, bits: u64, part: &[u8]) -> usize
+    requires { ⌜ (soundSteps (now steps) ≡ true) × (profile < 2) × (bits < 2 ^ 60) × (length (now part) < 65536) ⌝ }
+    ensures { λ r. ⌜ Later profile bits (now (part .entry)) r ⌝ }
+{
+    let mut left = bits;
+    let mut rest = part;
+    while left != 0 {
+        let frn = u64::leading_zeros(left) as usize;
+        let n = quick_item(steps, profile, frn, rest);
+        if n == 0 {
+            return 0;
+        }
+        rest = &rest[n..];
+        left = left - weight(frn);
+    }
+    part.len() - rest.len() + 1
+}
+
+// How many octets the items of a set take that has FRN 1 to 3: the first three or the first seven at once, then one by one.
+fn quick_items(steps: &Steps, types: &Types, profile: usize, bits: u64, part: &[u8]) -> usize
+    requires { ⌜ (soundSteps (now steps) ≡ true) × (soundTypes (now types) ≡ true) × (profile < 2) × (bits / 2 ^ 60 ≡ 7) × (length (now part) < 65536) ⌝ }
+    ensures { λ r. ⌜ Passed profile bits (now (part .entry)) r ⌝ }
+{
+    let sum = octet(types[224 + profile * 16 + ((bits >> 56) % 16) as usize]);
+    if sum == 0 {
+        if part.len() < 5 {
+            return 0;
+        }
+        let n = later_items(steps, profile, bits % 0x1000_0000_0000_0000, &part[5..]);
+        if n == 0 {
+            return 0;
+        }
+        return 4 + n;
+    }
+    if part.len() < sum {
+        return 0;
+    }
+    let n = later_items(steps, profile, bits % 0x0100_0000_0000_0000, &part[sum..]);
+    if n == 0 {
+        return 0;
+    }
+    sum + n - 1
+}
+
+// How many octets the record takes that starts a part of a block.
+pub fn quick_record(steps: &Steps, types: &Types, sets: &Sets, profile: usize, part: &[u8]) -> usize
+    requires { ⌜ (soundSteps (now steps) ≡ true) × (soundTypes (now types) ≡ true) × (soundSets (now sets) ≡ true) × (length (now part) < 65536) ⌝ }
+    ensures { λ r. ⌜ Plainly r (endAt profile 0 (now (part .entry))) ⌝ }
+{
+    if 2 <= profile {
+        return 0;
+    }
+    let SetRead::Items { set, octets } = ItemSet::from_octets(profile, part) else {
+        return 0;
+    };
+    let items = &part[octets..];
+    if items.len() < 5 {
+        return 0;
+    }
+    let bits = set.bits;
+    if bits >> 60 != 7 {
+        return 0;
+    }
+    if !is_content(types, sets, profile, set, items[4]) {
+        return 0;
+    }
+    let n = quick_items(steps, types, profile, bits, items);
+    if n == 0 {
+        return 0;
+    }
+    octets + n
+}
