@@ -1,9 +1,9 @@
 #!/bin/sh
 # The C tests: tests/run-c.sh [INPUTS]
 #
-# The plain implementation is asked every vector; differ.c is tried on it with each fault of faults/ planted, and must find each; then, where
-# the crate `asterix` is there, the library is asked every vector and compared with the plain implementation over INPUTS inputs (a million) from a fixed
-# seed and as many from a fresh one, which is printed. FRESH=SEED repeats a fresh run. Status 1 where anything differs. Output goes to target/c.
+# The plain implementation is asked every vector, by answers.c; differ.c is tried on it with each fault of faults/ planted, and must find each; then,
+# where the crate `asterix` is there, the library is asked every vector in the same way and compared with the plain implementation over INPUTS inputs
+# (a million) from a fixed seed and as many from a fresh one, which is printed. FRESH=SEED repeats a fresh run. Status 1 where anything differs. Output goes to target/c.
 set -eu
 cd "$(dirname "$0")/.."
 root=$PWD
@@ -12,20 +12,13 @@ inputs=${1:-1000000}
 made=target/c
 mkdir -p $made
 
-vectors=
-for questions in tests/vectors/*-questions.txt; do
-    # `lines` asks how asterix_answers reads the words of a line; the driver here reads only well-formed ones.
-    [ $questions != tests/vectors/lines-questions.txt ] || continue
-    vectors="$vectors $questions ${questions%-questions.txt}-answers.txt"
-done
-
-for c in plain standin generate vectors differ; do
+for c in plain standin generate answers differ; do
     compile -O2 -Iinclude -c tests/c/$c.c -o $made/$c.o
 done
 
 echo "== the plain implementation"
-link $made/vectors-plain $made/vectors.o $made/standin.o $made/plain.o
-run $made/vectors-plain $vectors
+link $made/answers-plain $made/answers.o $made/standin.o $made/plain.o
+python3 tests/vectors.py $start $made/answers-plain
 
 echo "== planted faults"
 link $made/differ-plain $made/differ.o $made/generate.o $made/standin.o $made/plain.o
@@ -54,8 +47,8 @@ fi
 echo "== the library"
 rt staticlib asterix >$made/staticlib.txt || { tail -n 20 $made/staticlib.txt; exit 1; }
 library=target/staticlib/libasterix.a
-link $made/vectors $made/vectors.o $library
-run $made/vectors $vectors
+link $made/answers $made/answers.o $library
+python3 tests/vectors.py $start $made/answers
 link $made/differ $made/differ.o $made/generate.o $made/plain.o $library
 run $made/differ 1718 "$inputs"
 run $made/differ "${FRESH:-fresh}" "$inputs"

@@ -21,7 +21,8 @@ link() {
         "$toolchain/lib/libc.so.6" "$toolchain/lib/libc_nonshared.a" "$toolchain/lib/crtendS.o" "$toolchain/lib/crtn.o"
 }
 
-# run PROGRAM ARG..
+# The words that start a program, and run PROGRAM ARG..
+start="$emulator $toolchain/lib/ld-linux-x86-64.so.2 --library-path $toolchain/lib"
 run() {
-    $emulator "$toolchain/lib/ld-linux-x86-64.so.2" --library-path "$toolchain/lib" "$@"
+    $start "$@"
 }
