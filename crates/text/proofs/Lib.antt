@@ -1,8 +1,6 @@
 -- The laws that the proofs of this crate and of its callers cite.
 pub mod ListLaws
 pub mod PageLaws
-pub mod SignLaws
 pub mod NumberLaws
 pub mod OctetLaws
-pub mod WordLaws
 pub mod Unique

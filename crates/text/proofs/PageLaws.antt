@@ -1,13 +1,11 @@
--- What holds of text on a page: one character; a text after another; a loop over a text. Assumes nothing.
-use Prim.Native.Nat.{ℕ, suc, _+_, _<_, _≤_, min}
-use mathlib.Core.Path.{_≡_, refl, sym, ap, _∙_, subst}
+-- What holds of text on a page: one character; a text after another; the page's length; a loop over a text. Assumes nothing.
+use Prim.Native.Nat.{ℕ, _+_, _<_, _≤_}
+use mathlib.Core.Path.{_≡_, refl, sym, ap, _∙_}
 use mathlib.Core.Bool.{Bool, cond, true, false}
-use mathlib.Core.List.{List, [], _∷_, _++_, append-nil}
-use native.Mathlib.Numerals.{add-one}
-use borrow.Author.Tests.{lt-ltb, le-ltb, ltb-true, ltb-false}
+use mathlib.Core.List.{List, [], _∷_, _++_}
+use borrow.Author.Tests.{lt-ltb, le-ltb}
 use native.Mathlib.Omega.{arith}
-use lib.ListN.{length, take, set, drop, getD, drop-of-length-le, length-set}
-use lib.Seq.{take-suc-set, append-snoc, take-append-le, take-all, length-take-le}
+use lib.ListN.{length, set, drop, getD, drop-of-length-le, length-set}
 use lib.Dec.{ltb}
 use Rattle.text.proofs.ListLaws.{drop-next}
 use Rattle.text.specs.Page.{Page, page, put, puts}
@@ -37,7 +35,7 @@ module _ {A : Type 0} where
   pub instead : (p : Page A) {q : Page A} {t u : List A} → q ≡ puts t p → t ≡ u → q ≡ puts u p
   instead p h e = h ∙ ap (λ (t : List A). puts t p) e
 
--- ---- what a page then holds: its length is what it was; from the start on, the text as far as there is room
+-- ---- a page's length is what it was
 
 module _ {A : Type 0} where
   put-size : (c : A) (p : Page A) → length (put c p .held) ≡ length (p .held)
@@ -53,51 +51,6 @@ module _ {A : Type 0} where
   puts-size [] p = refl
   puts-size (c ∷ t) p = puts-size t (put c p) ∙ put-size c p
 
-  pub record Fronted (t : List A) (l : List A) (n : ℕ) (p : Page A) : Type 0 where
-    pub place : p .at ≡ min (n + length t) (length l)
-    pub front : take (p .at) (p .held) ≡ take (length l) (take n l ++ t)
-
-  fronted-room : (c : A) (t l : List A) (n : ℕ) (p : Page A) → n < length l → Fronted t (set l n c) (n + 1) p → Fronted (c ∷ t) l n p
-  fronted-room c t l n p h f =
-      let e : length (set l n c) ≡ length l = length-set l n c in
-      let m : min (n + 1 + length t) (length (set l n c)) ≡ min (n + suc (length t)) (length l) = omega arith in
-      let k : take (n + 1) (set l n c) ≡ take n l ++ (c ∷ []) = rw add-one (take-suc-set l n c h) in
-      record {
-        place = f .place ∙ m;
-        front = f .front ∙ (λ i. take (e i) (k i ++ t)) ∙ ap (take (length l)) (append-snoc (take n l) c t);
-      }
-
-  fronted-full : (c : A) (t l : List A) (n : ℕ) (p : Page A) → n ≤ length l → length l ≤ n → Fronted t l n p → Fronted (c ∷ t) l n p
-  fronted-full c t l n p h k f =
-      let m : min (n + length t) (length l) ≡ min (n + suc (length t)) (length l) = omega arith in
-      let w : length l ≤ length (take n l) = omega (arith, length-take-le n l h) in
-      record {
-        place = f .place ∙ m;
-        front = f .front ∙ take-append-le (length l) (take n l) t w ∙ sym (take-append-le (length l) (take n l) (c ∷ t) w);
-      }
-
-  puts-fronted : (t l : List A) (n : ℕ) → n ≤ length l → Fronted t l n (puts t (page l n))
-  unfolding puts
-  puts-fronted [] l n h = record {
-    place = omega arith;
-    front = sym (ap (take (length l)) (append-nil (take n l)) ∙ take-all (length l) (take n l) (omega (arith, length-take-le n l h)));
-  }
-  puts-fronted (c ∷ t) l n h = go (ltb n (length l)) refl (puts-fronted t)
-    where
-      go : (b : Bool) → ltb n (length l) ≡ b → ((l₁ : List A) (n₁ : ℕ) → n₁ ≤ length l₁ → Fronted t l₁ n₁ (puts t (page l₁ n₁)))
-          → Fronted (c ∷ t) l n (puts t (put c (page l n)))
-      go true e ih =
-          let k : n < length l = ltb-true n (length l) e in
-          subst (λ (p : Page A). Fronted (c ∷ t) l n (puts t p)) (put-room l n c k)
-          (fronted-room c t l n _ k (ih (set l n c) (n + 1) (omega (arith, length-set l n c))))
-      go false e ih =
-          let k : length l ≤ n = ltb-false n (length l) e in
-          subst (λ (p : Page A). Fronted (c ∷ t) l n (puts t p)) (put-full l n c k) (fronted-full c t l n _ h k (ih l n h))
-
-  -- from the page's start on
-  pub puts-front : (t l : List A) → Fronted t l 0 (puts t (page l 0))
-  puts-front t l = puts-fronted t l 0 (omega arith)
-
 -- ---- a loop that puts the text of one element after another: the text of what is left, put on the page so far, gives the page meant
 
 pub record Spelling {A B : Type 0} (f : List B → List A) (s : List B) (l₀ : List A) (q : Page A) (l : List A) (n i : ℕ) : Type 0 where
@@ -106,11 +59,8 @@ pub record Spelling {A B : Type 0} (f : List B → List A) (s : List B) (l₀ : 
   pub same : puts (f (drop i s)) (page l n) ≡ q
 
 module _ {A B : Type 0} (f : List B → List A) (s : List B) (l₀ : List A) where
-  pub spelling-from : (n₀ i : ℕ) → i ≤ length s → Spelling f s l₀ (puts (f (drop i s)) (page l₀ n₀)) l₀ n₀ i
-  spelling-from n₀ i h = record { within = h; size = refl; same = refl }
-
   pub spelling-first : (n₀ : ℕ) → Spelling f s l₀ (puts (f s) (page l₀ n₀)) l₀ n₀ 0
-  spelling-first n₀ = spelling-from n₀ 0 (omega arith)
+  spelling-first n₀ = record { within = omega arith; size = refl; same = refl }
 
   -- g is the text of an element
   pub spelling-next : (q : Page A) (g : B → List A) → ((b : B) (bs : List B) → f (b ∷ bs) ≡ g b ++ f bs)

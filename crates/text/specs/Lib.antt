@@ -1,5 +1,4 @@
--- What the crate's contracts cite: text, and what words of it say. Assumes nothing.
+-- What the crate's contracts cite: text on a page. Assumes nothing.
 pub mod Page
 pub mod Number
 pub mod Octet
-pub mod Word

@@ -6,19 +6,19 @@ use Rattle.text.proofs.octet.glyph.Tie as tie
 use Rattle.text.proofs.octet.glyph.Reads as reads
 use Rattle.text.proofs.octet.glyph.Lts as lts
 
--- src/octet.rt:125:17
+-- src/octet.rt:13:17
 add-result : tie.Need-add-result
 add-result c = search needs
 
--- src/octet.rt:125:33
+-- src/octet.rt:13:33
 add-result-2 : tie.Need-add-result-2
 add-result-2 c = search needs
 
--- src/octet.rt:121:1
+-- src/octet.rt:9:1
 returns : tie.Need-returns
 returns c = simp (lt-ltb _ _ (c .if1 .taken))
 
--- src/octet.rt:121:1
+-- src/octet.rt:9:1
 returns-2 : tie.Need-returns-2
 returns-2 c = simp (le-ltb _ _ (c .if1 .left))
 

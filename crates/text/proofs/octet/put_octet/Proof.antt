@@ -9,27 +9,27 @@ use Rattle.text.proofs.octet.put_octet.Lts as lts
 use Rattle.text.proofs.octet.glyph.Reads as glyph-reads
 use Rattle.text.proofs.page.put.Reads as put-reads
 
--- src/octet.rt:132:26
+-- src/octet.rt:20:26
 glyph-requires : tie.Need-glyph-requires
 glyph-requires c κs = search needs
 
--- src/octet.rt:132:9
+-- src/octet.rt:20:9
 put-requires : tie.Need-put-requires
 put-requires c κs = search needs
 
--- src/octet.rt:133:17
+-- src/octet.rt:21:17
 glyph-requires-2 : tie.Need-glyph-requires-2
 glyph-requires-2 c κs = search needs
 
--- src/octet.rt:133:5
+-- src/octet.rt:21:5
 put-requires-2 : tie.Need-put-requires-2
 put-requires-2 c κs = search needs
 
--- src/octet.rt:129:1
+-- src/octet.rt:17:1
 same-length : tie.Need-same-length
 same-length c = search needs
 
--- src/octet.rt:129:1
+-- src/octet.rt:17:1
 returns : tie.Need-returns
 returns c = instead _ (after _ _ _ (c .before .before .before .before .before .before .before .put .ensures) (c .before .before .put2 .ensures)) (λ i. c .before .before .before .before .before .before .before .before .glyph .ensures i ∷ (c .before .before .before .glyph2 .ensures i ∷ []))
 

@@ -19,47 +19,47 @@ Inv-loop out₀ at octets i₀ p₀ out i p = Spelling hexText octets out₀ (pu
 abbrev μ-loop : tie.MeasureT-loop
 μ-loop out₀ at octets i₀ p₀ out i p = length octets - i
 
--- src/octet.rt:141:9
+-- src/octet.rt:29:9
 put-requires : tie.Need-put-requires Inv-loop μ-loop
 put-requires c κs = search needs
 
--- src/octet.rt:141:9
+-- src/octet.rt:29:9
 same-length : tie.Need-same-length Inv-loop μ-loop
 same-length c = search needs
 
--- src/octet.rt:141:9
+-- src/octet.rt:29:9
 returns : tie.Need-returns Inv-loop μ-loop
 returns c = instead _ (c .before .before .put .ensures) (octets-none _ (c .before .before .before .before .if1 .taken))
 
--- src/octet.rt:145:5
+-- src/octet.rt:33:5
 loop-holds : tie.Need-loop-holds Inv-loop μ-loop
 loop-holds c = spelling-first _ _ _ _
 
--- src/octet.rt:146:31
+-- src/octet.rt:34:31
 shared-slice-read-put-octet : tie.Need-shared-slice-read-put-octet Inv-loop μ-loop
 shared-slice-read-put-octet c = search needs
 
--- src/octet.rt:146:9
+-- src/octet.rt:34:9
 put-octet-requires : tie.Need-put-octet-requires Inv-loop μ-loop
 put-octet-requires c κs = search needs
 
--- src/octet.rt:147:9
+-- src/octet.rt:35:9
 add-i : tie.Need-add-i Inv-loop μ-loop
 add-i c = search needs
 
--- src/octet.rt:145:5
+-- src/octet.rt:33:5
 loop-less : tie.Need-loop-less Inv-loop μ-loop
 loop-less c = search needs
 
--- src/octet.rt:145:5
+-- src/octet.rt:33:5
 loop-again : tie.Need-loop-again Inv-loop μ-loop
 loop-again c = spelling-next _ _ _ _ octetText hex-step _ _ _ _ _ 0 (c .before .before .before .before .before .before .loop .inv) (c .before .before .before .before .before .loop-test .taken) (c .before .before .put-octet .kept .0) (c .before .before .put-octet .ensures)
 
--- src/octet.rt:137:1
+-- src/octet.rt:25:1
 same-length-2 : tie.Need-same-length-2 Inv-loop μ-loop
 same-length-2 c = c .before .loop .inv .size
 
--- src/octet.rt:137:1
+-- src/octet.rt:25:1
 returns-2 : tie.Need-returns-2 Inv-loop μ-loop
 returns-2 c = instead _ (spelling-last _ _ _ _ hex-nil _ _ _ (c .before .loop .inv) (c .loop-test .left)) (octets-some _ (c .before .before .if1 .left))
 

@@ -1,8 +1,8 @@
+-- `page::put_text` meets its contract: what is left of the text, put on the page so far, gives what the whole text gives. Assumes nothing.
 use Rattle.text.specs.Page.{page, puts}
 use mathlib.Core.List.{[], _∷_}
 use mathlib.Core.Path.{refl}
 use Rattle.text.proofs.PageLaws.{Spelling, spelling-first, spelling-next, spelling-last}
--- `page::put_text` meets its contract: what is left of the text, put on the page so far, gives what the whole text gives. Assumes nothing.
 use borrow.Author.Needs.{needs}
 use Prim.Native.Nat.{_-_}
 use lib.ListN.{length}
