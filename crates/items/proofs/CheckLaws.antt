@@ -44,7 +44,7 @@ unfolding readBy wholeSize wholeOf shapeOf _>>=_
 size-read l bs s o = go (shapeOf l bs) refl
   where
     go : (m : Answer Shaped) → shapeOf l bs ≡ m → (readBy l bs >>= (λ x. ok (length bs - length (x .1)))) ≡ wholeSize l bs
-    go (ok x) e = rw e (size-legal (partsLegal (stepOf (l .0)) (l .3) (x .0) (drop (headOf (l .0)) bs)) _ (x .0) (x .1) bs (fitting l bs x s o e .there))
+    go (ok x) e = rw e (size-legal (partsLegal (stepOf (l .kind)) (l .first) (x .0) (drop (headOf (l .kind)) bs)) _ (x .0) (x .1) bs (fitting l bs x s o e .there))
     go (refused n p) e = rw e
 
 size-is : (l : LayoutRow) (i : Layout) (bs : List ℕ) → rowSound l ≡ true → layoutIs l ≡ some i → Octets bs → sizeOf i bs ≡ wholeSize l bs
@@ -54,26 +54,26 @@ size-is l i bs s h o = ap (λ m. m >>= (λ x. ok (length bs - length (x .1)))) (
 -- a row that is no item's
 pub no-item : (l : LayoutRow) (bs : List ℕ) → layoutIs l ≡ none → wholeOf l bs ≡ refused 21 0
 unfolding layoutIs layoutBy wholeOf shapeOf shapeBy _>>=_
-no-item l bs h = go (l .0) refl
+no-item l bs h = go (l .kind) refl
   where
-    by : (k : ℕ) → l .0 ≡ k → layoutBy k (l .1) (l .2) (groupIs (groupAt (l .3))) (slice (l .3) (l .4) (map groupIs (groupRows 0 groups))) ≡ none
-    by k e = subst (λ x. layoutBy x (l .1) (l .2) (groupIs (groupAt (l .3))) (slice (l .3) (l .4) (map groupIs (groupRows 0 groups))) ≡ none) e h
+    by : (k : ℕ) → l .kind ≡ k → layoutBy k (l .least) (l .most) (groupIs (groupAt (l .first))) (slice (l .first) (l .end) (map groupIs (groupRows 0 groups))) ≡ none
+    by k e = subst (λ x. layoutBy x (l .least) (l .most) (groupIs (groupAt (l .first))) (slice (l .first) (l .end) (map groupIs (groupRows 0 groups))) ≡ none) e h
 
-    go : (k : ℕ) → l .0 ≡ k → wholeOf l bs ≡ refused 21 0
+    go : (k : ℕ) → l .kind ≡ k → wholeOf l bs ≡ refused 21 0
     go zero e = rw e
     go (suc zero) e = none-some (sym (by 1 e))
     go (suc (suc zero)) e = none-some (sym (by 2 e))
     go (suc (suc (suc zero))) e = none-some (sym (by 3 e))
     go (suc (suc (suc (suc k)))) e = none-some (sym (by (suc (suc (suc (suc k)))) e))
 
-pub check-is : (r : PlaceRow) (profile frn : ℕ) (bs : List ℕ) → placeIs r ≡ placeAt (profileAt categories profile) frn → rowSound (layoutAt (r .0)) ≡ true → Octets bs
-    → checkAt profile frn bs ≡ wholeSize (layoutAt (r .0)) bs
+pub check-is : (r : PlaceRow) (profile frn : ℕ) (bs : List ℕ) → placeIs r ≡ placeAt (profileAt categories profile) frn → rowSound (layoutAt (r .layout)) ≡ true → Octets bs
+    → checkAt profile frn bs ≡ wholeSize (layoutAt (r .layout)) bs
 unfolding placeIs checkAt wholeSize expect_or_ _>>=_
-check-is r profile frn bs h s o = go (layoutIs (layoutAt (r .0))) refl
+check-is r profile frn bs h s o = go (layoutIs (layoutAt (r .layout))) refl
   where
-    go : (x : Option Layout) → layoutIs (layoutAt (r .0)) ≡ x → checkAt profile frn bs ≡ wholeSize (layoutAt (r .0)) bs
-    go none e = rw (← h, e, no-item (layoutAt (r .0)) bs e)
-    go (some i) e = rw (← h, e) (size-is (layoutAt (r .0)) i bs s e o)
+    go : (x : Option Layout) → layoutIs (layoutAt (r .layout)) ≡ x → checkAt profile frn bs ≡ wholeSize (layoutAt (r .layout)) bs
+    go none e = rw (← h, e, no-item (layoutAt (r .layout)) bs e)
+    go (some i) e = rw (← h, e) (size-is (layoutAt (r .layout)) i bs s e o)
 
 -- the two answers
 module _ (l : LayoutRow) (bs : List ℕ) where
@@ -88,36 +88,36 @@ module _ (l : LayoutRow) (bs : List ℕ) where
 -- ---- an item with one part
 
 -- its place in the table says so
-pub single-is : (i : ℕ) → getD singles i 0 ≡ singleOf (layoutAt (placeRowAt i .0))
+pub single-is : (i : ℕ) → getD singles i 0 ≡ singleOf (layoutAt (placeRowAt i .layout))
 unfolding singles placeRowAt layoutAt
-single-is i = List·getD-map (λ r. singleOf (layoutAt (r .0))) (profileRows 1 categories) i nowhere
+single-is i = List·getD-map (λ r. singleOf (layoutAt (r .layout))) (profileRows 1 categories) i nowhere
 
 pub record Single (l : LayoutRow) (g : ℕ) : Type 0 where
-  pub kind : l .0 ≡ 1
-  pub group : l .3 ≡ g
+  pub kind : l .kind ≡ 1
+  pub group : l .first ≡ g
 
 -- a free one, of so many octets
 pub record Free (l : LayoutRow) (n : ℕ) : Type 0 where
-  pub kind : l .0 ≡ 1
-  pub free : groupAt (l .3) .4 ≡ true
-  pub size : groupAt (l .3) .0 ≡ n
+  pub kind : l .kind ≡ 1
+  pub free : groupAt (l .first) .free ≡ true
+  pub size : groupAt (l .first) .octets ≡ n
 
 -- the number in the table says which
 pub single-of : (l : LayoutRow) (n : ℕ) → rowSound l ≡ true → n ≡ singleOf l → 8 ≤ n → Single l (n - 8)
-single-of l n s e h = go (eqb (l .0) 1) refl (groupAt (l .3) .4) e
+single-of l n s e h = go (eqb (l .kind) 1) refl (groupAt (l .first) .free) e
   where
-    go : (t : Bool) → eqb (l .0) 1 ≡ t → (u : Bool) → n ≡ cond t (cond u (groupAt (l .3) .0) (8 + l .3)) 0 → Single l (n - 8)
+    go : (t : Bool) → eqb (l .kind) 1 ≡ t → (u : Bool) → n ≡ cond t (cond u (groupAt (l .first) .octets) (8 + l .first)) 0 → Single l (n - 8)
     go true q true r =
-        let k : l .0 ≡ 1 = eqb-true (l .0) 1 q in
+        let k : l .kind ≡ 1 = eqb-true (l .kind) 1 q in
         absurd (omega (arith, fixed-group l (rowed l s) k .sound .short))
-    go true q false r = record { kind = eqb-true (l .0) 1 q; group = omega arith }
+    go true q false r = record { kind = eqb-true (l .kind) 1 q; group = omega arith }
     go false q u r = absurd (omega arith)
 
 pub free-of : (l : LayoutRow) (n : ℕ) → n ≡ singleOf l → 0 < n → n < 8 → Free l n
-free-of l n e h k = go (eqb (l .0) 1) refl (groupAt (l .3) .4) refl e
+free-of l n e h k = go (eqb (l .kind) 1) refl (groupAt (l .first) .free) refl e
   where
-    go : (t : Bool) → eqb (l .0) 1 ≡ t → (u : Bool) → groupAt (l .3) .4 ≡ u → n ≡ cond t (cond u (groupAt (l .3) .0) (8 + l .3)) 0 → Free l n
-    go true q true f r = record { kind = eqb-true (l .0) 1 q; free = f; size = sym r }
+    go : (t : Bool) → eqb (l .kind) 1 ≡ t → (u : Bool) → groupAt (l .first) .free ≡ u → n ≡ cond t (cond u (groupAt (l .first) .octets) (8 + l .first)) 0 → Free l n
+    go true q true f r = record { kind = eqb-true (l .kind) 1 q; free = f; size = sym r }
     go true q false f r = absurd (omega arith)
     go false q u f r = absurd (omega arith)
 
@@ -141,18 +141,18 @@ pub single-size : (l : LayoutRow) (g : ℕ) (bs : List ℕ) → Single l g → s
 unfolding singleSize wholeSize wholeOf shapeOf shapeBy partsLegal need_or_then_ _>>=_
 single-size l g bs s =
     ⊎-elim
-    (λ (h : groupAt (l .3) .0 ≤ length bs). rw (← s .group, s .kind, le-leb (groupAt (l .3) .0) (length bs) h) (one-part-size (legal (rowsAt (l .3)) (partAt 0 (l .3) bs)) (groupAt (l .3) .0)))
-    (λ (h : length bs < groupAt (l .3) .0). rw (← s .group, s .kind, lt-leb (groupAt (l .3) .0) (length bs) h))
-    (le-or-lt (groupAt (l .3) .0) (length bs))
+    (λ (h : groupAt (l .first) .octets ≤ length bs). rw (← s .group, s .kind, le-leb (groupAt (l .first) .octets) (length bs) h) (one-part-size (legal (rowsAt (l .first)) (partAt 0 (l .first) bs)) (groupAt (l .first) .octets)))
+    (λ (h : length bs < groupAt (l .first) .octets). rw (← s .group, s .kind, lt-leb (groupAt (l .first) .octets) (length bs) h))
+    (le-or-lt (groupAt (l .first) .octets) (length bs))
 
 -- what the check of one part asks, and its answers
 pub single-sound : (l : LayoutRow) (g : ℕ) → rowSound l ≡ true → Single l g → (g < 52) × (partSound 0 (groupAt g) ≡ true)
 single-sound l g s h =
     let r : Rowed l = rowed l s in
-    let f : First 0 (l .3) 1 [] 0 = first-part 0 (l .3) 1 [] 0 (lit< tt) (subst (λ x. partsSound 0 (l .3) x ≡ true) (fixed-one l r (h .kind)) (subst (λ x. partsSound (stepOf x) (l .3) (l .2) ≡ true) (h .kind) (r .parts))) in
+    let f : First 0 (l .first) 1 [] 0 = first-part 0 (l .first) 1 [] 0 (lit< tt) (subst (λ x. partsSound 0 (l .first) x ≡ true) (fixed-one l r (h .kind)) (subst (λ x. partsSound (stepOf x) (l .first) (l .most) ≡ true) (h .kind) (r .parts))) in
     subst (λ x. (x < 52) × (partSound 0 (groupAt x) ≡ true)) (h .group) (f .inside, f .sound)
 
-module _ (g : ℕ) (bs : List ℕ) {m : ℕ} (em : m ≡ groupAt g .0) where
+module _ (g : ℕ) (bs : List ℕ) {m : ℕ} (em : m ≡ groupAt g .octets) where
   pub single-cut : length bs < m → refused 9 0 ≡ singleSize g bs
   unfolding singleSize need_or_then_
   single-cut h = rw (← em, lt-leb m (length bs) h)
@@ -160,17 +160,17 @@ module _ (g : ℕ) (bs : List ℕ) {m : ℕ} (em : m ≡ groupAt g .0) where
   module _ (h : m ≤ length bs) {t : Bool} (et : t ≡ legal (rowsAt g) (partAt 0 g (drop 0 bs))) where
     pub single-legal : t ≡ true → ok m ≡ singleSize g bs
     unfolding singleSize need_or_then_
-    single-legal e = let d : legal (rowsAt g) (partAt 0 g bs) ≡ true = sym et ∙ e in rw (le-leb (groupAt g .0) (length bs) (omega arith), d, em)
+    single-legal e = let d : legal (rowsAt g) (partAt 0 g bs) ≡ true = sym et ∙ e in rw (le-leb (groupAt g .octets) (length bs) (omega arith), d, em)
 
     pub single-barred : t ≡ false → refused 11 0 ≡ singleSize g bs
     unfolding singleSize need_or_then_
-    single-barred e = let d : legal (rowsAt g) (partAt 0 g bs) ≡ false = sym et ∙ e in rw (le-leb (groupAt g .0) (length bs) (omega arith), d)
+    single-barred e = let d : legal (rowsAt g) (partAt 0 g bs) ≡ false = sym et ∙ e in rw (le-leb (groupAt g .octets) (length bs) (omega arith), d)
 
 -- ---- the place of an item
 
-pub check-place : (profile frn : ℕ) (bs : List ℕ) → profile < 2 → frn < 36 → Octets bs → wholeSize (layoutAt (placeRowAt (profile * 36 + frn) .0)) bs ≡ checkAt profile frn bs
+pub check-place : (profile frn : ℕ) (bs : List ℕ) → profile < 2 → frn < 36 → Octets bs → wholeSize (layoutAt (placeRowAt (profile * 36 + frn) .layout)) bs ≡ checkAt profile frn bs
 check-place profile frn bs h k o =
-    sym (check-is (placeRowAt (profile * 36 + frn)) profile frn bs (place-is profile frn h k) (layout-sound (placeRowAt (profile * 36 + frn) .0) (place-row (profile * 36 + frn))) o)
+    sym (check-is (placeRowAt (profile * 36 + frn)) profile frn bs (place-is profile frn h k) (layout-sound (placeRowAt (profile * 36 + frn) .layout) (place-row (profile * 36 + frn))) o)
 
 pub no-place : (profile frn : ℕ) (bs : List ℕ) → placeIs nowhere ≡ placeAt (profileAt categories profile) frn → refused 21 0 ≡ checkAt profile frn bs
 unfolding checkAt expect_or_ _>>=_

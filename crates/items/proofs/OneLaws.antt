@@ -95,11 +95,11 @@ module _ (cat ref p : ℕ) (ep : p ≡ profileIn cat categories) where
   by-profile = rw ep (profile-layout cat ref categories)
 
   pub layout-found : (f : ℕ) (r : PlaceRow) → some f ≡ frnAs ref 1 (flatten (profileAt categories p)) → placeIs r ≡ placeAt (profileAt categories p) f
-      → (expect layoutIs (layoutAt (r .0)) or 21) ≡ layoutOf cat ref
+      → (expect layoutIs (layoutAt (r .layout)) or 21) ≡ layoutOf cat ref
   unfolding placeIs expect_or_
   layout-found f r e h =
       let d : Found ref 1 f (flatten (profileAt categories p)) = found ref 1 f (flatten (profileAt categories p)) (sym e) in
-      let l : layoutIs (layoutAt (r .0)) ≡ some (d .place .layout) = with-some (r .1) (layoutIs (layoutAt (r .0))) (d .place) (h ∙ found-place ref f (profileAt categories p) d) in
+      let l : layoutIs (layoutAt (r .layout)) ≡ some (d .place .layout) = with-some (r .reference) (layoutIs (layoutAt (r .layout))) (d .place) (h ∙ found-place ref f (profileAt categories p) d) in
       rw l (sym (by-profile ∙ rw (d .layout)))
 
   pub layout-missed : none ≡ frnAs ref 1 (flatten (profileAt categories p)) → (expect layoutIs (layoutAt 0) or 21) ≡ layoutOf cat ref
@@ -110,7 +110,7 @@ module _ (cat ref p : ℕ) (ep : p ≡ profileIn cat categories) where
 
 -- what is answered of an item whose fields are legal
 unfoldable pub onlyItem : LayoutRow → List ℕ → Shaped → Answer (List ℤ)
-onlyItem l bs s = later (s .1) (need leb (length bs) (s .1) or 18 then ok (flatten (partValues (stepOf (l .0)) (l .3) (s .0) (drop (headOf (l .0)) bs))))
+onlyItem l bs s = later (s .1) (need leb (length bs) (s .1) or 18 then ok (flatten (partValues (stepOf (l .kind)) (l .first) (s .0) (drop (headOf (l .kind)) bs))))
 
 -- the fields as one list, and what is left
 abbrev flat : Values × List ℕ → Answer (List ℤ × List ℕ)
@@ -140,7 +140,7 @@ unfolding readBy wholeOf shapeOf onlyItem _>>=_
 fields-read l bs s o = go (shapeOf l bs) refl
   where
     go : (m : Answer Shaped) → shapeOf l bs ≡ m → ((readBy l bs >>= flat) >>= noneAfter bs) ≡ (wholeOf l bs >>= onlyItem l bs)
-    go (ok x) e = rw e (only-legal (partsLegal (stepOf (l .0)) (l .3) (x .0) (drop (headOf (l .0)) bs)) _ x bs (onlyItem l bs) (fitting l bs x s o e .there) refl)
+    go (ok x) e = rw e (only-legal (partsLegal (stepOf (l .kind)) (l .first) (x .0) (drop (headOf (l .kind)) bs)) _ x bs (onlyItem l bs) (fitting l bs x s o e .there) refl)
     go (refused n p) e = rw e
 
 pub one-is : (cat ref j : ℕ) (bs : List ℕ) → (expect layoutIs (layoutAt j) or 21) ≡ layoutOf cat ref → rowSound (layoutAt j) ≡ true → Octets bs
@@ -168,7 +168,7 @@ module _ (cat ref j : ℕ) (bs : List ℕ) (h : (expect layoutIs (layoutAt j) or
       record { answer = rw q; left = rw q }
 
   module _ (c long : ℕ) (e : ok (c, long) ≡ wholeOf l bs) where
-    here : readOne cat ref bs ≡ later long (need leb (length bs) long or 18 then ok (flatten (partValues (stepOf (l .0)) (l .3) c (drop (headOf (l .0)) bs))))
+    here : readOne cat ref bs ≡ later long (need leb (length bs) long or 18 then ok (flatten (partValues (stepOf (l .kind)) (l .first) c (drop (headOf (l .kind)) bs))))
     unfolding onlyItem _>>=_
     here = one-at ∙ rw (← e)
 
@@ -181,18 +181,18 @@ module _ (cat ref j : ℕ) (bs : List ℕ) (h : (expect layoutIs (layoutAt j) or
     -- the shape itself
     shape-is : shapeOf l bs ≡ ok (c, long)
     unfolding wholeOf
-    shape-is = bind-elim (shapeOf l bs) _ (sym e) λ x p q. need-elim (partsLegal (stepOf (l .0)) (l .3) (x .0) (drop (headOf (l .0)) bs)) 11 _ q λ t u. p ∙ u
+    shape-is = bind-elim (shapeOf l bs) _ (sym e) λ x p q. need-elim (partsLegal (stepOf (l .kind)) (l .first) (x .0) (drop (headOf (l .kind)) bs)) 11 _ q λ t u. p ∙ u
 
     pub one-fits : Fitting l bs c long
     one-fits = fitting l bs (c, long) (rw el s) o shape-is
 
-    pub one-whole : length bs ≤ long → (n : ℕ) (new : List ℤ) → n ≡ holds (stepOf (l .0)) (l .3) c
-        → new ≡ sets old 0 (flatten (partValues (stepOf (l .0)) (l .3) c (drop (headOf (l .0)) bs))) → Answered cat ref bs (ok n) old new
+    pub one-whole : length bs ≤ long → (n : ℕ) (new : List ℤ) → n ≡ holds (stepOf (l .kind)) (l .first) c
+        → new ≡ sets old 0 (flatten (partValues (stepOf (l .kind)) (l .first) c (drop (headOf (l .kind)) bs))) → Answered cat ref bs (ok n) old new
     unfolding countOf later need_or_then_ _>>=_
     one-whole k n new en ew =
-        let vs = flatten (partValues (stepOf (l .0)) (l .3) c (drop (headOf (l .0)) bs)) in
+        let vs = flatten (partValues (stepOf (l .kind)) (l .first) c (drop (headOf (l .kind)) bs)) in
         let q : readOne cat ref bs ≡ ok vs = here ∙ rw (le-leb (length bs) long k) in
         record {
-          answer = rw q (ap ok (en ∙ sym (length-held (stepOf (l .0)) (l .3) c (drop (headOf (l .0)) bs))));
+          answer = rw q (ap ok (en ∙ sym (length-held (stepOf (l .kind)) (l .first) c (drop (headOf (l .kind)) bs))));
           left = rw q (ew ∙ sets-over vs old);
         }

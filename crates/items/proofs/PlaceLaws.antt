@@ -34,12 +34,12 @@ present-layout : (j : ℕ) → j < 51 → present (layoutIs (layoutAt j)) ≡ no
 present-layout zero h = ap present layout-none
 present-layout (suc j) h = layout-some j (le-of-suc-le-suc h) ∙ ap not (sym (ne-eqb (suc j) 0 (λ e. absurd (omega arith))))
 
-pub place-present : (r : PlaceRow) → r .0 < 51 → present (placeIs r) ≡ not (eqb (r .0) 0)
+pub place-present : (r : PlaceRow) → r .layout < 51 → present (placeIs r) ≡ not (eqb (r .layout) 0)
 unfolding placeIs
-place-present r h = present-with (r .1) (layoutIs (layoutAt (r .0))) ∙ present-layout (r .0) h
+place-present r h = present-with (r .reference) (layoutIs (layoutAt (r .layout))) ∙ present-layout (r .layout) h
 
 -- of an FRN of a profile
-pub usable-at : (p f : ℕ) {j : ℕ} → p < 2 → f < 36 → j ≡ placeRowAt (p * 36 + f) .0 → not (eqb j 0) ≡ present (placeAt (profileAt categories p) f)
+pub usable-at : (p f : ℕ) {j : ℕ} → p < 2 → f < 36 → j ≡ placeRowAt (p * 36 + f) .layout → not (eqb j 0) ≡ present (placeAt (profileAt categories p) f)
 usable-at p f h k e =
     rw e (sym (place-present (placeRowAt (p * 36 + f)) (place-row (p * 36 + f))) ∙ ap present (place-is p f h k))
 
@@ -50,18 +50,18 @@ named-with : (ref n : ℕ) (x : Option Layout) → isNamed ref (with n x) ≡ (p
 named-with ref n none = refl
 named-with ref n (some l) = refl
 
-pub place-named : (ref : ℕ) (r : PlaceRow) → r .0 < 51 → isNamed ref (placeIs r) ≡ (not (eqb (r .0) 0) && eqb ref (r .1))
+pub place-named : (ref : ℕ) (r : PlaceRow) → r .layout < 51 → isNamed ref (placeIs r) ≡ (not (eqb (r .layout) 0) && eqb ref (r .reference))
 unfolding placeIs
-place-named ref r h = named-with ref (r .1) (layoutIs (layoutAt (r .0))) ∙ ap (λ t. t && eqb ref (r .1)) (present-layout (r .0) h)
+place-named ref r h = named-with ref (r .reference) (layoutIs (layoutAt (r .layout))) ∙ ap (λ t. t && eqb ref (r .reference)) (present-layout (r .layout) h)
 
 reference-with : (n : ℕ) (x : Option Layout) → referenceIn (with n x) ≡ (if present x then n else 0)
 unfolding if_then_else_
 reference-with n none = refl
 reference-with n (some l) = refl
 
-pub place-reference : (r : PlaceRow) → r .0 < 51 → referenceIn (placeIs r) ≡ (if not (eqb (r .0) 0) then r .1 else 0)
+pub place-reference : (r : PlaceRow) → r .layout < 51 → referenceIn (placeIs r) ≡ (if not (eqb (r .layout) 0) then r .reference else 0)
 unfolding placeIs
-place-reference r h = reference-with (r .1) (layoutIs (layoutAt (r .0))) ∙ ap (λ t. if t then r .1 else 0) (present-layout (r .0) h)
+place-reference r h = reference-with (r .reference) (layoutIs (layoutAt (r .layout))) ∙ ap (λ t. if t then r .reference else 0) (present-layout (r .layout) h)
 
 -- ---- the search for a reference
 

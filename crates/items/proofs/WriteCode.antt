@@ -36,17 +36,17 @@ abbrev highOf : Kind → ℤ
 highOf (unsigned lo hi) = pos hi
 highOf (signed lo hi) = pos hi
 
-row-width : (f : Field) → fieldRow f .0 ≡ widthOf f
+row-width : (f : Field) → fieldRow f .bits ≡ widthOf f
 row-width (spare w) = refl
 row-width (value w (unsigned lo hi)) = refl
 row-width (value w (signed lo hi)) = refl
 
-row-low : (f : Field) → fieldRow f .2 ≡ lowOf (kindOf f)
+row-low : (f : Field) → fieldRow f .least ≡ lowOf (kindOf f)
 row-low (spare w) = refl
 row-low (value w (unsigned lo hi)) = refl
 row-low (value w (signed lo hi)) = refl
 
-row-high : (f : Field) → fieldRow f .3 ≡ highOf (kindOf f)
+row-high : (f : Field) → fieldRow f .greatest ≡ highOf (kindOf f)
 row-high (spare w) = refl
 row-high (value w (unsigned lo hi)) = refl
 row-high (value w (signed lo hi)) = refl
@@ -152,50 +152,50 @@ module _ {i : ℕ} {vs : List ℤ} {at : ℕ} {r : FieldRow} (t : Taken i vs at 
   unfolding codeFor codeOf
   code-is = ap (codeFor (fieldIn i)) (drop-cons vs at (pos 0) (t .there))
 
-  width-is : r .0 ≡ widthOf (fieldIn i)
-  width-is = ap (λ x. x .0) (t .row ∙ field-row i) ∙ row-width (fieldIn i)
+  width-is : r .bits ≡ widthOf (fieldIn i)
+  width-is = ap (λ x. x .bits) (t .row ∙ field-row i) ∙ row-width (fieldIn i)
 
-  low-is : r .2 ≡ lowOf (kindOf (fieldIn i))
-  low-is = ap (λ x. x .2) (t .row ∙ field-row i) ∙ row-low (fieldIn i)
+  low-is : r .least ≡ lowOf (kindOf (fieldIn i))
+  low-is = ap (λ x. x .least) (t .row ∙ field-row i) ∙ row-low (fieldIn i)
 
-  high-is : r .3 ≡ highOf (kindOf (fieldIn i))
-  high-is = ap (λ x. x .3) (t .row ∙ field-row i) ∙ row-high (fieldIn i)
+  high-is : r .greatest ≡ highOf (kindOf (fieldIn i))
+  high-is = ap (λ x. x .greatest) (t .row ∙ field-row i) ∙ row-high (fieldIn i)
 
-  low-test : SFits w64 (r .2) → ltZ (getD vs at (pos 0)) (lowOf (kindOf (fieldIn i))) ≡ ltZ (again (getD vs at (pos 0))) (again (r .2))
-  low-test fl = ap (ltZ (getD vs at (pos 0))) (sym low-is) ∙ sym (lt-again (getD vs at (pos 0)) (r .2) (t .fits) fl)
+  low-test : SFits w64 (r .least) → ltZ (getD vs at (pos 0)) (lowOf (kindOf (fieldIn i))) ≡ ltZ (again (getD vs at (pos 0))) (again (r .least))
+  low-test fl = ap (ltZ (getD vs at (pos 0))) (sym low-is) ∙ sym (lt-again (getD vs at (pos 0)) (r .least) (t .fits) fl)
 
-  high-test : SFits w64 (r .3) → ltZ (highOf (kindOf (fieldIn i))) (getD vs at (pos 0)) ≡ ltZ (again (r .3)) (again (getD vs at (pos 0)))
-  high-test fh = ap (λ x. ltZ x (getD vs at (pos 0))) (sym high-is) ∙ sym (lt-again (r .3) (getD vs at (pos 0)) fh (t .fits))
+  high-test : SFits w64 (r .greatest) → ltZ (highOf (kindOf (fieldIn i))) (getD vs at (pos 0)) ≡ ltZ (again (r .greatest)) (again (getD vs at (pos 0)))
+  high-test fh = ap (λ x. ltZ x (getD vs at (pos 0))) (sym high-is) ∙ sym (lt-again (r .greatest) (getD vs at (pos 0)) fh (t .fits))
 
   zero-test : ltZ (getD vs at (pos 0)) (pos 0) ≡ ltZ (again (getD vs at (pos 0))) (pos 0)
   zero-test = ap (λ x. ltZ x (pos 0)) (sym (toZ-ofZ w64 (getD vs at (pos 0)) (t .fits)))
 
-  pub code-low : SFits w64 (r .2) → ltZ (again (getD vs at (pos 0))) (again (r .2)) ≡ true → refused 11 0 ≡ codeFor (fieldIn i) (drop at vs)
+  pub code-low : SFits w64 (r .least) → ltZ (again (getD vs at (pos 0))) (again (r .least)) ≡ true → refused 11 0 ≡ codeFor (fieldIn i) (drop at vs)
   code-low fl e = sym (code-is ∙ code-below _ _ _ (low-test fl ∙ e))
 
-  pub code-high : SFits w64 (r .3) → ltZ (again (r .3)) (again (getD vs at (pos 0))) ≡ true → refused 11 0 ≡ codeFor (fieldIn i) (drop at vs)
+  pub code-high : SFits w64 (r .greatest) → ltZ (again (r .greatest)) (again (getD vs at (pos 0))) ≡ true → refused 11 0 ≡ codeFor (fieldIn i) (drop at vs)
   code-high fh e = sym (code-is ∙ code-above _ _ _ (high-test fh ∙ e))
 
-  module _ (s : i < 113) (fl : SFits w64 (r .2)) (l : ltZ (again (getD vs at (pos 0))) (again (r .2)) ≡ false) where
-    pub bits-few : r .0 < 64
+  module _ (s : i < 113) (fl : SFits w64 (r .least)) (l : ltZ (again (getD vs at (pos 0))) (again (r .least)) ≡ false) where
+    pub bits-few : r .bits < 64
     bits-few = rw width-is (width-few (fieldIn i) (field-in-sound i s))
 
     -- the power of two that the code makes
-    shifted : 1 * 2 ^ r .0 % 2 ^ 64 ≡ 2 ^ r .0
+    shifted : 1 * 2 ^ r .bits % 2 ^ 64 ≡ 2 ^ r .bits
     shifted = rw one-mul (mod-eq-of-lt (pow-lt bits-few))
 
-    pub shift-some : 1 ≤ 1 * 2 ^ r .0 % 2 ^ 64
-    shift-some = rw shifted (pow-pos (r .0))
+    pub shift-some : 1 ≤ 1 * 2 ^ r .bits % 2 ^ 64
+    shift-some = rw shifted (pow-pos (r .bits))
 
     pub code-neg : {m : ℕ} → ltZ (again (getD vs at (pos 0))) (pos 0) ≡ true → m ≡ mag (again (getD vs at (pos 0)))
-        → (m ≤ 1 * 2 ^ r .0 % 2 ^ 64 - 1) × (ok (1 * 2 ^ r .0 % 2 ^ 64 - 1 - m) ≡ codeFor (fieldIn i) (drop at vs))
+        → (m ≤ 1 * 2 ^ r .bits % 2 ^ 64 - 1) × (ok (1 * 2 ^ r .bits % 2 ^ 64 - 1 - m) ≡ codeFor (fieldIn i) (drop at vs))
     code-neg {m} z em =
         let v = getD vs at (pos 0) in
         let (a, b) = code-minus (widthOf (fieldIn i)) (kindOf (fieldIn i)) v (held (fieldIn i) (field-in-sound i s)) (low-test fl ∙ l) (zero-test ∙ z) in
         let e : m ≡ mag v = em ∙ ap mag (toZ-ofZ w64 v (t .fits)) in
         rw (shifted, width-is, e) (omega arith, sym (code-is ∙ b))
 
-    pub code-pos : {m : ℕ} → SFits w64 (r .3) → ltZ (again (r .3)) (again (getD vs at (pos 0))) ≡ false → ltZ (again (getD vs at (pos 0))) (pos 0) ≡ false → m ≡ mag (again (getD vs at (pos 0)))
+    pub code-pos : {m : ℕ} → SFits w64 (r .greatest) → ltZ (again (r .greatest)) (again (getD vs at (pos 0))) ≡ false → ltZ (again (getD vs at (pos 0))) (pos 0) ≡ false → m ≡ mag (again (getD vs at (pos 0)))
         → ok m ≡ codeFor (fieldIn i) (drop at vs)
     code-pos {m} fh u z em =
         let v = getD vs at (pos 0) in

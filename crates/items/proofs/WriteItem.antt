@@ -23,7 +23,7 @@ use Rattle.rules.specs.Entry.{categories, layoutOf, writeOne, over, leaves}
 use Rattle.rules.proofs.AnswerLaws.{refused-ok, ok-inj, bind-elim, bind-in, bind-cong, octetsOf-ok}
 use Rattle.rules.proofs.LayoutLaws.{octets-length}
 use Rattle.tables.specs.declared.tables.LayoutRow.{LayoutRow}
-use Rattle.tables.specs.Tables.{fields, groups, layouts, groupRows, groupAt, groupIs, layoutRows, layoutAt, layoutBy, layoutIs}
+use Rattle.tables.specs.Tables.{fields, groups, layouts, groupRows, groupAt, groupIs, layoutRows, noLayoutRow, layoutAt, layoutBy, layoutIs}
 use Rattle.tables.proofs.TableLaws.{layout-none, layout-some}
 use Rattle.layouts.proofs.Stores.{sets-append, sets-over}
 use Rattle.items.specs.Answers.{countOf}
@@ -36,36 +36,36 @@ use Rattle.items.proofs.WriteLaid.{fields-laid, fit-length, numbers-fit
 -- ---- the head
 
 module _ (i k : ℕ) {r : LayoutRow} (er : r ≡ layoutAt i) where
-  pub head-list : r .0 ≡ 2 → headAt i k ≡ k ∷ []
+  pub head-list : r .kind ≡ 2 → headAt i k ≡ k ∷ []
   unfolding headAt
-  head-list e = ap (λ t. cond t (k ∷ []) (cond (eqb (layoutAt i .0) 3) (suc k ∷ []) [])) (eq-eqb (layoutAt i .0) 2 (sym (ap (λ x. x .0) er) ∙ e))
+  head-list e = ap (λ t. cond t (k ∷ []) (cond (eqb (layoutAt i .kind) 3) (suc k ∷ []) [])) (eq-eqb (layoutAt i .kind) 2 (sym (ap (λ x. x .kind) er) ∙ e))
 
-  not-list : (r .0 ≡ 2 → ⊥) → headAt i k ≡ cond (eqb (layoutAt i .0) 3) (suc k ∷ []) []
+  not-list : (r .kind ≡ 2 → ⊥) → headAt i k ≡ cond (eqb (layoutAt i .kind) 3) (suc k ∷ []) []
   unfolding headAt
-  not-list e = ap (λ t. cond t (k ∷ []) (cond (eqb (layoutAt i .0) 3) (suc k ∷ []) [])) (ne-eqb (layoutAt i .0) 2 (λ z. e (ap (λ x. x .0) er ∙ z)))
+  not-list e = ap (λ t. cond t (k ∷ []) (cond (eqb (layoutAt i .kind) 3) (suc k ∷ []) [])) (ne-eqb (layoutAt i .kind) 2 (λ z. e (ap (λ x. x .kind) er ∙ z)))
 
-  pub head-led : (r .0 ≡ 2 → ⊥) → r .0 ≡ 3 → (headAt i k ≡ suc k ∷ []) × (length (partsAt i) ≤ 254)
+  pub head-led : (r .kind ≡ 2 → ⊥) → r .kind ≡ 3 → (headAt i k ≡ suc k ∷ []) × (length (partsAt i) ≤ 254)
   head-led e d =
-      let t = eq-eqb (layoutAt i .0) 3 (sym (ap (λ x. x .0) er) ∙ d) in
+      let t = eq-eqb (layoutAt i .kind) 3 (sym (ap (λ x. x .kind) er) ∙ d) in
       (not-list e ∙ ap (λ t. cond t (suc k ∷ []) []) t, omega (arith, layout-row-is i .most, layout-row-is i .led-few t))
 
-  pub head-none : (r .0 ≡ 2 → ⊥) → (r .0 ≡ 3 → ⊥) → headAt i k ≡ []
-  head-none e d = not-list e ∙ ap (λ t. cond t (suc k ∷ []) []) (ne-eqb (layoutAt i .0) 3 (λ z. d (ap (λ x. x .0) er ∙ z)))
+  pub head-none : (r .kind ≡ 2 → ⊥) → (r .kind ≡ 3 → ⊥) → headAt i k ≡ []
+  head-none e d = not-list e ∙ ap (λ t. cond t (suc k ∷ []) []) (ne-eqb (layoutAt i .kind) 3 (λ z. d (ap (λ x. x .kind) er ∙ z)))
 
   -- the octet laid: the output has room for it, and it fits
-  pub list-laid : (out : List ℕ) {b : ℕ} → r .0 ≡ 2 → b ≡ k + 0 → set out 0 b ≡ sets out 0 (headAt i k)
+  pub list-laid : (out : List ℕ) {b : ℕ} → r .kind ≡ 2 → b ≡ k + 0 → set out 0 b ≡ sets out 0 (headAt i k)
   list-laid out e d = rw (d, add-zero k, head-list e)
 
-  pub list-room : {n : ℕ} → r .0 ≡ 2 → length (headAt i k) ≤ n → 0 < n
+  pub list-room : {n : ℕ} → r .kind ≡ 2 → length (headAt i k) ≤ n → 0 < n
   list-room e h = omega (arith, ap length (head-list e))
 
-  pub led-laid : (out : List ℕ) {b : ℕ} → (r .0 ≡ 2 → ⊥) → r .0 ≡ 3 → b ≡ k + 1 → set out 0 b ≡ sets out 0 (headAt i k)
+  pub led-laid : (out : List ℕ) {b : ℕ} → (r .kind ≡ 2 → ⊥) → r .kind ≡ 3 → b ≡ k + 1 → set out 0 b ≡ sets out 0 (headAt i k)
   led-laid out e f d = rw (d, add-one k, head-led e f .0)
 
-  pub led-room : {n : ℕ} → (r .0 ≡ 2 → ⊥) → r .0 ≡ 3 → length (headAt i k) ≤ n → 0 < n
+  pub led-room : {n : ℕ} → (r .kind ≡ 2 → ⊥) → r .kind ≡ 3 → length (headAt i k) ≤ n → 0 < n
   led-room e f h = omega (arith, ap length (head-led e f .0))
 
-  pub none-laid : (out : List ℕ) → (r .0 ≡ 2 → ⊥) → (r .0 ≡ 3 → ⊥) → out ≡ sets out 0 (headAt i k)
+  pub none-laid : (out : List ℕ) → (r .kind ≡ 2 → ⊥) → (r .kind ≡ 3 → ⊥) → out ≡ sets out 0 (headAt i k)
   none-laid out e f = rw (head-none e f)
 
 -- ---- the layout at a place
@@ -84,10 +84,10 @@ seen none = (0, 0, [])
 seen (some l) = (kindOf l, least l, partsOf l)
 
 abbrev rowSeen : LayoutRow → Row
-rowSeen r = (r .0, r .1, cond (eqb (r .0) 4) (slice (r .3) (r .4) (map groupIs (groupRows 0 groups))) (replicate (r .2) (groupIs (groupAt (r .3)))))
+rowSeen r = (r .kind, r .least, cond (eqb (r .kind) 4) (slice (r .first) (r .end) (map groupIs (groupRows 0 groups))) (replicate (r .most) (groupIs (groupAt (r .first)))))
 
 abbrev rows : List LayoutRow
-rows = (0, 0, 0, 0, 0) ∷ layoutRows 0 layouts
+rows = noLayoutRow ∷ layoutRows 0 layouts
 
 -- one test over the table: what the code reads off a row is what the layout is
 rows-seen : map rowSeen rows ≡ map (λ r. seen (layoutIs r)) rows
@@ -97,10 +97,10 @@ rows-seen = refl
 row-seen : (i : ℕ) → rowSeen (layoutAt i) ≡ seen (layoutIs (layoutAt i))
 unfolding layoutAt layoutIs layoutBy
 row-seen i =
-    sym (List·getD-map rowSeen rows i (0, 0, 0, 0, 0)) ∙ ap (λ l. getD l i (0, 0, [])) rows-seen ∙ List·getD-map (λ r. seen (layoutIs r)) rows i (0, 0, 0, 0, 0)
+    sym (List·getD-map rowSeen rows i noLayoutRow) ∙ ap (λ l. getD l i (0, 0, [])) rows-seen ∙ List·getD-map (λ r. seen (layoutIs r)) rows i noLayoutRow
 
 pub record LayoutIs (i : ℕ) (l : Layout) : Type 0 where
-  pub least-is : layoutAt i .1 ≡ least l
+  pub least-is : layoutAt i .least ≡ least l
   pub parts-are : partsAt i ≡ partsOf l
   pub chained-is : chainedAt i ≡ chained l
   pub head-is : (k : ℕ) → headAt i k ≡ headOf l k
@@ -130,7 +130,7 @@ layout-is i l e =
 
 -- the writing rule, by the table
 written-by : (i : ℕ) (l : Layout) (vs : List ℤ) → LayoutIs i l
-    → writeFields l vs ≡ (numbersOf (partsAt i) vs >>= (λ ns. need leb (layoutAt i .1) (length ns) or 11 then ok (headAt i (length ns) ++ laidParts (chainedAt i) (partsAt i) ns)))
+    → writeFields l vs ≡ (numbersOf (partsAt i) vs >>= (λ ns. need leb (layoutAt i .least) (length ns) or 11 then ok (headAt i (length ns) ++ laidParts (chainedAt i) (partsAt i) ns)))
 written-by i l vs t =
     let s : Sound (chained l) (partsOf l) = subst (λ x. Sound x (partsOf l)) (t .chained-is) (subst (Sound (chainedAt i)) (t .parts-are) (layout-row-is i .sound)) in
     fields-laid l vs s
@@ -232,7 +232,7 @@ module _ (cat ref i : ℕ) (vs : List ℤ) (out : List ℕ) (h : (i < 51) × ((e
 
   module _ (z : i ≡ 0 → ⊥) where
     -- the rule, by the table
-    one-by : {m : Answer (List ℕ)} → (numbersOf (partsAt i) vs >>= (λ ns. need leb (layoutAt i .1) (length ns) or 11 then ok (headAt i (length ns) ++ laidParts (chainedAt i) (partsAt i) ns))) ≡ m
+    one-by : {m : Answer (List ℕ)} → (numbersOf (partsAt i) vs >>= (λ ns. need leb (layoutAt i .least) (length ns) or 11 then ok (headAt i (length ns) ++ laidParts (chainedAt i) (partsAt i) ns))) ≡ m
         → writeOne cat ref vs (length out) ≡ (m >>= (λ bs. need leb (length bs) (length out) or 16 then ok bs))
     unfolding writeOne expect_or_
     one-by e =
@@ -242,31 +242,31 @@ module _ (cat ref i : ℕ) (vs : List ℤ) (out : List ℕ) (h : (i < 51) × ((e
     pub not-fields : refused 11 0 ≡ countParts (chainedAt i) (partsAt i) vs → Answers (refused 11 0) out (writeOne cat ref vs (length out)) out
     unfolding _>>=_
     not-fields e =
-        refusal 11 0 out (one-by {m = refused 11 0} (ap (λ m. m >>= (λ ns. need leb (layoutAt i .1) (length ns) or 11 then ok (headAt i (length ns) ++ laidParts (chainedAt i) (partsAt i) ns))) (counted-no (chainedAt i) (partsAt i) vs e)))
+        refusal 11 0 out (one-by {m = refused 11 0} (ap (λ m. m >>= (λ ns. need leb (layoutAt i .least) (length ns) or 11 then ok (headAt i (length ns) ++ laidParts (chainedAt i) (partsAt i) ns))) (counted-no (chainedAt i) (partsAt i) vs e)))
 
     module _ (k s : ℕ) (e : ok (parts k s) ≡ countParts (chainedAt i) (partsAt i) vs) {r : LayoutRow} (er : r ≡ layoutAt i) where
       c : Counted (chainedAt i) (partsAt i) vs k s
       c = counted (chainedAt i) (partsAt i) vs k s e
 
-      laid-by : {t : Bool} → leb (r .1) k ≡ t
-          → (numbersOf (partsAt i) vs >>= (λ ns. need leb (layoutAt i .1) (length ns) or 11 then ok (headAt i (length ns) ++ laidParts (chainedAt i) (partsAt i) ns)))
+      laid-by : {t : Bool} → leb (r .least) k ≡ t
+          → (numbersOf (partsAt i) vs >>= (λ ns. need leb (layoutAt i .least) (length ns) or 11 then ok (headAt i (length ns) ++ laidParts (chainedAt i) (partsAt i) ns)))
           ≡ (need t or 11 then ok (headAt i k ++ octetsOf (layParts (chainedAt i) (partsAt i) vs)))
       laid-by {t} d =
           bind-in _ (c .numbers)
-          (ap (λ n. need leb (layoutAt i .1) n or 11 then ok (headAt i n ++ laidParts (chainedAt i) (partsAt i) (c .ns))) (sym (c .count))
-          ∙ ap₂ (λ x o. need x or 11 then ok (headAt i k ++ o)) (sym (ap (λ x. leb (x .1) k) er) ∙ d) (sym (c .laid)))
+          (ap (λ n. need leb (layoutAt i .least) n or 11 then ok (headAt i n ++ laidParts (chainedAt i) (partsAt i) (c .ns))) (sym (c .count))
+          ∙ ap₂ (λ x o. need x or 11 then ok (headAt i k ++ o)) (sym (ap (λ x. leb (x .least) k) er) ∙ d) (sym (c .laid)))
 
-      pub too-few : k < r .1 → Answers (refused 11 0) out (writeOne cat ref vs (length out)) out
+      pub too-few : k < r .least → Answers (refused 11 0) out (writeOne cat ref vs (length out)) out
       unfolding _>>=_ need_or_then_
-      too-few l = refusal 11 0 out (one-by (laid-by (lt-leb (r .1) k l)))
+      too-few l = refusal 11 0 out (one-by (laid-by (lt-leb (r .least) k l)))
 
-      module _ (l : r .1 ≤ k) {n : ℕ} (en : (j : ℕ) → length (headAt i j) ≡ n) where
+      module _ (l : r .least ≤ k) {n : ℕ} (en : (j : ℕ) → length (headAt i j) ≡ n) where
         bs-length : n + s ≡ length (headAt i k ++ octetsOf (layParts (chainedAt i) (partsAt i) vs))
         bs-length = omega (arith, length-append (headAt i k) (octetsOf (layParts (chainedAt i) (partsAt i) vs)), en k, c .size)
 
         one-is : writeOne cat ref vs (length out) ≡ (need leb (n + s) (length out) or 16 then ok (headAt i k ++ octetsOf (layParts (chainedAt i) (partsAt i) vs)))
         unfolding _>>=_ need_or_then_
-        one-is = one-by (laid-by (le-leb (r .1) k l)) ∙ ap (λ x. need leb x (length out) or 16 then ok (headAt i k ++ octetsOf (layParts (chainedAt i) (partsAt i) vs))) (sym bs-length)
+        one-is = one-by (laid-by (le-leb (r .least) k l)) ∙ ap (λ x. need leb x (length out) or 16 then ok (headAt i k ++ octetsOf (layParts (chainedAt i) (partsAt i) vs))) (sym bs-length)
 
         pub no-room : length out < n + s → Answers (refused 16 0) out (writeOne cat ref vs (length out)) out
         unfolding need_or_then_

@@ -148,7 +148,7 @@ pub record Packing (fs : List Field) (vs : List ℤ) (at e i n k : ℕ) : Type 0
   pub small : n < 2 ^ used
   pub same : joinPack n (slice i e fields) (drop k vs) ≡ packFirst fs (drop at vs)
 
-pub packing : (j : ℕ) (vs : List ℤ) (at : ℕ) {r : GroupRow} → r ≡ groupAt j → Packing (groupIn j .fields) vs at (r .2) (r .1) 0 at
+pub packing : (j : ℕ) (vs : List ℤ) (at : ℕ) {r : GroupRow} → r ≡ groupAt j → Packing (groupIn j .fields) vs at (r .end) (r .first) 0 at
 unfolding groupIn joinPack
 packing j vs at er =
     rw er
@@ -166,12 +166,12 @@ field-cons : (i e : ℕ) → i < e → e ≤ 113 → slice i e fields ≡ fieldI
 unfolding fieldIn
 field-cons i e h t = rw add-one (slice-cons i e fields (value 0 (unsigned 0 0)) h (rw fields-length t))
 
-spare-is : (f : Field) → fieldRow f .1 ≡ 2 → f ≡ spare (fieldRow f .0)
+spare-is : (f : Field) → fieldRow f .holds ≡ 2 → f ≡ spare (fieldRow f .bits)
 spare-is (spare w) h = refl
 spare-is (value w (unsigned lo hi)) h = absurd (omega arith)
 spare-is (value w (signed lo hi)) h = absurd (omega arith)
 
-value-is : (f : Field) → (fieldRow f .1 ≡ 2 → ⊥) → f ≡ value (fieldRow f .0) (kindOf f)
+value-is : (f : Field) → (fieldRow f .holds ≡ 2 → ⊥) → f ≡ value (fieldRow f .bits) (kindOf f)
 value-is (spare w) h = absurd (h refl)
 value-is (value w (unsigned lo hi)) h = refl
 value-is (value w (signed lo hi)) h = refl
@@ -217,15 +217,15 @@ module _ (fs : List Field) (vs : List ℤ) (at e i n k : ℕ) (p : Packing fs vs
       }
 
   -- a spare field
-  add-spare : fieldRow (fieldIn i) .1 ≡ 2 → Added fs vs at e i n k (fieldRow (fieldIn i) .0) 0 k
+  add-spare : fieldRow (fieldIn i) .holds ≡ 2 → Added fs vs at e i n k (fieldRow (fieldIn i) .bits) 0 k
   add-spare y =
-      let w = fieldRow (fieldIn i) .0 in
+      let w = fieldRow (fieldIn i) .bits in
       added (spare w) 0 0 k (spare-is (fieldIn i) y) refl (omega arith) (omega arith) (pow-pos w) (join-spare n w (slice (i + 1) e fields) (drop k vs))
 
   -- a value, whose code is c
-  add-value : {c : ℕ} → (fieldRow (fieldIn i) .1 ≡ 2 → ⊥) → codeFor (fieldIn i) (drop k vs) ≡ ok c → (k < length vs) × Added fs vs at e i n k (fieldRow (fieldIn i) .0) c (k + 1)
+  add-value : {c : ℕ} → (fieldRow (fieldIn i) .holds ≡ 2 → ⊥) → codeFor (fieldIn i) (drop k vs) ≡ ok c → (k < length vs) × Added fs vs at e i n k (fieldRow (fieldIn i) .bits) c (k + 1)
   add-value {c} y ec =
-      let w = fieldRow (fieldIn i) .0 in
+      let w = fieldRow (fieldIn i) .bits in
       let v = value-is (fieldIn i) y in
       let ec′ : codeFor (value w (kindOf (fieldIn i))) (drop k vs) ≡ ok c = ap (λ f. codeFor f (drop k vs)) (sym v) ∙ ec in
       let (some, l) = code-fits (value w (kindOf (fieldIn i))) (drop k vs) ec′ in (
@@ -235,10 +235,10 @@ module _ (fs : List Field) (vs : List ℤ) (at e i n k : ℕ) (p : Packing fs vs
       )
 
   -- no value, or one outside its range
-  pack-no : (fieldRow (fieldIn i) .1 ≡ 2 → ⊥) → codeFor (fieldIn i) (drop k vs) ≡ refused 11 0 → packFrom fs vs at ≡ refused 11 0
+  pack-no : (fieldRow (fieldIn i) .holds ≡ 2 → ⊥) → codeFor (fieldIn i) (drop k vs) ≡ refused 11 0 → packFrom fs vs at ≡ refused 11 0
   unfolding packFrom _>>=_
   pack-no y ec =
-      let w = fieldRow (fieldIn i) .0 in
+      let w = fieldRow (fieldIn i) .bits in
       let v = value-is (fieldIn i) y in
       let rest = slice (i + 1) e fields in
       let q : packFirst fs (drop at vs) ≡ refused 11 0 =
@@ -250,14 +250,14 @@ module _ (fs : List Field) (vs : List ℤ) (at e i n k : ℕ) (p : Packing fs vs
     row-is : fieldRow (fieldIn i) ≡ r
     row-is = sym (er ∙ field-row i)
 
-    pub turn-spare : r .1 ≡ 2 → Added fs vs at e i n k (r .0) 0 k
-    turn-spare y = subst (λ x. Added fs vs at e i n k (x .0) 0 k) row-is (add-spare (ap (λ x. x .1) row-is ∙ y))
+    pub turn-spare : r .holds ≡ 2 → Added fs vs at e i n k (r .bits) 0 k
+    turn-spare y = subst (λ x. Added fs vs at e i n k (x .bits) 0 k) row-is (add-spare (ap (λ x. x .holds) row-is ∙ y))
 
-    pub turn-value : {c : ℕ} → (r .1 ≡ 2 → ⊥) → ok c ≡ codeFor (fieldIn i) (drop k vs) → (k < length vs) × Added fs vs at e i n k (r .0) c (k + 1)
-    turn-value {c} y ec = subst (λ x. (k < length vs) × Added fs vs at e i n k (x .0) c (k + 1)) row-is (add-value (λ z. y (sym (ap (λ x. x .1) row-is) ∙ z)) (sym ec))
+    pub turn-value : {c : ℕ} → (r .holds ≡ 2 → ⊥) → ok c ≡ codeFor (fieldIn i) (drop k vs) → (k < length vs) × Added fs vs at e i n k (r .bits) c (k + 1)
+    turn-value {c} y ec = subst (λ x. (k < length vs) × Added fs vs at e i n k (x .bits) c (k + 1)) row-is (add-value (λ z. y (sym (ap (λ x. x .holds) row-is) ∙ z)) (sym ec))
 
-    pub turn-no : (r .1 ≡ 2 → ⊥) → refused 11 0 ≡ codeFor (fieldIn i) (drop k vs) → refused 11 0 ≡ packFrom fs vs at
-    turn-no y ec = sym (pack-no (λ z. y (sym (ap (λ x. x .1) row-is) ∙ z)) (sym ec))
+    pub turn-no : (r .holds ≡ 2 → ⊥) → refused 11 0 ≡ codeFor (fieldIn i) (drop k vs) → refused 11 0 ≡ packFrom fs vs at
+    turn-no y ec = sym (pack-no (λ z. y (sym (ap (λ x. x .holds) row-is) ∙ z)) (sym ec))
 
 field-nil : (i e : ℕ) → e ≤ i → e ≤ 113 → slice i e fields ≡ []
 field-nil i e h t = drop-of-length-le (take e fields) (subst (λ x. x ≤ i) (sym (length-take-le e fields (rw fields-length t))) h)

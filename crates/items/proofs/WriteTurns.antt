@@ -106,10 +106,10 @@ more-none fx gs vs =
     let b : 0 + length (laidParts fx gs ns) ≡ length (laidParts fx gs ns) = omega arith in
     ap₂ (λ x y. ok (parts x y)) a b
 
-pub counting : (l : ℕ) (vs : List ℤ) {r : LayoutRow} → r ≡ layoutAt l → Counting l vs (r .2) 0 0 0
+pub counting : (l : ℕ) (vs : List ℤ) {r : LayoutRow} → r ≡ layoutAt l → Counting l vs (r .most) 0 0 0
 counting l vs er =
     record {
-      most = ap (λ x. x .2) er ∙ sym (layout-row-is l .most);
+      most = ap (λ x. x .most) er ∙ sym (layout-row-is l .most);
       few = omega arith;
       small = omega arith;
       same = more-none (chainedAt l) (partsAt l) vs;
@@ -148,17 +148,17 @@ module _ (l : ℕ) (vs : List ℤ) (m k s p : ℕ) (c : Counting l vs m k s p) w
         count-no e =
             sym (ap (λ x. x >>= (λ ns. ok (parts (k + length ns) (s + length (laidParts (chainedAt l) (drop k (partsAt l)) ns))))) (cut-no (partsAt l) vs k p ej part-in t e)) ∙ c .same
 
-        pub size-fits : {r : GroupRow} → r ≡ groupAt j → (s + r .0 ≤ 8 * (k + 1)) × (k < 255)
+        pub size-fits : {r : GroupRow} → r ≡ groupAt j → (s + r .octets ≤ 8 * (k + 1)) × (k < 255)
         unfolding groupIn
         size-fits er =
-            (omega (arith, c .small, ap (λ x. x .0) er, group-in-sound j .short), omega (arith, layout-row-is l .sound .few, part-in))
+            (omega (arith, c .small, ap (λ x. x .octets) er, group-in-sound j .short), omega (arith, layout-row-is l .sound .few, part-in))
 
-        pub counted : {n q : ℕ} {r : GroupRow} → r ≡ groupAt j → ok (part n q) ≡ packFrom (groupIn j .fields) vs p → Counting l vs m (k + 1) (s + r .0) q
+        pub counted : {n q : ℕ} {r : GroupRow} → r ≡ groupAt j → ok (part n q) ≡ packFrom (groupIn j .fields) vs p → Counting l vs m (k + 1) (s + r .octets) q
         unfolding moreParts groupIn
         counted {n} {q} {r} er e =
             let fx = chainedAt l in
             let gs = drop (k + 1) (partsAt l) in
-            let z : r .0 ≡ groupIn j .size = ap (λ x. x .0) er in
+            let z : r .octets ≡ groupIn j .size = ap (λ x. x .octets) er in
             record {
               most = c .most;
               few = omega (arith, part-in);
@@ -186,13 +186,13 @@ pub record Placing (l : ℕ) (vs : List ℤ) (count start : ℕ) (out₀ : List 
 pub placing : (l : ℕ) (vs : List ℤ) (count size start : ℕ) (out : List ℕ) {r : LayoutRow} → r ≡ layoutAt l
     → countParts (chainedAt l) (partsAt l) vs ≡ ok (parts count size)
     → start + length (octetsOf (layParts (chainedAt l) (partsAt l) vs)) ≤ length out
-    → Placing l vs count start out (eqb (r .0) 4) out 0 0 start
+    → Placing l vs count start out (eqb (r .kind) 4) out 0 0 start
 unfolding countParts layParts chainedAt
 placing l vs count size start out er h t =
     bind-elim _ _ h λ ns e h₁.
     let o : octetsOf (layParts (chainedAt l) (partsAt l) vs) ≡ laidParts (chainedAt l) (partsAt l) ns = octetsOf-ok (bind-in _ e refl) in
     record {
-      marks = ap (λ x. eqb (x .0) 4) er;
+      marks = ap (λ x. eqb (x .kind) 4) er;
       ns = ns;
       left = e;
       many = omega (arith, ap (λ x. x .count) (ok-inj h₁));
@@ -307,8 +307,8 @@ module _ (l : ℕ) (vs : List ℤ) (count start : ℕ) (out₀ : List ℕ) (fx :
       pub packs : {C : Type 0} → refused 11 0 ≡ packFrom (groupIn j .fields) vs p → C
       packs e = refused-ok (sym (cut-no (partsAt l) vs i p ej group-in values-in e) ∙ c .left)
 
-      pub placed : {n p′ : ℕ} {r : GroupRow} → r ≡ groupAt j → ok (part n p′) ≡ packFrom (groupIn j .fields) vs p → Placed l vs count start out₀ fx out i p q n p′ (r .0)
+      pub placed : {n p′ : ℕ} {r : GroupRow} → r ≡ groupAt j → ok (part n p′) ≡ packFrom (groupIn j .fields) vs p → Placed l vs count start out₀ fx out i p q n p′ (r .octets)
       unfolding groupIn
       placed {n} {p′} er e =
           bind-elim _ _ (sym (cut-ok (partsAt l) vs i p ej group-in values-in e) ∙ c .left) λ ms a h₁.
-          place (groupIn j) n p′ _ ms (ap (λ x. x .0) er) (part-cons (partsAt l) vs i p ej group-in values-in) (sym (ok-inj h₁)) a
+          place (groupIn j) n p′ _ ms (ap (λ x. x .octets) er) (part-cons (partsAt l) vs i p ej group-in values-in) (sym (ok-inj h₁)) a

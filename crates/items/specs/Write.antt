@@ -80,15 +80,15 @@ groupIn j = groupIs (groupAt j)
 -- the parts of the layout at a place
 unfoldable pub partsAt : ℕ → List Group
 partsAt i =
-    cond (eqb (layoutAt i .0) 4)
-    (slice (layoutAt i .3) (layoutAt i .4) (map groupIs (groupRows 0 groups)))
-    (replicate (layoutAt i .2) (groupIn (layoutAt i .3)))
+    cond (eqb (layoutAt i .kind) 4)
+    (slice (layoutAt i .first) (layoutAt i .end) (map groupIs (groupRows 0 groups)))
+    (replicate (layoutAt i .most) (groupIn (layoutAt i .first)))
 
 unfoldable pub chainedAt : ℕ → Bool
-chainedAt i = eqb (layoutAt i .0) 4
+chainedAt i = eqb (layoutAt i .kind) 4
 
 unfoldable pub headAt : ℕ → ℕ → List ℕ
-headAt i k = cond (eqb (layoutAt i .0) 2) (k ∷ []) (cond (eqb (layoutAt i .0) 3) (suc k ∷ []) [])
+headAt i k = cond (eqb (layoutAt i .kind) 2) (k ∷ []) (cond (eqb (layoutAt i .kind) 3) (suc k ∷ []) [])
 
 -- ---- what the functions answer
 

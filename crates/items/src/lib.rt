@@ -31,14 +31,17 @@ ghost use Rattle.items.specs.Answers.{referenceIn, frnOf, checkedOf, che
 
 // What a profile has at an FRN.
 fn place_of(profile: usize, frn: usize) -> PlaceRow
-    ensures { λ r. ⌜ (placeIs r ≡ placeAt (profileAt categories profile) frn) × (r .0 < 51) ⌝ }
+    ensures { λ r. ⌜ (placeIs r ≡ placeAt (profileAt categories profile) frn) × (r .layout < 51) ⌝ }
 {
     if profile < PROFILES {
         if frn < FRNS {
             return place_at(profile * FRNS + frn);
         }
     }
-    PlaceRow(0, 0)
+    PlaceRow {
+        layout: 0,
+        reference: 0,
+    }
 }
 
 // Whether a profile has an item at an FRN.
@@ -58,10 +61,10 @@ fn is_named(profile: usize, frn: usize, reference: u16) -> bool
     ensures { λ r. ⌜ r ≡ isNamed reference (placeAt (profileAt categories profile) frn) ⌝ }
 {
     let p = place_of(profile, frn);
-    if p.0 == 0 {
+    if p.layout == 0 {
         return false;
     }
-    reference == p.1
+    reference == p.reference
 }
 
 // The reference of the item of a profile at an FRN, the number after its slash; 0 where there is none.
@@ -69,10 +72,10 @@ pub fn reference_of(profile: usize, frn: usize) -> u16
     ensures { λ r. ⌜ r ≡ referenceIn (placeAt (profileAt categories profile) frn) ⌝ }
 {
     let p = place_of(profile, frn);
-    if p.0 == 0 {
+    if p.layout == 0 {
         return 0;
     }
-    p.1
+    p.reference
 }
 
 // The FRN of an item of a profile.
@@ -130,7 +133,7 @@ fn check_single(group: usize, part: &[u8]) -> ItemCheck
 // How many octets the item at a place of the tables takes: most items have one part, and most of these are free.
 fn check_at(place: usize, part: &[u8]) -> ItemCheck
     requires { ⌜ place < 72 ⌝ }
-    ensures { λ r. ⌜ checkedOf r ≡ wholeSize (layoutAt (placeRowAt place .0)) (now (part .entry)) ⌝ }
+    ensures { λ r. ⌜ checkedOf r ≡ wholeSize (layoutAt (placeRowAt place .layout)) (now (part .entry)) ⌝ }
 {
     let single = single_at(place);
     if 8 <= single {
@@ -189,7 +192,7 @@ fn layout_of(category: u8, reference: u16) -> usize
     match frn_of(profile, reference) {
         FrnFound::Frn(frn) => {
             let p = place_of(profile, frn);
-            p.0
+            p.layout
         }
         FrnFound::NoItem => 0,
     }

@@ -57,14 +57,14 @@ fn code_at(field: usize, values: &[i64], at: usize) -> Coded
         return Coded::Outside;
     }
     let v = values[at];
-    if v < f.2 {
+    if v < f.least {
         return Coded::Outside;
     }
-    if f.3 < v {
+    if f.greatest < v {
         return Coded::Outside;
     }
     if v < 0 {
-        let bits = f.0;
+        let bits = f.bits;
         return Coded::Bits((1u64 << bits) - 1 - magnitude(v));
     }
     Coded::Bits(magnitude(v))
@@ -86,21 +86,21 @@ fn pack_part(group: usize, values: &[i64], at: usize) -> Packed
     ensures { λ r. ⌜ packedAs r ≡ packFrom (groupIn group .fields) (now (values .entry)) at ⌝ }
 {
     let g = group_at(group);
-    let end = g.2;
-    let mut i = g.1;
+    let end = g.end;
+    let mut i = g.first;
     let mut n: u64 = 0;
     let mut k = at;
     while i < end {
         let f = field_at(i);
-        if f.1 == SPARE {
-            n = append_bits(n, f.0, 0);
+        if f.holds == SPARE {
+            n = append_bits(n, f.bits, 0);
             i = i + 1;
             continue;
         }
         let Coded::Bits(code) = code_at(i, values, k) else {
             return Packed::Outside;
         };
-        n = append_bits(n, f.0, code);
+        n = append_bits(n, f.bits, code);
         k = k + 1;
         i = i + 1;
     }
@@ -144,10 +144,10 @@ fn part_group(layout: usize, part: usize) -> usize
     ensures { λ r. ⌜ (r < 52) × (groupIn r ≡ getD (partsAt layout) part noGroup) ⌝ }
 {
     let l = layout_at(layout);
-    if l.0 == EXTENDED {
-        return l.3 + part;
+    if l.kind == EXTENDED {
+        return l.first + part;
     }
-    l.3
+    l.first
 }
 
 // How many parts the fields of an item make.
@@ -164,7 +164,7 @@ fn count_parts(layout: usize, values: &[i64]) -> Counted
     ensures { λ r. ⌜ countedAs r ≡ countParts (chainedAt layout) (partsAt layout) (now (values .entry)) ⌝ }
 {
     let l = layout_at(layout);
-    let most = l.2;
+    let most = l.most;
     let mut count: usize = 0;
     let mut size: usize = 0;
     let mut at: usize = 0;
@@ -177,7 +177,7 @@ fn count_parts(layout: usize, values: &[i64]) -> Counted
             return Counted::Outside;
         };
         let g = group_at(group);
-        size = size + g.0;
+        size = size + g.octets;
         at = next;
         count = count + 1;
     }
@@ -195,7 +195,7 @@ fn lay_parts(layout: usize, values: &[i64], count: usize, out: &mut [u8], start:
     ensures { λ _. ⌜ now (out .exit) ≡ sets (now (out .entry)) start (octetsOf (layParts (chainedAt layout) (partsAt layout) (now (values .entry)))) ⌝ }
 {
     let l = layout_at(layout);
-    let chained = l.0 == EXTENDED;
+    let chained = l.kind == EXTENDED;
     let mut part: usize = 0;
     let mut from: usize = 0;
     let mut at = start;
@@ -206,8 +206,8 @@ fn lay_parts(layout: usize, values: &[i64], count: usize, out: &mut [u8], start:
         };
         let g = group_at(group);
         part = part + 1;
-        lay_number(mark(chained, part < count, number), g.0, out, at);
-        at = at + g.0;
+        lay_number(mark(chained, part < count, number), g.octets, out, at);
+        at = at + g.octets;
         from = next;
     }
 }
@@ -220,10 +220,10 @@ fn head_size(layout: usize) -> usize
     ensures { λ r. ⌜ (r ≤ 1) × ((k : ℕ) → length (headAt layout k) ≡ r) ⌝ }
 {
     let l = layout_at(layout);
-    if l.0 == REPEATED {
+    if l.kind == REPEATED {
         return 1;
     }
-    if l.0 == LED {
+    if l.kind == LED {
         return 1;
     }
     0
@@ -244,11 +244,11 @@ fn lay_head(layout: usize, count: usize, out: &mut [u8])
     ensures { λ _. ⌜ now (out .exit) ≡ sets (now (out .entry)) 0 (headAt layout count) ⌝ }
 {
     let l = layout_at(layout);
-    if l.0 == REPEATED {
+    if l.kind == REPEATED {
         out[0] = count_octet(count, 0);
         return;
     }
-    if l.0 == LED {
+    if l.kind == LED {
         out[0] = count_octet(count, 1);
     }
 }
@@ -280,7 +280,7 @@ pub fn write_item(category: u8, reference: u16, fields: &[i64], out: &mut [u8]) 
         };
     };
     let l = layout_at(layout);
-    if count < l.1 {
+    if count < l.least {
         return ItemWritten::Refused {
             number: 11,
             place: 0,

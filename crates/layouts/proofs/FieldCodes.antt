@@ -45,23 +45,23 @@ again z = toZ w64 (ofZ w64 z)
 -- ---- values
 
 -- what the value is, by the kind and by the highest bit
-pub value-plain : (f : FieldRow) (c : ℕ) → eqb (f .1) 1 ≡ false → valueOf f c ≡ pos c
+pub value-plain : (f : FieldRow) (c : ℕ) → eqb (f .holds) 1 ≡ false → valueOf f c ≡ pos c
 unfolding valueOf
-value-plain f c e = ap (λ (b : Bool). cond b (twosOf (f .0) c) (pos c)) e
+value-plain f c e = ap (λ (b : Bool). cond b (twosOf (f .bits) c) (pos c)) e
 
-pub value-low : (f : FieldRow) (c : ℕ) → c < 2 ^ (f .0 - 1) → valueOf f c ≡ pos c
+pub value-low : (f : FieldRow) (c : ℕ) → c < 2 ^ (f .bits - 1) → valueOf f c ≡ pos c
 unfolding valueOf twosOf
-value-low f c h = go (eqb (f .1) 1)
+value-low f c h = go (eqb (f .holds) 1)
   where
-    go : (a : Bool) → cond a (cond (ltb c (2 ^ (f .0 - 1))) (pos c) (negsuc (2 ^ f .0 - suc c))) (pos c) ≡ pos c
-    go true = ap (λ (b : Bool). cond b (pos c) (negsuc (2 ^ f .0 - suc c))) (lt-ltb c (2 ^ (f .0 - 1)) h)
+    go : (a : Bool) → cond a (cond (ltb c (2 ^ (f .bits - 1))) (pos c) (negsuc (2 ^ f .bits - suc c))) (pos c) ≡ pos c
+    go true = ap (λ (b : Bool). cond b (pos c) (negsuc (2 ^ f .bits - suc c))) (lt-ltb c (2 ^ (f .bits - 1)) h)
     go false = refl
 
-pub value-high : (f : FieldRow) (c : ℕ) → eqb (f .1) 1 ≡ true → 2 ^ (f .0 - 1) ≤ c → valueOf f c ≡ negsuc (2 ^ f .0 - suc c)
+pub value-high : (f : FieldRow) (c : ℕ) → eqb (f .holds) 1 ≡ true → 2 ^ (f .bits - 1) ≤ c → valueOf f c ≡ negsuc (2 ^ f .bits - suc c)
 unfolding valueOf twosOf
 value-high f c e h =
-    ap (λ (b : Bool). cond b (cond (ltb c (2 ^ (f .0 - 1))) (pos c) (negsuc (2 ^ f .0 - suc c))) (pos c)) e
-    ∙ ap (λ (b : Bool). cond b (pos c) (negsuc (2 ^ f .0 - suc c))) (le-ltb c (2 ^ (f .0 - 1)) h)
+    ap (λ (b : Bool). cond b (cond (ltb c (2 ^ (f .bits - 1))) (pos c) (negsuc (2 ^ f .bits - suc c))) (pos c)) e
+    ∙ ap (λ (b : Bool). cond b (pos c) (negsuc (2 ^ f .bits - suc c))) (le-ltb c (2 ^ (f .bits - 1)) h)
 
 pub below63 : (b c : ℕ) → b ≤ 62 → c < 2 ^ b → c < 2 ^ 63
 below63 b c s h = lt-of-lt-of-le h (pow-mono {j = 63} (le-trans s (lit≤ tt)))
@@ -91,7 +91,7 @@ and-last false = refl
 
 -- reading a code is a test of its value
 get-signed : (w c lo hi : ℕ) (t : Bool) → 1 ≤ w → c < 2 ^ w → ltb c (half w) ≡ t
-    → get w (signed lo hi) c ≡ (need within (w, 1, minus lo, pos hi) (twosOf w c) or 11 then ok (twosOf w c))
+    → get w (signed lo hi) c ≡ (need within (fieldRow (value w (signed lo hi))) (twosOf w c) or 11 then ok (twosOf w c))
 unfolding get within twosOf if_then_else_ need_or_then_
 get-signed w c lo hi true h k e = rw (e, low-minus lo c)
 get-signed w c lo hi false h k e =

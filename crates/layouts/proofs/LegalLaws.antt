@@ -38,7 +38,7 @@ asks-spare w c h = rw (add-zero c, mod-eq-of-lt h) (same c ∙ spare-is w c)
     same (suc c) = rw (leb·suc-zero c, eqb·suc-zero c)
 
 asks-unsigned : (w lo hi c : ℕ) → lo ≤ hi → hi < 2 ^ w → c < 2 ^ w
-    → leb ((c + (2 ^ w - lo) % 2 ^ w) % 2 ^ w) (hi - lo) ≡ within (w, 0, pos lo, pos hi) (valueOf (w, 0, pos lo, pos hi) c)
+    → leb ((c + (2 ^ w - lo) % 2 ^ w) % 2 ^ w) (hi - lo) ≡ within (fieldRow (value w (unsigned lo hi))) (valueOf (fieldRow (value w (unsigned lo hi))) c)
 unfolding within valueOf
 asks-unsigned w lo hi c k l h =
     rw (add-mod-mod c (2 ^ w - lo) (2 ^ w))
@@ -54,12 +54,12 @@ asks-unsigned w lo hi c k l h =
     omega-sub m = omega arith
 
 asks-signed : (w lo hi c : ℕ) → 1 ≤ w → lo ≤ half w → hi < half w → c < 2 ^ w
-    → leb ((c + lo) % 2 ^ w) (lo + hi) ≡ within (w, 1, minus lo, pos hi) (valueOf (w, 1, minus lo, pos hi) c)
+    → leb ((c + lo) % 2 ^ w) (lo + hi) ≡ within (fieldRow (value w (signed lo hi))) (valueOf (fieldRow (value w (signed lo hi))) c)
 unfolding within
 asks-signed w lo hi c o k l h =
     ⊎-elim
     (λ (m : half w ≤ c).
-    let v : valueOf (w, 1, minus lo, pos hi) c ≡ negsuc (2 ^ w - suc c) = value-high (w, 1, minus lo, pos hi) c refl m in
+    let v : valueOf (fieldRow (value w (signed lo hi))) c ≡ negsuc (2 ^ w - suc c) = value-high (fieldRow (value w (signed lo hi))) c refl m in
     rw (v, low-neg lo (2 ^ w - suc c), and-last (ltb (2 ^ w - suc c) lo))
     (⊎-elim
     (λ (q : 2 ^ w ≤ c + lo).
@@ -69,12 +69,12 @@ asks-signed w lo hi c o k l h =
     rw (mod-eq-of-lt q, le-ltb (2 ^ w - suc c) lo (omega arith)) (lt-leb (c + lo) (lo + hi) (omega arith)))
     (le-or-lt (2 ^ w) (c + lo))))
     (λ (m : c < half w).
-    let v : valueOf (w, 1, minus lo, pos hi) c ≡ pos c = value-low (w, 1, minus lo, pos hi) c m in
+    let v : valueOf (fieldRow (value w (signed lo hi))) c ≡ pos c = value-low (fieldRow (value w (signed lo hi))) c m in
     rw (v, low-minus lo c, mod-eq-of-lt {n = c + lo} {m = 2 ^ w} (omega (arith, twice w o))) (same-leb (c + lo) (lo + hi) c hi (λ q. omega (arith, q)) (λ q. omega (arith, q))))
     (le-or-lt (half w) c)
 
 -- what a field's rule asks of a number is what the field asks of its code there
-asks : (f : Field) (k n : ℕ) → sane f ≡ true → obeys (ruleOf f k) n ≡ within (fieldRow f) (valueOf (fieldRow f) (n / 2 ^ k % 2 ^ fieldRow f .0))
+asks : (f : Field) (k n : ℕ) → sane f ≡ true → obeys (ruleOf f k) n ≡ within (fieldRow f) (valueOf (fieldRow f) (n / 2 ^ k % 2 ^ fieldRow f .bits))
 unfolding obeys
 asks (spare w) k n s = sym (ap (λ x. leb x 0) (mod-add-mod (n / 2 ^ k) (2 ^ w) 0)) ∙ asks-spare w (n / 2 ^ k % 2 ^ w) (mod-lt (n / 2 ^ k) (pow-pos w))
 asks (value w (unsigned lo hi)) k n s =
@@ -86,7 +86,7 @@ asks (value w (signed lo hi)) k n s =
     ∙ asks-signed w lo hi (n / 2 ^ k % 2 ^ w) (leb-true _ _ (both-left (leb 1 w) _ u)) (leb-true _ _ (both-right (leb 1 w) _ u)) (ltb-true _ _ (both-right (leb 1 w && leb lo (half w)) _ s)) (mod-lt (n / 2 ^ k) (pow-pos w))
 
 -- a free field asks nothing
-asks-nothing : (f : Field) (c : ℕ) → sane f ≡ true → isFree (f ∷ []) ≡ true → c < 2 ^ fieldRow f .0 → within (fieldRow f) (valueOf (fieldRow f) c) ≡ true
+asks-nothing : (f : Field) (c : ℕ) → sane f ≡ true → isFree (f ∷ []) ≡ true → c < 2 ^ fieldRow f .bits → within (fieldRow f) (valueOf (fieldRow f) c) ≡ true
 asks-nothing (spare w) c s e h = absurd (false≢true e)
 asks-nothing (value w (unsigned lo hi)) c s e h =
     let u = both-left (eqb lo 0 && eqb (suc hi) (2 ^ w)) true e in
@@ -99,15 +99,15 @@ asks-nothing (value w (signed lo hi)) c s e h =
 -- ---- the fields of a group
 
 obeyed-cons : (f : Field) (fs : List Field) (n : ℕ) → sane f ≡ true
-    → allObeyed (rulesOf (f ∷ fs)) n ≡ (within (fieldRow f) (valueOf (fieldRow f) (n / 2 ^ bits fs % 2 ^ fieldRow f .0)) && allObeyed (rulesOf fs) n)
+    → allObeyed (rulesOf (f ∷ fs)) n ≡ (within (fieldRow f) (valueOf (fieldRow f) (n / 2 ^ bits fs % 2 ^ fieldRow f .bits)) && allObeyed (rulesOf fs) n)
 obeyed-cons f fs n s = go (isFree (f ∷ [])) refl
   where
     go : (t : Bool) → isFree (f ∷ []) ≡ t
-        → allObeyed (cond t (rulesOf fs) (ruleOf f (bits fs) ∷ rulesOf fs)) n ≡ (within (fieldRow f) (valueOf (fieldRow f) (n / 2 ^ bits fs % 2 ^ fieldRow f .0)) && allObeyed (rulesOf fs) n)
-    go true e = rw (asks-nothing f (n / 2 ^ bits fs % 2 ^ fieldRow f .0) s e (mod-lt (n / 2 ^ bits fs) (pow-pos (fieldRow f .0))))
+        → allObeyed (cond t (rulesOf fs) (ruleOf f (bits fs) ∷ rulesOf fs)) n ≡ (within (fieldRow f) (valueOf (fieldRow f) (n / 2 ^ bits fs % 2 ^ fieldRow f .bits)) && allObeyed (rulesOf fs) n)
+    go true e = rw (asks-nothing f (n / 2 ^ bits fs % 2 ^ fieldRow f .bits) s e (mod-lt (n / 2 ^ bits fs) (pow-pos (fieldRow f .bits))))
     go false e = rw (asks f (bits fs) n s)
 
-bits-cons : (f : Field) (fs : List Field) → bits (f ∷ fs) ≡ fieldRow f .0 + bits fs
+bits-cons : (f : Field) (fs : List Field) → bits (f ∷ fs) ≡ fieldRow f .bits + bits fs
 bits-cons (spare w) fs = refl
 bits-cons (value w (unsigned lo hi)) fs = refl
 bits-cons (value w (signed lo hi)) fs = refl
@@ -116,14 +116,14 @@ obeyed-legal : (fs : List Field) (n : ℕ) → every sane fs ≡ true → allObe
 obeyed-legal [] n s = refl
 obeyed-legal (f ∷ fs) n s =
     obeyed-cons f fs n (both-left (sane f) (every sane fs) s)
-    ∙ rw (obeyed-legal fs n (both-right (sane f) (every sane fs) s), bits-cons f fs, width-bits fs, field n (fieldRow f .0) (bits fs), mod-mod-pow n (fieldRow f .0) (bits fs))
+    ∙ rw (obeyed-legal fs n (both-right (sane f) (every sane fs) s), bits-cons f fs, width-bits fs, field n (fieldRow f .bits) (bits fs), mod-mod-pow n (fieldRow f .bits) (bits fs))
 
 -- ---- the groups of the tables
 
 -- a number of a group's bits obeys its rules where its fields are legal
 pub group-obeyed : (g n : ℕ) → g < 52 → n < 2 ^ width (rowsAt g) → allObeyed (slice (firstRule g) (firstRule (g + 1)) rules) n ≡ legal (rowsAt g) n
 group-obeyed g n h k =
-    let e : rowsAt g ≡ map fieldRow (fieldsAt g) = rows-map (groupAt g .1) (groupAt g .2) in
+    let e : rowsAt g ≡ map fieldRow (fieldsAt g) = rows-map (groupAt g .first) (groupAt g .end) in
     let b : n < 2 ^ bits (fieldsAt g) = subst (λ x. n < 2 ^ x) (ap width e ∙ width-bits (fieldsAt g)) k in
     rw (add-one g, group-rules g h)
     (obeyed-legal (fieldsAt g) n (group-sane g h) ∙ ap (legal (map fieldRow (fieldsAt g))) (mod-eq-of-lt b) ∙ ap (λ rs. legal rs n) (sym e))
@@ -136,24 +136,24 @@ group-none g n h k l =
 
 -- ---- a part that starts at a place
 
-pub size-few : (step g : ℕ) → partSound step (groupAt g) ≡ true → {m : ℕ} → m ≡ groupAt g .0 → m ≤ 8
+pub size-few : (step g : ℕ) → partSound step (groupAt g) ≡ true → {m : ℕ} → m ≡ groupAt g .octets → m ≤ 8
 size-few step g p em = omega (arith, part-sound step (groupAt g) p .short)
 
-pub part-below : (step g : ℕ) → partSound step (groupAt g) ≡ true → (m n : ℕ) → m ≡ groupAt g .0 → n < 2 ^ (8 * m) → n / 2 ^ step < 2 ^ 56
+pub part-below : (step g : ℕ) → partSound step (groupAt g) ≡ true → (m n : ℕ) → m ≡ groupAt g .octets → n < 2 ^ (8 * m) → n / 2 ^ step < 2 ^ 56
 part-below step g p m n em k =
     let d : n / 2 ^ step ≤ n = shr-le n step in
     let q : 8 * m ≤ 56 = omega (arith, part-sound step (groupAt g) p .short) in
     omega (arith, pow-mono q)
 
-module _ (step g at : ℕ) (s : List ℕ) (o : Octets s) (h : g < 52) (p : partSound step (groupAt g) ≡ true) (l : at + groupAt g .0 ≤ length s) where
+module _ (step g at : ℕ) (s : List ℕ) (o : Octets s) (h : g < 52) (p : partSound step (groupAt g) ≡ true) (l : at + groupAt g .octets ≤ length s) where
   part-fits : partAt step g (drop at s) < 2 ^ width (rowsAt g)
   part-fits =
-      let e : width (rowsAt g) ≡ bits (fieldsAt g) = ap width (rows-map (groupAt g .1) (groupAt g .2)) ∙ width-bits (fieldsAt g) in
+      let e : width (rowsAt g) ≡ bits (fieldsAt g) = ap width (rows-map (groupAt g .first) (groupAt g .end)) ∙ width-bits (fieldsAt g) in
       rw e (part-small step g (drop at s) (octets-drop at s o) (part-sound step (groupAt g) p) (omega (arith, length-drop at s)))
 
   module _ {a e : ℕ} (ea : a ≡ firstRule g) (ee : e ≡ firstRule (g + 1)) where
     pub part-free : e ≤ a → true ≡ legal (rowsAt g) (partAt step g (drop at s))
     part-free k = sym (group-none g (partAt step g (drop at s)) h part-fits (omega arith))
 
-    pub part-ruled : {m n : ℕ} {t : Bool} → m ≡ groupAt g .0 → n ≡ joined (take m (drop at s)) → t ≡ allObeyed (slice a e rules) (n / 2 ^ step) → t ≡ legal (rowsAt g) (partAt step g (drop at s))
+    pub part-ruled : {m n : ℕ} {t : Bool} → m ≡ groupAt g .octets → n ≡ joined (take m (drop at s)) → t ≡ allObeyed (slice a e rules) (n / 2 ^ step) → t ≡ legal (rowsAt g) (partAt step g (drop at s))
     part-ruled em en et = et ∙ rw (ea, ee, en, em) (group-obeyed g (partAt step g (drop at s)) h part-fits)

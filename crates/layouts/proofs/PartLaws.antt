@@ -21,17 +21,17 @@ use Rattle.layouts.specs.Read.{rows, rowsAt, partAt, width, legal, span,
 -- ---- a sound group
 
 pub record PartSound (step : ℕ) (r : GroupRow) : Type 0 where
-  pub inside : r .2 ≤ 113
-  pub some : 1 ≤ r .0
-  pub short : r .0 ≤ 7
-  pub whole : width (rows (r .1) (r .2)) + step ≡ 8 * r .0
+  pub inside : r .end ≤ 113
+  pub some : 1 ≤ r .octets
+  pub short : r .octets ≤ 7
+  pub whole : width (rows (r .first) (r .end)) + step ≡ 8 * r .octets
 
 pub part-sound : (step : ℕ) (r : GroupRow) → partSound step r ≡ true → PartSound step r
 part-sound step r e =
-    let a = leb (r .2) 113 in
-    let b = leb 1 (r .0) in
-    let c = leb (r .0) 7 in
-    let d = eqb (width (rows (r .1) (r .2)) + step) (8 * r .0) in
+    let a = leb (r .end) 113 in
+    let b = leb 1 (r .octets) in
+    let c = leb (r .octets) 7 in
+    let d = eqb (width (rows (r .first) (r .end)) + step) (8 * r .octets) in
     let u : a && b && c ≡ true = both-left (a && b && c) d e in
     let v : a && b ≡ true = both-left (a && b) c u in
     record {
@@ -44,18 +44,18 @@ part-sound step r e =
 -- ---- one part: r is the row of the group g
 
 pub record OnePart (step : ℕ) (r : GroupRow) (n : ℕ) : Type 0 where
-  pub wide : 8 * r .0 - step ≡ width (rows (r .1) (r .2))
-  pub few : 8 * r .0 - step ≤ 56
-  pub small : n / 2 ^ step < 2 ^ (8 * r .0 - step)
+  pub wide : 8 * r .octets - step ≡ width (rows (r .first) (r .end))
+  pub few : 8 * r .octets - step ≤ 56
+  pub small : n / 2 ^ step < 2 ^ (8 * r .octets - step)
 
-pub one-part : (step : ℕ) (r : GroupRow) (n : ℕ) → PartSound step r → n < 2 ^ (8 * r .0) → OnePart step r n
+pub one-part : (step : ℕ) (r : GroupRow) (n : ℕ) → PartSound step r → n < 2 ^ (8 * r .octets) → OnePart step r n
 one-part step r n s h =
-    let w : 8 * r .0 - step ≡ width (rows (r .1) (r .2)) = omega (arith, s .whole) in
-    let e : 8 * r .0 ≡ 8 * r .0 - step + step = omega (arith, s .whole) in
+    let w : 8 * r .octets - step ≡ width (rows (r .first) (r .end)) = omega (arith, s .whole) in
+    let e : 8 * r .octets ≡ 8 * r .octets - step + step = omega (arith, s .whole) in
     record {
       wide = w;
       few = omega (arith, s .short);
-      small = shr-lt (8 * r .0 - step) step (subst (λ x. n < 2 ^ x) e h);
+      small = shr-lt (8 * r .octets - step) step (subst (λ x. n < 2 ^ x) e h);
     }
 
 -- ---- parts checked: what is left to check says what all says
@@ -65,8 +65,8 @@ pub record First (step g k : ℕ) (s : List ℕ) (p : ℕ) : Type 0 where
   pub inside : g < 52
   pub sound : partSound step (groupAt g) ≡ true
   pub rest : partsSound step (g + step) (k - 1) ≡ true
-  pub spans : span step g k ≡ groupAt g .0 + span step (g + step) (k - 1)
-  pub ok : partsLegal step g k (drop p s) ≡ (legal (rowsAt g) (partAt step g (drop p s)) && partsLegal step (g + step) (k - 1) (drop (p + groupAt g .0) s))
+  pub spans : span step g k ≡ groupAt g .octets + span step (g + step) (k - 1)
+  pub ok : partsLegal step g k (drop p s) ≡ (legal (rowsAt g) (partAt step g (drop p s)) && partsLegal step (g + step) (k - 1) (drop (p + groupAt g .octets) s))
 
 pub first-part : (step g k : ℕ) (s : List ℕ) (p : ℕ) → 0 < k → partsSound step g k ≡ true → First step g k s p
 unfolding partsSound span partsLegal
@@ -82,7 +82,7 @@ first-part step g (suc k) s p h e =
       sound = both-right a b u;
       rest = rw j (both-right (a && b) c e);
       spans = rw j refl;
-      ok = rw (j, drop-drop (groupAt g .0) p s) refl;
+      ok = rw (j, drop-drop (groupAt g .octets) p s) refl;
     }
 
 pub record CheckParts (step group count : ℕ) (s : List ℕ) (at p g k : ℕ) : Type 0 where
@@ -91,13 +91,13 @@ pub record CheckParts (step group count : ℕ) (s : List ℕ) (at p g k : ℕ) :
   pub same : partsLegal step g k (drop p s) ≡ partsLegal step group count (drop at s)
 
 module _ (step group count : ℕ) (s : List ℕ) (at p g k : ℕ) (c : CheckParts step group count s at p g k) (h : 0 < k) {t : Bool} (et : t ≡ legal (rowsAt g) (partAt step g (drop p s))) where
-  part-ok : partsLegal step group count (drop at s) ≡ (t && partsLegal step (g + step) (k - 1) (drop (p + groupAt g .0) s))
-  part-ok = sym (c .same) ∙ first-part step g k s p h (c .sound) .ok ∙ ap (λ x. x && partsLegal step (g + step) (k - 1) (drop (p + groupAt g .0) s)) (sym et)
+  part-ok : partsLegal step group count (drop at s) ≡ (t && partsLegal step (g + step) (k - 1) (drop (p + groupAt g .octets) s))
+  part-ok = sym (c .same) ∙ first-part step g k s p h (c .sound) .ok ∙ ap (λ x. x && partsLegal step (g + step) (k - 1) (drop (p + groupAt g .octets) s)) (sym et)
 
   pub part-bad : t ≡ false → false ≡ partsLegal step group count (drop at s)
   part-bad e = sym (part-ok ∙ and-false _ e)
 
-  pub part-good : t ≡ true → {m : ℕ} → m ≡ groupAt g .0 → CheckParts step group count s at (p + m) (g + step) (k - 1)
+  pub part-good : t ≡ true → {m : ℕ} → m ≡ groupAt g .octets → CheckParts step group count s at (p + m) (g + step) (k - 1)
   part-good e em =
       let f = first-part step g k s p h (c .sound) in
       subst (λ m. CheckParts step group count s at (p + m) (g + step) (k - 1)) (sym em)

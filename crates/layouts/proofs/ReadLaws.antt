@@ -27,7 +27,7 @@ use Rattle.rules.specs.Category018.{category018}
 use Rattle.rules.specs.Entry.{categories}
 use Rattle.tables.specs.declared.tables.LayoutRow.{LayoutRow}
 use Rattle.tables.specs.Tables as t
-use Rattle.tables.specs.Tables.{fields, fieldRow, groupIs, groupRows, groupAt, layoutIs, layoutBy}
+use Rattle.tables.specs.Tables.{fields, fieldRow, groupIs, groupRows, noGroupRow, groupAt, layoutIs, layoutBy}
 use Rattle.tables.proofs.TableLaws.{fieldsAt}
 use Rattle.layouts.specs.Read.{rows, rowsAt, partAt, width, legal, values, span, holds, partSound, partsSound, partsLegal, partValues, Shaped, chain, headOf, stepOf, listShape, shapeBy, shapeOf, readKind, readBy, isOctet, rowSound}
 use Rattle.layouts.proofs.FieldCodes.{Wide, width-bits, unpack-is}
@@ -82,31 +82,31 @@ pub wide-slice : (a e : ℕ) → Wide (slice a e fields)
 wide-slice a e = wide-drop a (take e fields) (wide-take e fields wide-fields)
 
 -- a part's number fits its fields
-pub part-small : (step g : ℕ) (bs : List ℕ) → Octets bs → PartSound step (groupAt g) → groupAt g .0 ≤ length bs → partAt step g bs < 2 ^ bits (fieldsAt g)
+pub part-small : (step g : ℕ) (bs : List ℕ) → Octets bs → PartSound step (groupAt g) → groupAt g .octets ≤ length bs → partAt step g bs < 2 ^ bits (fieldsAt g)
 part-small step g bs o s h =
-    let l : length (take (groupAt g .0) bs) ≡ groupAt g .0 = length-take-le (groupAt g .0) bs h in
-    let n : joined (take (groupAt g .0) bs) < 2 ^ (8 * groupAt g .0) =
-    subst (λ k. joined (take (groupAt g .0) bs) < 2 ^ (8 * k)) l (joined-lt (take (groupAt g .0) bs) (octets-take (groupAt g .0) bs o)) in
-    let w : width (rowsAt g) ≡ bits (fieldsAt g) = ap width (rows-map (groupAt g .1) (groupAt g .2)) ∙ width-bits (fieldsAt g) in
-    let e : 8 * groupAt g .0 ≡ bits (fieldsAt g) + step = omega (arith, s .whole) in
-    shr-lt (bits (fieldsAt g)) step (subst (λ k. joined (take (groupAt g .0) bs) < 2 ^ k) e n)
+    let l : length (take (groupAt g .octets) bs) ≡ groupAt g .octets = length-take-le (groupAt g .octets) bs h in
+    let n : joined (take (groupAt g .octets) bs) < 2 ^ (8 * groupAt g .octets) =
+    subst (λ k. joined (take (groupAt g .octets) bs) < 2 ^ (8 * k)) l (joined-lt (take (groupAt g .octets) bs) (octets-take (groupAt g .octets) bs o)) in
+    let w : width (rowsAt g) ≡ bits (fieldsAt g) = ap width (rows-map (groupAt g .first) (groupAt g .end)) ∙ width-bits (fieldsAt g) in
+    let e : 8 * groupAt g .octets ≡ bits (fieldsAt g) + step = omega (arith, s .whole) in
+    shr-lt (bits (fieldsAt g)) step (subst (λ k. joined (take (groupAt g .octets) bs) < 2 ^ k) e n)
 
-part-is : (step g : ℕ) (bs : List ℕ) → Octets bs → PartSound step (groupAt g) → groupAt g .0 ≤ length bs
+part-is : (step g : ℕ) (bs : List ℕ) → Octets bs → PartSound step (groupAt g) → groupAt g .octets ≤ length bs
     → unpack (fieldsAt g) (partAt step g bs) ≡ (need legal (rowsAt g) (partAt step g bs) or 11 then ok (values (rowsAt g) (partAt step g bs)))
 part-is step g bs o s h =
-    rw (rows-map (groupAt g .1) (groupAt g .2))
-    (unpack-is (fieldsAt g) (partAt step g bs) (wide-slice (groupAt g .1) (groupAt g .2)) (part-small step g bs o s h))
+    rw (rows-map (groupAt g .first) (groupAt g .end))
+    (unpack-is (fieldsAt g) (partAt step g bs) (wide-slice (groupAt g .first) (groupAt g .end)) (part-small step g bs o s h))
 
 -- ---- the parts of an item unpacked
 
 unfoldable partNumbers : ℕ → ℕ → ℕ → List ℕ → List ℕ
 partNumbers step g zero bs = []
-partNumbers step g (suc c) bs = partAt step g bs ∷ partNumbers step (g + step) c (drop (groupAt g .0) bs)
+partNumbers step g (suc c) bs = partAt step g bs ∷ partNumbers step (g + step) c (drop (groupAt g .octets) bs)
 
 length-numbers : (step g c : ℕ) (bs : List ℕ) → length (partNumbers step g c bs) ≡ c
 unfolding partNumbers
 length-numbers step g zero bs = refl
-length-numbers step g (suc c) bs = ap suc (length-numbers step (g + step) c (drop (groupAt g .0) bs))
+length-numbers step g (suc c) bs = ap suc (length-numbers step (g + step) c (drop (groupAt g .octets) bs))
 
 -- the fields of so many parts are those of the groups
 Grouping : ℕ → ℕ → ℕ → List (List Field) → Type 0
@@ -136,8 +136,8 @@ unpacked step g (suc c) (fs ∷ gs) bs o s h e =
     let b = partSound step (groupAt g) in
     let d = partsSound step (g + step) c in
     let p : PartSound step (groupAt g) = part-sound step (groupAt g) (both-right a b (both-left (a && b) d s)) in
-    rw (e .0, part-is step g bs o p (omega arith), unpacked step (g + step) c gs (drop (groupAt g .0) bs) (octets-drop (groupAt g .0) bs o) (both-right (a && b) d s) (omega (arith, length-drop (groupAt g .0) bs)) (e .1))
-    (need-cons (legal (rowsAt g) (partAt step g bs)) (partsLegal step (g + step) c (drop (groupAt g .0) bs)) _ _)
+    rw (e .0, part-is step g bs o p (omega arith), unpacked step (g + step) c gs (drop (groupAt g .octets) bs) (octets-drop (groupAt g .octets) bs o) (both-right (a && b) d s) (omega (arith, length-drop (groupAt g .octets) bs)) (e .1))
+    (need-cons (legal (rowsAt g) (partAt step g bs)) (partsLegal step (g + step) c (drop (groupAt g .octets) bs)) _ _)
 
 -- ---- lists and other equal parts
 
@@ -157,11 +157,11 @@ same-leb a b c d f g =
     (le-or-lt a b)
 
 many-is : (g c : ℕ) (bs : List ℕ)
-    → readMany (groupAt g .0) c bs ≡ (need leb (c * groupAt g .0) (length bs) or 9 then ok (partNumbers 0 g c bs, drop (c * groupAt g .0) bs))
+    → readMany (groupAt g .octets) c bs ≡ (need leb (c * groupAt g .octets) (length bs) or 9 then ok (partNumbers 0 g c bs, drop (c * groupAt g .octets) bs))
 unfolding readMany readNum partNumbers _>>=_ need_or_then_
-many-is g zero bs = rw (zero-mul (groupAt g .0), leb·zero (length bs))
+many-is g zero bs = rw (zero-mul (groupAt g .octets), leb·zero (length bs))
 many-is g (suc c) bs =
-    let k = groupAt g .0 in
+    let k = groupAt g .octets in
     ⊎-elim
     (λ (h : k ≤ length bs).
     let m : leb (c * k) (length (drop k bs)) ≡ leb (suc c * k) (length bs) =
@@ -174,16 +174,16 @@ many-is g (suc c) bs =
     rw (lt-leb k (length bs) h, lt-leb (suc c * k) (length bs) (omega arith)))
     (le-or-lt k (length bs))
 
-pub span-equal : (g c : ℕ) → span 0 g c ≡ c * groupAt g .0
+pub span-equal : (g c : ℕ) → span 0 g c ≡ c * groupAt g .octets
 unfolding span
-span-equal g zero = sym (zero-mul (groupAt g .0))
+span-equal g zero = sym (zero-mul (groupAt g .octets))
 span-equal g (suc c) = rw (add-zero g, span-equal g c) (omega arith)
 
 -- of one octet each
-many-one : (g c : ℕ) (bs : List ℕ) → groupAt g .0 ≡ 1 → readMany 1 c bs ≡ (need leb c (length bs) or 9 then ok (partNumbers 0 g c bs, drop c bs))
+many-one : (g c : ℕ) (bs : List ℕ) → groupAt g .octets ≡ 1 → readMany 1 c bs ≡ (need leb c (length bs) or 9 then ok (partNumbers 0 g c bs, drop c bs))
 many-one g c bs one = rw mul-one at (rw one at (many-is g c bs))
 
-span-one : (g c : ℕ) → groupAt g .0 ≡ 1 → span 0 g c ≡ c
+span-one : (g c : ℕ) → groupAt g .octets ≡ 1 → span 0 g c ≡ c
 span-one g c one = span-equal g c ∙ ap (λ x. c * x) one ∙ mul-one c
 
 grouping-equal : (g c hi : ℕ) (fs : List Field) → fs ≡ fieldsAt g → c ≤ hi → Grouping 0 g c (replicate hi fs)
@@ -310,20 +310,20 @@ groups-cons : (g e : ℕ) → g < e → e ≤ 52 → slice g e allGroups ≡ gro
 unfolding groupAt
 groups-cons g e h k =
     rw (add-one g)
-    (slice-cons g e allGroups (groupIs (0, 0, 0, 0, false)) h (subst (λ n. e ≤ n) (sym groups-long) k)
-    ∙ ap (λ x. x ∷ slice (suc g) e allGroups) (List·getD-map groupIs (groupRows 0 t.groups) g (0, 0, 0, 0, false)))
+    (slice-cons g e allGroups (groupIs noGroupRow) h (subst (λ n. e ≤ n) (sym groups-long) k)
+    ∙ ap (λ x. x ∷ slice (suc g) e allGroups) (List·getD-map groupIs (groupRows 0 t.groups) g noGroupRow))
 
 -- what a chain's shape says of its parts
 chainParts : ℕ → List ℕ → Shaped → Answer (List ℕ × List ℕ)
 chainParts g bs s = ok (partNumbers 1 g (s .0) bs, drop (s .1) bs)
 
 chain-next : (g : ℕ) (bs : List ℕ) (m : Answer Shaped)
-    → _>>=_ {B = List ℕ × List ℕ} (m >>= chainParts (g + 1) (drop (groupAt g .0) bs)) (λ x. ok (partAt 1 g bs ∷ x .0, x .1))
-    ≡ (_>>=_ {B = Shaped} m (λ s. ok (s .0 + 1, s .1 + groupAt g .0)) >>= chainParts g bs)
+    → _>>=_ {B = List ℕ × List ℕ} (m >>= chainParts (g + 1) (drop (groupAt g .octets) bs)) (λ x. ok (partAt 1 g bs ∷ x .0, x .1))
+    ≡ (_>>=_ {B = Shaped} m (λ s. ok (s .0 + 1, s .1 + groupAt g .octets)) >>= chainParts g bs)
 unfolding _>>=_ chainParts partNumbers
 chain-next g bs (ok s) =
-    let c : groupAt g .0 + s .1 ≡ s .1 + groupAt g .0 = omega arith in
-    rw (add-one (s .0), drop-drop (s .1) (groupAt g .0) bs, c)
+    let c : groupAt g .octets + s .1 ≡ s .1 + groupAt g .octets = omega arith in
+    rw (add-one (s .0), drop-drop (s .1) (groupAt g .octets) bs, c)
 chain-next g bs (refused n p) = refl
 
 chain-is : (n g e : ℕ) (bs : List ℕ) → g + n ≡ e → e ≤ 52 → readChain 9 11 (map (λ x. x .size) (slice g e allGroups)) bs ≡ (chain g n bs >>= chainParts g bs)
@@ -332,7 +332,7 @@ chain-is zero g e bs h k =
     let j : g ≡ e = omega arith in
     rw (j, slice-empty e allGroups)
 chain-is (suc n) g e bs h k =
-    let j = groupAt g .0 in
+    let j = groupAt g .octets in
     let m : g + 1 + n ≡ e = omega arith in
     rw (groups-cons g e (omega arith) k)
     (⊎-elim
@@ -340,12 +340,12 @@ chain-is (suc n) g e bs h k =
     (λ (l : length bs < j). rw (lt-leb j (length bs) l))
     (le-or-lt j (length bs)))
   where
-    go : (t : Bool) → readChain 9 11 (map (λ x. x .size) (slice (g + 1) e allGroups)) (drop (groupAt g .0) bs) ≡ (chain (g + 1) n (drop (groupAt g .0) bs) >>= chainParts (g + 1) (drop (groupAt g .0) bs))
-        → (if t then ok (partAt 1 g bs ∷ [], drop (groupAt g .0) bs)
-        else _>>=_ {B = List ℕ × List ℕ} (readChain 9 11 (map (λ x. x .size) (slice (g + 1) e allGroups)) (drop (groupAt g .0) bs)) (λ x. ok (partAt 1 g bs ∷ x .0, x .1)))
-        ≡ ((if t then ok (1, groupAt g .0) else _>>=_ {B = Shaped} (chain (g + 1) n (drop (groupAt g .0) bs)) (λ s. ok (s .0 + 1, s .1 + groupAt g .0))) >>= chainParts g bs)
+    go : (t : Bool) → readChain 9 11 (map (λ x. x .size) (slice (g + 1) e allGroups)) (drop (groupAt g .octets) bs) ≡ (chain (g + 1) n (drop (groupAt g .octets) bs) >>= chainParts (g + 1) (drop (groupAt g .octets) bs))
+        → (if t then ok (partAt 1 g bs ∷ [], drop (groupAt g .octets) bs)
+        else _>>=_ {B = List ℕ × List ℕ} (readChain 9 11 (map (λ x. x .size) (slice (g + 1) e allGroups)) (drop (groupAt g .octets) bs)) (λ x. ok (partAt 1 g bs ∷ x .0, x .1)))
+        ≡ ((if t then ok (1, groupAt g .octets) else _>>=_ {B = Shaped} (chain (g + 1) n (drop (groupAt g .octets) bs)) (λ s. ok (s .0 + 1, s .1 + groupAt g .octets))) >>= chainParts g bs)
     go true r = refl
-    go false r = rw r (chain-next g bs (chain (g + 1) n (drop (groupAt g .0) bs)))
+    go false r = rw r (chain-next g bs (chain (g + 1) n (drop (groupAt g .octets) bs)))
 
 -- the parts that a chain has
 pub record Chained (g n c long : ℕ) (bs : List ℕ) : Type 0 where
@@ -358,24 +358,24 @@ pub chained : (n g : ℕ) (bs : List ℕ) (s : Shaped) → chain g n bs ≡ ok s
 unfolding chain span
 chained zero g bs s h = refused-ok h
 chained (suc n) g bs s h =
-    need-elim (leb (groupAt g .0) (length bs)) 9 _ h λ l h₁.
+    need-elim (leb (groupAt g .octets) (length bs)) 9 _ h λ l h₁.
     ⊎-elim
     (λ (t, u). one l (ok-inj u))
-    (λ (t, u). bind-elim (chain (g + 1) n (drop (groupAt g .0) bs)) _ u λ x p h₂. more x l (chained n (g + 1) (drop (groupAt g .0) bs) x p) (ok-inj h₂))
-    (if-inv (eqb (joined (take (groupAt g .0) bs) % 2) 0) _ _ h₁)
+    (λ (t, u). bind-elim (chain (g + 1) n (drop (groupAt g .octets) bs)) _ u λ x p h₂. more x l (chained n (g + 1) (drop (groupAt g .octets) bs) x p) (ok-inj h₂))
+    (if-inv (eqb (joined (take (groupAt g .octets) bs) % 2) 0) _ _ h₁)
   where
-    one : T (leb (groupAt g .0) (length bs)) → _≡_ {A = Shaped} (1, groupAt g .0) s → Chained g (suc n) (s .0) (s .1) bs
-    one l e = subst (λ (x : Shaped). Chained g (suc n) (x .0) (x .1) bs) e (record { some = lit≤ tt; few = omega arith; spans = add-zero (groupAt g .0); there = leb→le _ _ l })
+    one : T (leb (groupAt g .octets) (length bs)) → _≡_ {A = Shaped} (1, groupAt g .octets) s → Chained g (suc n) (s .0) (s .1) bs
+    one l e = subst (λ (x : Shaped). Chained g (suc n) (x .0) (x .1) bs) e (record { some = lit≤ tt; few = omega arith; spans = add-zero (groupAt g .octets); there = leb→le _ _ l })
 
-    more : (x : Shaped) → T (leb (groupAt g .0) (length bs)) → Chained (g + 1) n (x .0) (x .1) (drop (groupAt g .0) bs) → _≡_ {A = Shaped} (x .0 + 1, x .1 + groupAt g .0) s → Chained g (suc n) (s .0) (s .1) bs
+    more : (x : Shaped) → T (leb (groupAt g .octets) (length bs)) → Chained (g + 1) n (x .0) (x .1) (drop (groupAt g .octets) bs) → _≡_ {A = Shaped} (x .0 + 1, x .1 + groupAt g .octets) s → Chained g (suc n) (s .0) (s .1) bs
     more x l d e =
-        let h : groupAt g .0 ≤ length bs = leb→le _ _ l in
+        let h : groupAt g .octets ≤ length bs = leb→le _ _ l in
         subst (λ (y : Shaped). Chained g (suc n) (y .0) (y .1) bs) e
         (record {
           some = omega arith;
           few = omega (arith, d .few);
           spans = rw (add-one (x .0), d .spans) (omega arith);
-          there = omega (arith, d .there, length-drop (groupAt g .0) bs);
+          there = omega (arith, d .there, length-drop (groupAt g .octets) bs);
         })
 
 grouping-chain : (c g e : ℕ) → g + c ≤ e → e ≤ 52 → Grouping 1 g c (map (λ x. x .fields) (slice g e allGroups))
@@ -390,7 +390,7 @@ module _ (lo hi a e : ℕ) (bs : List ℕ) (o : Octets bs) where
   fixed-reads : partsSound 0 a 1 ≡ true → readItem (fixed (groupIs (groupAt a))) bs ≡ readKind 1 lo hi a e bs
   unfolding shapeBy readParts Grouping need_or_then_ _>>=_
   fixed-reads s =
-      let k = groupAt a .0 in
+      let k = groupAt a .octets in
       let j : 1 * k ≡ k = omega arith in
       let m = rw j at (many-is a 1 bs) in
       ⊎-elim
@@ -407,7 +407,7 @@ module _ (lo hi a e : ℕ) (bs : List ℕ) (o : Octets bs) where
   unfolding shapeBy listShape readParts need_or_then_ _>>=_
   list-reads s =
       let l = repeated lo hi (groupIs (groupAt a)) in
-      let k = groupAt a .0 in
+      let k = groupAt a .octets in
       let c = getD bs 0 0 in
       let ds = drop 1 bs in
       ⊎-elim
@@ -439,7 +439,7 @@ module _ (lo hi a e : ℕ) (bs : List ℕ) (o : Octets bs) where
       (le-or-lt 1 (length bs))
 
   -- a length octet and contents
-  led-reads : partsSound 0 a 254 ≡ true → groupAt a .0 ≡ 1 → isOctet (fieldsAt a) ≡ true → readItem (led lo) bs ≡ readKind 3 lo hi a e bs
+  led-reads : partsSound 0 a 254 ≡ true → groupAt a .octets ≡ 1 → isOctet (fieldsAt a) ≡ true → readItem (led lo) bs ≡ readKind 3 lo hi a e bs
   unfolding shapeBy readParts need_or_then_ _>>=_
   led-reads s one oct =
       let l = led lo in
@@ -494,37 +494,37 @@ module _ (lo hi a e : ℕ) (bs : List ℕ) (o : Octets bs) where
 
 pub reads : (l : LayoutRow) (i : Layout) (bs : List ℕ) → rowSound l ≡ true → layoutIs l ≡ some i → Octets bs → readItem i bs ≡ readBy l bs
 unfolding layoutIs layoutBy readBy
-reads l i bs s h o = go (l .0) refl
+reads l i bs s h o = go (l .kind) refl
   where
     r : Rowed l
     r = rowed l s
 
-    by : (k : ℕ) → l .0 ≡ k → layoutBy k (l .1) (l .2) (groupIs (groupAt (l .3))) (slice (l .3) (l .4) allGroups) ≡ some i
-    by k e = subst (λ x. layoutBy x (l .1) (l .2) (groupIs (groupAt (l .3))) (slice (l .3) (l .4) allGroups) ≡ some i) e h
+    by : (k : ℕ) → l .kind ≡ k → layoutBy k (l .least) (l .most) (groupIs (groupAt (l .first))) (slice (l .first) (l .end) allGroups) ≡ some i
+    by k e = subst (λ x. layoutBy x (l .least) (l .most) (groupIs (groupAt (l .first))) (slice (l .first) (l .end) allGroups) ≡ some i) e h
 
-    at-kind : (k : ℕ) (j : Layout) → l .0 ≡ k → some j ≡ some i → readItem j bs ≡ readKind k (l .1) (l .2) (l .3) (l .4) bs → readItem i bs ≡ readKind (l .0) (l .1) (l .2) (l .3) (l .4) bs
-    at-kind k j e f g = ap (λ x. readItem x bs) (sym (some-inj f)) ∙ g ∙ ap (λ x. readKind x (l .1) (l .2) (l .3) (l .4) bs) (sym e)
+    at-kind : (k : ℕ) (j : Layout) → l .kind ≡ k → some j ≡ some i → readItem j bs ≡ readKind k (l .least) (l .most) (l .first) (l .end) bs → readItem i bs ≡ readKind (l .kind) (l .least) (l .most) (l .first) (l .end) bs
+    at-kind k j e f g = ap (λ x. readItem x bs) (sym (some-inj f)) ∙ g ∙ ap (λ x. readKind x (l .least) (l .most) (l .first) (l .end) bs) (sym e)
 
-    sound : (k n : ℕ) → l .0 ≡ k → l .2 ≡ n → partsSound (stepOf k) (l .3) n ≡ true
-    sound k n e f = subst (λ x. partsSound (stepOf k) (l .3) x ≡ true) f (subst (λ x. partsSound (stepOf x) (l .3) (l .2) ≡ true) e (r .parts))
+    sound : (k n : ℕ) → l .kind ≡ k → l .most ≡ n → partsSound (stepOf k) (l .first) n ≡ true
+    sound k n e f = subst (λ x. partsSound (stepOf k) (l .first) x ≡ true) f (subst (λ x. partsSound (stepOf x) (l .first) (l .most) ≡ true) e (r .parts))
 
-    go : (k : ℕ) → l .0 ≡ k → readItem i bs ≡ readKind (l .0) (l .1) (l .2) (l .3) (l .4) bs
+    go : (k : ℕ) → l .kind ≡ k → readItem i bs ≡ readKind (l .kind) (l .least) (l .most) (l .first) (l .end) bs
     go zero e = none-some (by 0 e)
-    go (suc zero) e = at-kind 1 (fixed (groupIs (groupAt (l .3)))) e (by 1 e) (fixed-reads (l .1) (l .2) (l .3) (l .4) bs o (sound 1 1 e (fixed-one l r e)))
-    go (suc (suc zero)) e = at-kind 2 (repeated (l .1) (l .2) (groupIs (groupAt (l .3)))) e (by 2 e) (list-reads (l .1) (l .2) (l .3) (l .4) bs o (sound 2 (l .2) e refl))
+    go (suc zero) e = at-kind 1 (fixed (groupIs (groupAt (l .first)))) e (by 1 e) (fixed-reads (l .least) (l .most) (l .first) (l .end) bs o (sound 1 1 e (fixed-one l r e)))
+    go (suc (suc zero)) e = at-kind 2 (repeated (l .least) (l .most) (groupIs (groupAt (l .first)))) e (by 2 e) (list-reads (l .least) (l .most) (l .first) (l .end) bs o (sound 2 (l .most) e refl))
     go (suc (suc (suc zero))) e =
-        at-kind 3 (led (l .1)) e (by 3 e) (led-reads (l .1) (l .2) (l .3) (l .4) bs o (sound 3 254 e (led-many l r e)) (led-size l r e) (led-octet l r e))
+        at-kind 3 (led (l .least)) e (by 3 e) (led-reads (l .least) (l .most) (l .first) (l .end) bs o (sound 3 254 e (led-many l r e)) (led-size l r e) (led-octet l r e))
     go (suc (suc (suc (suc k)))) e =
-        let z : l .0 ≡ 4 = omega (arith, e, few-kinds l r) in
-        at-kind 4 (extended (slice (l .3) (l .4) allGroups)) z (by 4 z)
-        (chain-reads (l .1) (l .2) (l .3) (l .4) bs o (sound 4 (l .2) z refl) (chain-ends l r z) (chain-inside l r z))
+        let z : l .kind ≡ 4 = omega (arith, e, few-kinds l r) in
+        at-kind 4 (extended (slice (l .first) (l .end) allGroups)) z (by 4 z)
+        (chain-reads (l .least) (l .most) (l .first) (l .end) bs o (sound 4 (l .most) z refl) (chain-ends l r z) (chain-inside l r z))
 
 -- ---- what a shape says of the parts: they are there, in the tables and in the item
 
 pub record Fitting (l : LayoutRow) (bs : List ℕ) (c long : ℕ) : Type 0 where
-  pub sound : partsSound (stepOf (l .0)) (l .3) c ≡ true
-  pub room : holds (stepOf (l .0)) (l .3) c ≤ 8_192
-  pub spans : headOf (l .0) + span (stepOf (l .0)) (l .3) c ≡ long
+  pub sound : partsSound (stepOf (l .kind)) (l .first) c ≡ true
+  pub room : holds (stepOf (l .kind)) (l .first) c ≤ 8_192
+  pub spans : headOf (l .kind) + span (stepOf (l .kind)) (l .first) c ≡ long
   pub there : long ≤ length bs
 
 -- fewer parts have fewer values
@@ -543,7 +543,7 @@ record Counted (k hi a : ℕ) (bs : List ℕ) (c long : ℕ) : Type 0 where
 fixed-counted : (lo hi a e : ℕ) (bs : List ℕ) (s : Shaped) → hi ≡ 1 → shapeBy 1 lo hi a e bs ≡ ok s → Counted 1 hi a bs (s .0) (s .1)
 unfolding shapeBy
 fixed-counted lo hi a e bs s h q =
-    need-elim (leb (groupAt a .0) (length bs)) 9 _ q λ t u.
+    need-elim (leb (groupAt a .octets) (length bs)) 9 _ q λ t u.
     subst (λ (x : Shaped). Counted 1 hi a bs (x .0) (x .1)) (ok-inj u)
     (record { few = omega arith; spans = omega (arith, span-equal a 1); there = leb→le _ _ t })
 
@@ -557,7 +557,7 @@ list-counted lo hi a e bs s q =
     subst (λ (x : Shaped). Counted 2 hi a bs (x .0) (x .1)) (ok-inj u₃)
     (record { few = leb→le _ _ t₃; spans = ap (λ x. 1 + x) (span-equal a (getD bs 0 0)); there = leb→le _ _ t₁ })
 
-led-counted : (lo hi a e : ℕ) (bs : List ℕ) (s : Shaped) → Octets bs → hi ≡ 254 → groupAt a .0 ≡ 1 → shapeBy 3 lo hi a e bs ≡ ok s → Counted 3 hi a bs (s .0) (s .1)
+led-counted : (lo hi a e : ℕ) (bs : List ℕ) (s : Shaped) → Octets bs → hi ≡ 254 → groupAt a .octets ≡ 1 → shapeBy 3 lo hi a e bs ≡ ok s → Counted 3 hi a bs (s .0) (s .1)
 unfolding shapeBy
 led-counted lo hi a e bs s o h one q =
     need-elim _ 9 _ q λ t₀ u₀.
@@ -584,10 +584,10 @@ none-counted lo hi a e bs s q = refused-ok q
 pub fitting : (l : LayoutRow) (bs : List ℕ) (s : Shaped) → rowSound l ≡ true → Octets bs → shapeOf l bs ≡ ok s → Fitting l bs (s .0) (s .1)
 unfolding shapeOf
 fitting l bs s h o q =
-    let d : Counted (l .0) (l .2) (l .3) bs (s .0) (s .1) = go (l .0) refl in
+    let d : Counted (l .kind) (l .most) (l .first) bs (s .0) (s .1) = go (l .kind) refl in
     record {
-      sound = parts-fewer (stepOf (l .0)) (l .3) (s .0) (l .2) (d .few) (r .parts);
-      room = le-trans (holds-fewer (stepOf (l .0)) (l .3) (s .0) (l .2) (d .few)) (r .room);
+      sound = parts-fewer (stepOf (l .kind)) (l .first) (s .0) (l .most) (d .few) (r .parts);
+      room = le-trans (holds-fewer (stepOf (l .kind)) (l .first) (s .0) (l .most) (d .few)) (r .room);
       spans = d .spans;
       there = d .there;
     }
@@ -595,17 +595,17 @@ fitting l bs s h o q =
     r : Rowed l
     r = rowed l h
 
-    by : (k : ℕ) → l .0 ≡ k → shapeBy k (l .1) (l .2) (l .3) (l .4) bs ≡ ok s
-    by k e = subst (λ x. shapeBy x (l .1) (l .2) (l .3) (l .4) bs ≡ ok s) e q
+    by : (k : ℕ) → l .kind ≡ k → shapeBy k (l .least) (l .most) (l .first) (l .end) bs ≡ ok s
+    by k e = subst (λ x. shapeBy x (l .least) (l .most) (l .first) (l .end) bs ≡ ok s) e q
 
-    back : (k : ℕ) → l .0 ≡ k → Counted k (l .2) (l .3) bs (s .0) (s .1) → Counted (l .0) (l .2) (l .3) bs (s .0) (s .1)
-    back k e d = subst (λ x. Counted x (l .2) (l .3) bs (s .0) (s .1)) (sym e) d
+    back : (k : ℕ) → l .kind ≡ k → Counted k (l .most) (l .first) bs (s .0) (s .1) → Counted (l .kind) (l .most) (l .first) bs (s .0) (s .1)
+    back k e d = subst (λ x. Counted x (l .most) (l .first) bs (s .0) (s .1)) (sym e) d
 
-    go : (k : ℕ) → l .0 ≡ k → Counted (l .0) (l .2) (l .3) bs (s .0) (s .1)
-    go zero e = none-counted (l .1) (l .2) (l .3) (l .4) bs s (by 0 e)
-    go (suc zero) e = back 1 e (fixed-counted (l .1) (l .2) (l .3) (l .4) bs s (fixed-one l r e) (by 1 e))
-    go (suc (suc zero)) e = back 2 e (list-counted (l .1) (l .2) (l .3) (l .4) bs s (by 2 e))
-    go (suc (suc (suc zero))) e = back 3 e (led-counted (l .1) (l .2) (l .3) (l .4) bs s o (led-many l r e) (led-size l r e) (by 3 e))
+    go : (k : ℕ) → l .kind ≡ k → Counted (l .kind) (l .most) (l .first) bs (s .0) (s .1)
+    go zero e = none-counted (l .least) (l .most) (l .first) (l .end) bs s (by 0 e)
+    go (suc zero) e = back 1 e (fixed-counted (l .least) (l .most) (l .first) (l .end) bs s (fixed-one l r e) (by 1 e))
+    go (suc (suc zero)) e = back 2 e (list-counted (l .least) (l .most) (l .first) (l .end) bs s (by 2 e))
+    go (suc (suc (suc zero))) e = back 3 e (led-counted (l .least) (l .most) (l .first) (l .end) bs s o (led-many l r e) (led-size l r e) (by 3 e))
     go (suc (suc (suc (suc k)))) e =
-        let z : l .0 ≡ 4 = omega (arith, e, few-kinds l r) in
-        back 4 z (chain-counted (l .1) (l .2) (l .3) (l .4) bs s (chain-ends l r z) (by 4 z))
+        let z : l .kind ≡ 4 = omega (arith, e, few-kinds l r) in
+        back 4 z (chain-counted (l .least) (l .most) (l .first) (l .end) bs s (chain-ends l r z) (by 4 z))

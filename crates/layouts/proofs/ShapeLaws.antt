@@ -48,9 +48,9 @@ chain-begun first last s h =
 
 chain-cons : (g n : ℕ) (bs : List ℕ) → 0 < n
     → chain g n bs
-    ≡ (need leb (groupAt g .0) (length bs) or 9 then
-    if eqb (joined (take (groupAt g .0) bs) % 2) 0 then ok (1, groupAt g .0)
-    else chain (g + 1) (n - 1) (drop (groupAt g .0) bs) >>= moved 1 (groupAt g .0))
+    ≡ (need leb (groupAt g .octets) (length bs) or 9 then
+    if eqb (joined (take (groupAt g .octets) bs) % 2) 0 then ok (1, groupAt g .octets)
+    else chain (g + 1) (n - 1) (drop (groupAt g .octets) bs) >>= moved 1 (groupAt g .octets))
 unfolding chain
 chain-cons g zero bs h = absurd (not-suc-le-zero h)
 chain-cons g (suc n) bs h = let e : suc n - 1 ≡ n = omega arith in rw e refl
@@ -64,7 +64,7 @@ moved-twice (ok x) size count at =
     rw (a, b)
 moved-twice (refused n p) size count at = refl
 
-module _ (first last : ℕ) (s : List ℕ) (g at count : ℕ) (c : Chaining first last s g at count) (h : g < last) {m : ℕ} (em : m ≡ groupAt g .0) where
+module _ (first last : ℕ) (s : List ℕ) (g at count : ℕ) (c : Chaining first last s g at count) (h : g < last) {m : ℕ} (em : m ≡ groupAt g .octets) where
   pub chain-group : First 1 g (last - g) s at
   chain-group = first-part 1 g (last - g) s at (omega arith) (c .sound)
 
@@ -122,145 +122,145 @@ chain-past first last s g at count c h =
 -- ---- sound rows
 
 pub record Rowed (l : LayoutRow) : Type 0 where
-  pub parts : partsSound (stepOf (l .0)) (l .3) (l .2) ≡ true
-  pub room : holds (stepOf (l .0)) (l .3) (l .2) ≤ 8_192
-  pub by : rowSoundBy (l .0) (l .2) (l .3) (l .4) ≡ true
+  pub parts : partsSound (stepOf (l .kind)) (l .first) (l .most) ≡ true
+  pub room : holds (stepOf (l .kind)) (l .first) (l .most) ≤ 8_192
+  pub by : rowSoundBy (l .kind) (l .most) (l .first) (l .end) ≡ true
 
 pub rowed : (l : LayoutRow) → rowSound l ≡ true → Rowed l
 unfolding rowSound
 rowed l e =
-    let a = partsSound (stepOf (l .0)) (l .3) (l .2) in
-    let b = leb (holds (stepOf (l .0)) (l .3) (l .2)) 8_192 in
-    let c = rowSoundBy (l .0) (l .2) (l .3) (l .4) in
+    let a = partsSound (stepOf (l .kind)) (l .first) (l .most) in
+    let b = leb (holds (stepOf (l .kind)) (l .first) (l .most)) 8_192 in
+    let c = rowSoundBy (l .kind) (l .most) (l .first) (l .end) in
     let u : a && b ≡ true = both-left (a && b) c e in
     record { parts = both-left a b u; room = leb-true _ _ (both-right a b u); by = both-right (a && b) c e }
 
 pub record Grouped (l : LayoutRow) : Type 0 where
-  pub inside : l .3 < 52
-  pub sound : PartSound 0 (groupAt (l .3))
+  pub inside : l .first < 52
+  pub sound : PartSound 0 (groupAt (l .first))
 
 module _ (l : LayoutRow) (r : Rowed l) where
-  grouped : stepOf (l .0) ≡ 0 → 1 ≤ l .2 → Grouped l
+  grouped : stepOf (l .kind) ≡ 0 → 1 ≤ l .most → Grouped l
   grouped e h =
-      let f : First 0 (l .3) (l .2) [] 0 = first-part 0 (l .3) (l .2) [] 0 h (subst (λ x. partsSound x (l .3) (l .2) ≡ true) e (r .parts)) in
-      record { inside = f .inside; sound = part-sound 0 (groupAt (l .3)) (f .sound) }
+      let f : First 0 (l .first) (l .most) [] 0 = first-part 0 (l .first) (l .most) [] 0 h (subst (λ x. partsSound x (l .first) (l .most) ≡ true) e (r .parts)) in
+      record { inside = f .inside; sound = part-sound 0 (groupAt (l .first)) (f .sound) }
 
-  by-kind : (k : ℕ) → l .0 ≡ k → rowSoundBy k (l .2) (l .3) (l .4) ≡ true
-  by-kind k e = subst (λ x. rowSoundBy x (l .2) (l .3) (l .4) ≡ true) e (r .by)
+  by-kind : (k : ℕ) → l .kind ≡ k → rowSoundBy k (l .most) (l .first) (l .end) ≡ true
+  by-kind k e = subst (λ x. rowSoundBy x (l .most) (l .first) (l .end) ≡ true) e (r .by)
 
-  step-kind : (k : ℕ) → l .0 ≡ k → stepOf (l .0) ≡ stepOf k
+  step-kind : (k : ℕ) → l .kind ≡ k → stepOf (l .kind) ≡ stepOf k
   step-kind k e = ap stepOf e
 
-  pub fixed-one : l .0 ≡ 1 → l .2 ≡ 1
+  pub fixed-one : l .kind ≡ 1 → l .most ≡ 1
   fixed-one e = eqb-true _ _ (by-kind 1 e)
 
-  pub fixed-group : l .0 ≡ 1 → Grouped l
+  pub fixed-group : l .kind ≡ 1 → Grouped l
   fixed-group e = grouped (step-kind 1 e) (omega (arith, fixed-one e))
 
-  pub list-group : l .0 ≡ 2 → Grouped l
+  pub list-group : l .kind ≡ 2 → Grouped l
   list-group e = grouped (step-kind 2 e) (leb-true _ _ (by-kind 2 e))
 
-  pub led-many : l .0 ≡ 3 → l .2 ≡ 254
-  led-many e = let t = by-kind 3 e in eqb-true _ _ (both-left (eqb (l .2) 254) _ (both-left (eqb (l .2) 254 && eqb (groupAt (l .3) .0) 1) _ t))
+  pub led-many : l .kind ≡ 3 → l .most ≡ 254
+  led-many e = let t = by-kind 3 e in eqb-true _ _ (both-left (eqb (l .most) 254) _ (both-left (eqb (l .most) 254 && eqb (groupAt (l .first) .octets) 1) _ t))
 
-  pub led-size : l .0 ≡ 3 → groupAt (l .3) .0 ≡ 1
-  led-size e = let t = by-kind 3 e in eqb-true _ _ (both-right (eqb (l .2) 254) _ (both-left (eqb (l .2) 254 && eqb (groupAt (l .3) .0) 1) _ t))
+  pub led-size : l .kind ≡ 3 → groupAt (l .first) .octets ≡ 1
+  led-size e = let t = by-kind 3 e in eqb-true _ _ (both-right (eqb (l .most) 254) _ (both-left (eqb (l .most) 254 && eqb (groupAt (l .first) .octets) 1) _ t))
 
-  pub led-octet : l .0 ≡ 3 → isOctet (slice (groupAt (l .3) .1) (groupAt (l .3) .2) fields) ≡ true
-  led-octet e = let t = by-kind 3 e in both-right (eqb (l .2) 254 && eqb (groupAt (l .3) .0) 1) _ t
+  pub led-octet : l .kind ≡ 3 → isOctet (slice (groupAt (l .first) .first) (groupAt (l .first) .end) fields) ≡ true
+  led-octet e = let t = by-kind 3 e in both-right (eqb (l .most) 254 && eqb (groupAt (l .first) .octets) 1) _ t
 
-  pub led-group : l .0 ≡ 3 → Grouped l
+  pub led-group : l .kind ≡ 3 → Grouped l
   led-group e = grouped (step-kind 3 e) (omega (arith, led-many e))
 
-  pub chain-ends : l .0 ≡ 4 → l .3 + l .2 ≡ l .4
-  chain-ends e = let t = by-kind 4 e in eqb-true _ _ (both-right (eqb 0 0) _ (both-left (eqb 0 0 && eqb (l .3 + l .2) (l .4)) _ t))
+  pub chain-ends : l .kind ≡ 4 → l .first + l .most ≡ l .end
+  chain-ends e = let t = by-kind 4 e in eqb-true _ _ (both-right (eqb 0 0) _ (both-left (eqb 0 0 && eqb (l .first + l .most) (l .end)) _ t))
 
-  chain-many : l .0 ≡ 4 → l .2 ≡ l .4 - l .3
+  chain-many : l .kind ≡ 4 → l .most ≡ l .end - l .first
   chain-many e = omega (arith, chain-ends e)
 
-  pub chain-inside : l .0 ≡ 4 → l .4 ≤ 52
-  chain-inside e = let t = by-kind 4 e in leb-true _ _ (both-right (eqb 0 0 && eqb (l .3 + l .2) (l .4)) _ t)
+  pub chain-inside : l .kind ≡ 4 → l .end ≤ 52
+  chain-inside e = let t = by-kind 4 e in leb-true _ _ (both-right (eqb 0 0 && eqb (l .first + l .most) (l .end)) _ t)
 
-  pub chain-parts : l .0 ≡ 4 → partsSound 1 (l .3) (l .4 - l .3) ≡ true
-  chain-parts e = subst (λ x. partsSound x (l .3) (l .4 - l .3) ≡ true) (step-kind 4 e) (subst (λ x. partsSound (stepOf (l .0)) (l .3) x ≡ true) (chain-many e) (r .parts))
+  pub chain-parts : l .kind ≡ 4 → partsSound 1 (l .first) (l .end - l .first) ≡ true
+  chain-parts e = subst (λ x. partsSound x (l .first) (l .end - l .first) ≡ true) (step-kind 4 e) (subst (λ x. partsSound (stepOf (l .kind)) (l .first) x ≡ true) (chain-many e) (r .parts))
 
-  pub few-kinds : l .0 ≤ 4
-  few-kinds = go (l .0) refl
+  pub few-kinds : l .kind ≤ 4
+  few-kinds = go (l .kind) refl
     where
-      go : (k : ℕ) → l .0 ≡ k → k ≤ 4
+      go : (k : ℕ) → l .kind ≡ k → k ≤ 4
       go zero e = lit≤ tt
       go (suc zero) e = lit≤ tt
       go (suc (suc zero)) e = lit≤ tt
       go (suc (suc (suc zero))) e = lit≤ tt
       go (suc (suc (suc (suc k)))) e =
           let t = by-kind (suc (suc (suc (suc k)))) e in
-          let z : k ≡ 0 = eqb-true _ _ (both-left (eqb k 0) _ (both-left (eqb k 0 && eqb (l .3 + l .2) (l .4)) _ t)) in
+          let z : k ≡ 0 = eqb-true _ _ (both-left (eqb k 0) _ (both-left (eqb k 0 && eqb (l .first + l .most) (l .end)) _ t)) in
           omega arith
 
   -- what is left when each other way has been tested
-  pub a-list : ¬ (l .0 ≡ 0) → ¬ (l .0 ≡ 1) → ¬ (l .0 ≡ 4) → ¬ (l .0 ≡ 3) → l .0 ≡ 2
+  pub a-list : ¬ (l .kind ≡ 0) → ¬ (l .kind ≡ 1) → ¬ (l .kind ≡ 4) → ¬ (l .kind ≡ 3) → l .kind ≡ 2
   a-list a b d e = omega (arith, few-kinds)
 
 -- ---- the shape by how the parts lie
 
 module _ (l : LayoutRow) (bs : List ℕ) where
-  shape-kind : (k : ℕ) → l .0 ≡ k → shapeOf l bs ≡ shapeBy k (l .1) (l .2) (l .3) (l .4) bs
+  shape-kind : (k : ℕ) → l .kind ≡ k → shapeOf l bs ≡ shapeBy k (l .least) (l .most) (l .first) (l .end) bs
   unfolding shapeOf
-  shape-kind k e = ap (λ x. shapeBy x (l .1) (l .2) (l .3) (l .4) bs) e
+  shape-kind k e = ap (λ x. shapeBy x (l .least) (l .most) (l .first) (l .end) bs) e
 
-  pub no-shape : l .0 ≡ 0 → refused 21 0 ≡ shapeOf l bs
+  pub no-shape : l .kind ≡ 0 → refused 21 0 ≡ shapeOf l bs
   unfolding shapeBy
   no-shape e = sym (shape-kind 0 e)
 
-  fixed-is : l .0 ≡ 1 → shapeOf l bs ≡ (need leb (groupAt (l .3) .0) (length bs) or 9 then ok (1, groupAt (l .3) .0))
+  fixed-is : l .kind ≡ 1 → shapeOf l bs ≡ (need leb (groupAt (l .first) .octets) (length bs) or 9 then ok (1, groupAt (l .first) .octets))
   unfolding shapeBy
   fixed-is e = shape-kind 1 e
 
-  pub fixed-cut : l .0 ≡ 1 → {m : ℕ} → m ≡ groupAt (l .3) .0 → length bs < m → refused 9 0 ≡ shapeOf l bs
+  pub fixed-cut : l .kind ≡ 1 → {m : ℕ} → m ≡ groupAt (l .first) .octets → length bs < m → refused 9 0 ≡ shapeOf l bs
   unfolding need_or_then_
   fixed-cut e em h = sym (fixed-is e ∙ rw (← em, lt-leb _ _ h))
 
-  pub fixed-there : l .0 ≡ 1 → {m : ℕ} → m ≡ groupAt (l .3) .0 → m ≤ length bs → ok (1, m) ≡ shapeOf l bs
+  pub fixed-there : l .kind ≡ 1 → {m : ℕ} → m ≡ groupAt (l .first) .octets → m ≤ length bs → ok (1, m) ≡ shapeOf l bs
   unfolding need_or_then_
   fixed-there e em h = sym (fixed-is e ∙ rw (← em, le-leb _ _ h))
 
-  pub chain-shape : l .0 ≡ 4 → chain (l .3) (l .4 - l .3) bs ≡ shapeOf l bs
+  pub chain-shape : l .kind ≡ 4 → chain (l .first) (l .end - l .first) bs ≡ shapeOf l bs
   unfolding shapeBy
   chain-shape e = sym (shape-kind 4 e)
 
-  pub list-shape : l .0 ≡ 2 → 1 ≤ length bs → listShape (l .1) (l .2) (groupAt (l .3) .0) (getD bs 0 0) (length bs) ≡ shapeOf l bs
+  pub list-shape : l .kind ≡ 2 → 1 ≤ length bs → listShape (l .least) (l .most) (groupAt (l .first) .octets) (getD bs 0 0) (length bs) ≡ shapeOf l bs
   unfolding shapeBy need_or_then_
   list-shape e h = sym (shape-kind 2 e ∙ rw (le-leb 1 (length bs) h))
 
   -- no count or length octet
-  pub no-head : ¬ (l .0 ≡ 0) → ¬ (l .0 ≡ 1) → ¬ (l .0 ≡ 4) → l .0 ≤ 4 → length bs < 1 → refused 9 0 ≡ shapeOf l bs
+  pub no-head : ¬ (l .kind ≡ 0) → ¬ (l .kind ≡ 1) → ¬ (l .kind ≡ 4) → l .kind ≤ 4 → length bs < 1 → refused 9 0 ≡ shapeOf l bs
   unfolding shapeBy need_or_then_
-  no-head a b d few h = go (l .0) refl
+  no-head a b d few h = go (l .kind) refl
     where
-      go : (k : ℕ) → l .0 ≡ k → refused 9 0 ≡ shapeOf l bs
+      go : (k : ℕ) → l .kind ≡ k → refused 9 0 ≡ shapeOf l bs
       go zero e = absurd (a e)
       go (suc zero) e = absurd (b e)
       go (suc (suc zero)) e = sym (shape-kind 2 e ∙ rw (lt-leb 1 (length bs) h))
       go (suc (suc (suc zero))) e = sym (shape-kind 3 e ∙ rw (lt-leb 1 (length bs) h))
       go (suc (suc (suc (suc k)))) e = absurd (d (omega (arith, e)))
 
-  led-is : l .0 ≡ 3 → 1 ≤ length bs
-      → shapeOf l bs ≡ (need ltb (l .1) (getD bs 0 0) or 10 then need leb (getD bs 0 0) (length bs) or 9 then ok (getD bs 0 0 - 1, getD bs 0 0))
+  led-is : l .kind ≡ 3 → 1 ≤ length bs
+      → shapeOf l bs ≡ (need ltb (l .least) (getD bs 0 0) or 10 then need leb (getD bs 0 0) (length bs) or 9 then ok (getD bs 0 0 - 1, getD bs 0 0))
   unfolding shapeBy need_or_then_
   led-is e h = shape-kind 3 e ∙ rw (le-leb 1 (length bs) h)
 
-  module _ (e : l .0 ≡ 3) (h : 1 ≤ length bs) {n : ℕ} (en : n ≡ getD bs 0 0) where
-    pub led-short : n ≤ l .1 → refused 10 0 ≡ shapeOf l bs
+  module _ (e : l .kind ≡ 3) (h : 1 ≤ length bs) {n : ℕ} (en : n ≡ getD bs 0 0) where
+    pub led-short : n ≤ l .least → refused 10 0 ≡ shapeOf l bs
     unfolding need_or_then_
-    led-short k = sym (led-is e h ∙ rw (← en, le-ltb (l .1) n k))
+    led-short k = sym (led-is e h ∙ rw (← en, le-ltb (l .least) n k))
 
-    pub led-cut : l .1 < n → length bs < n → refused 9 0 ≡ shapeOf l bs
+    pub led-cut : l .least < n → length bs < n → refused 9 0 ≡ shapeOf l bs
     unfolding need_or_then_
-    led-cut k m = sym (led-is e h ∙ rw (← en, lt-ltb (l .1) n k, lt-leb n (length bs) m))
+    led-cut k m = sym (led-is e h ∙ rw (← en, lt-ltb (l .least) n k, lt-leb n (length bs) m))
 
-    pub led-there : l .1 < n → n ≤ length bs → ok (n - 1, n) ≡ shapeOf l bs
+    pub led-there : l .least < n → n ≤ length bs → ok (n - 1, n) ≡ shapeOf l bs
     unfolding need_or_then_
-    led-there k m = sym (led-is e h ∙ rw (← en, lt-ltb (l .1) n k, le-leb n (length bs) m))
+    led-there k m = sym (led-is e h ∙ rw (← en, lt-ltb (l .least) n k, le-leb n (length bs) m))
 
 -- a list, by its count
 module _ (lo hi size n have : ℕ) {m : ℕ} (er : m ≡ size) where

@@ -6,13 +6,13 @@ use native.Mathlib.Nat.{le-of-suc-le-suc}
 use Rattle.rules.specs.Category017.{category017}
 use Rattle.rules.specs.Category018.{category018}
 use Rattle.rules.specs.Entry.{categories}
-use Rattle.tables.specs.Tables.{fields, groups, layouts, groupAt, layoutRows, layoutAt}
+use Rattle.tables.specs.Tables.{fields, groups, layouts, groupAt, layoutRows, noLayoutRow, layoutAt}
 use Rattle.tables.proofs.TableLaws.{each}
 use Rattle.layouts.specs.Read.{rows, isSpare, holds, partsSound, rowSound}
 
 layout-sound-suc : (j : ℕ) → j < 50 → rowSound (layoutAt (suc j)) ≡ true
 unfolding partsSound holds rows rowSound isSpare layoutAt groupAt fields groups layouts categories category017 category018
-layout-sound-suc j h = each rowSound (layoutRows 0 layouts) (0, 0, 0, 0, 0) refl j h
+layout-sound-suc j h = each rowSound (layoutRows 0 layouts) noLayoutRow refl j h
 
 pub layout-sound : (j : ℕ) → j < 51 → rowSound (layoutAt j) ≡ true
 unfolding partsSound holds rowSound layoutAt

@@ -27,13 +27,13 @@ use Rattle.layouts.proofs.Turns.{Cut, rows-nil}
 
 -- ---- one value, unless the field is spare
 
-pub spare-yes : (f : FieldRow) → f .1 ≡ 2 → isSpare f ≡ true
+pub spare-yes : (f : FieldRow) → f .holds ≡ 2 → isSpare f ≡ true
 unfolding isSpare
-spare-yes f h = eq-eqb (f .1) 2 h
+spare-yes f h = eq-eqb (f .holds) 2 h
 
-pub spare-no : (f : FieldRow) → (f .1 ≡ 2 → ⊥) → isSpare f ≡ false
+pub spare-no : (f : FieldRow) → (f .holds ≡ 2 → ⊥) → isSpare f ≡ false
 unfolding isSpare
-spare-no f h = ne-eqb (f .1) 2 h
+spare-no f h = ne-eqb (f .holds) 2 h
 
 pub put-spare : (f : FieldRow) (v : ℤ) (l : List ℤ) (at : ℕ) → isSpare f ≡ true → (at ≡ at + takes f) × (l ≡ sets l at (shown f v []))
 put-spare f v l at e = (sym (ap (λ (b : Bool). at + cond b 0 1) e ∙ add-zero at), sym (ap (λ (b : Bool). sets l at (cond b [] (v ∷ []))) e))
@@ -63,12 +63,12 @@ pub record Storing (a e n at : ℕ) (out₀ : List ℤ) (i rest left k : ℕ) (o
   pub same : sets out k (values (rows i e) rest) ≡ sets out₀ at (values (rows a e) n)
 
 pub stored : (a e n at : ℕ) (out₀ : List ℤ) (i rest left k p k' : ℕ) (f : FieldRow) (out out' : List ℤ) {z : ℤ}
-    → Storing a e n at out₀ i rest left k out → Cut i e rest left f → z ≡ valueOf f (rest / 2 ^ (left - f .0))
-    → (k' ≡ k + takes f) × (out' ≡ sets out k (shown f z [])) → p ≡ 2 ^ (left - f .0)
-    → Storing a e n at out₀ (i + 1) (rest % p) (left - f .0) k' out'
+    → Storing a e n at out₀ i rest left k out → Cut i e rest left f → z ≡ valueOf f (rest / 2 ^ (left - f .bits))
+    → (k' ≡ k + takes f) × (out' ≡ sets out k (shown f z [])) → p ≡ 2 ^ (left - f .bits)
+    → Storing a e n at out₀ (i + 1) (rest % p) (left - f .bits) k' out'
 stored a e n at out₀ i rest left k p k' f out out' {z} s c ez eo ep =
     let fs : List FieldRow = rows (i + 1) e in
-    let q : ℕ = 2 ^ (left - f .0) in
+    let q : ℕ = 2 ^ (left - f .bits) in
     let v : ℤ = valueOf f (rest / q) in
     record {
       left-is = c .next;
@@ -117,20 +117,20 @@ holds-cons step g zero h = absurd (not-suc-le-zero h)
 holds-cons step g (suc k) h = let e : suc k - 1 ≡ k = omega arith in rw e
 
 values-cons : (step g k : ℕ) (s : List ℕ) (p : ℕ) → 0 < k
-    → flatten (partValues step g k (drop p s)) ≡ values (rowsAt g) (partAt step g (drop p s)) ++ flatten (partValues step (g + step) (k - 1) (drop (p + groupAt g .0) s))
+    → flatten (partValues step g k (drop p s)) ≡ values (rowsAt g) (partAt step g (drop p s)) ++ flatten (partValues step (g + step) (k - 1) (drop (p + groupAt g .octets) s))
 unfolding partValues
 values-cons step g zero s p h = absurd (not-suc-le-zero h)
-values-cons step g (suc k) s p h = let e : suc k - 1 ≡ k = omega arith in rw (e, drop-drop (groupAt g .0) p s)
+values-cons step g (suc k) s p h = let e : suc k - 1 ≡ k = omega arith in rw (e, drop-drop (groupAt g .octets) p s)
 
 pub part-stored : (step group c₀ : ℕ) (s : List ℕ) (at : ℕ) (out₀ : List ℤ) (p g k q q' : ℕ) (out out' : List ℤ) {r : GroupRow}
     → StoreParts step group c₀ s at out₀ p g k q out → 0 < k → r ≡ groupAt g
     → (q' ≡ q + count (rowsAt g)) × (out' ≡ sets out q (values (rowsAt g) (partAt step g (drop p s))))
-    → StoreParts step group c₀ s at out₀ (p + r .0) (g + step) (k - 1) q' out'
+    → StoreParts step group c₀ s at out₀ (p + r .octets) (g + step) (k - 1) q' out'
 part-stored step group c₀ s at out₀ p g k q q' out out' c h er eo =
     let f : First step g k s p = first-part step g k s p h (c .sound) in
     let vs : List ℤ = values (rowsAt g) (partAt step g (drop p s)) in
-    let rest : List ℤ = flatten (partValues step (g + step) (k - 1) (drop (p + groupAt g .0) s)) in
-    subst (λ (r : GroupRow). StoreParts step group c₀ s at out₀ (p + r .0) (g + step) (k - 1) q' out') (sym er)
+    let rest : List ℤ = flatten (partValues step (g + step) (k - 1) (drop (p + groupAt g .octets) s)) in
+    subst (λ (r : GroupRow). StoreParts step group c₀ s at out₀ (p + r .octets) (g + step) (k - 1) q' out') (sym er)
     (record {
       sound = f .rest;
       place = omega (arith, c .place, f .spans);
@@ -155,7 +155,7 @@ pub length-held : (step g c : ℕ) (bs : List ℕ) → length (flatten (partValu
 unfolding partValues holds
 length-held step g zero bs = refl
 length-held step g (suc c) bs =
-    rw (length-append (values (rowsAt g) (partAt step g bs)) (flatten (partValues step (g + step) c (drop (groupAt g .0) bs))), length-values (rowsAt g) (partAt step g bs), length-held step (g + step) c (drop (groupAt g .0) bs))
+    rw (length-append (values (rowsAt g) (partAt step g bs)) (flatten (partValues step (g + step) c (drop (groupAt g .octets) bs))), length-values (rowsAt g) (partAt step g bs), length-held step (g + step) c (drop (groupAt g .octets) bs))
 
 -- what storing an item asks, and gives, of the step and the head that were worked out
 module _ (st hd a c : ℕ) {step head : ℕ} (es : step ≡ st) (eh : head ≡ hd) where

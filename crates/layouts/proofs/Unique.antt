@@ -31,7 +31,7 @@ one-whole-of l s a b p q = shape-told a b (p ∙ sym q)
 
 -- the answer, and what the output then holds
 pub one-item-store : (l : LayoutRow) (s : List ℕ) (parts : ℕ) (out : List ℤ) (a b : ℕ) (left right : List ℤ)
-    → (a ≡ holds (stepOf (l .0)) (l .3) parts) × (left ≡ sets out 0 (flatten (partValues (stepOf (l .0)) (l .3) parts (drop (headOf (l .0)) s))))
-    → (b ≡ holds (stepOf (l .0)) (l .3) parts) × (right ≡ sets out 0 (flatten (partValues (stepOf (l .0)) (l .3) parts (drop (headOf (l .0)) s))))
+    → (a ≡ holds (stepOf (l .kind)) (l .first) parts) × (left ≡ sets out 0 (flatten (partValues (stepOf (l .kind)) (l .first) parts (drop (headOf (l .kind)) s))))
+    → (b ≡ holds (stepOf (l .kind)) (l .first) parts) × (right ≡ sets out 0 (flatten (partValues (stepOf (l .kind)) (l .first) parts (drop (headOf (l .kind)) s))))
     → (a ≡ b) × (left ≡ right)
 one-item-store l s parts out a b left right p q = (p .0 ∙ sym (q .0), p .1 ∙ sym (q .1))

@@ -28,11 +28,11 @@ use Rattle.layouts.proofs.ShapeLaws.{rowed, Grouped, fixed-group, list-
 -- ---- free groups
 
 -- any code is within the range of a free field
-pub free-unsigned : (w lo hi c : ℕ) → lo ≡ 0 → suc hi ≡ 2 ^ w → c < 2 ^ w → within (w, 0, pos lo, pos hi) (valueOf (w, 0, pos lo, pos hi) c) ≡ true
+pub free-unsigned : (w lo hi c : ℕ) → lo ≡ 0 → suc hi ≡ 2 ^ w → c < 2 ^ w → within (fieldRow (value w (unsigned lo hi))) (valueOf (fieldRow (value w (unsigned lo hi))) c) ≡ true
 unfolding within valueOf
 free-unsigned w lo hi c a b h = rw (a, leb·zero c) (le-leb c hi (omega arith))
 
-pub free-signed : (w lo hi c : ℕ) → 1 ≤ w → lo ≡ half w → suc hi ≡ half w → c < 2 ^ w → within (w, 1, minus lo, pos hi) (valueOf (w, 1, minus lo, pos hi) c) ≡ true
+pub free-signed : (w lo hi c : ℕ) → 1 ≤ w → lo ≡ half w → suc hi ≡ half w → c < 2 ^ w → within (fieldRow (value w (signed lo hi))) (valueOf (fieldRow (value w (signed lo hi))) c) ≡ true
 unfolding within valueOf twosOf
 free-signed w lo hi c o a b h = go (ltb c (half w)) refl
   where
@@ -54,9 +54,9 @@ free-legal (value k (signed lo hi) ∷ fs) n w f h =
     rw (width-bits fs, free-signed k lo hi (n / 2 ^ bits fs) (w .0) (eqb-true _ _ (both-left (eqb lo (half k)) _ u)) (eqb-true _ _ (both-right (eqb lo (half k)) _ u)) (shr-lt k (bits fs) h))
     (free-legal fs (n % 2 ^ bits fs) (w .1) (both-right (eqb lo (half k) && eqb (suc hi) (half k)) (isFree fs) f) (mod-lt n (pow-pos (bits fs))))
 
-free-part : (g : ℕ) (bs : List ℕ) → Octets bs → PartSound 0 (groupAt g) → groupAt g .0 ≤ length bs → isFree (fieldsAt g) ≡ true → legal (rowsAt g) (partAt 0 g bs) ≡ true
+free-part : (g : ℕ) (bs : List ℕ) → Octets bs → PartSound 0 (groupAt g) → groupAt g .octets ≤ length bs → isFree (fieldsAt g) ≡ true → legal (rowsAt g) (partAt 0 g bs) ≡ true
 free-part g bs o s h f =
-    rw (rows-map (groupAt g .1) (groupAt g .2)) (free-legal (fieldsAt g) (partAt 0 g bs) (wide-slice (groupAt g .1) (groupAt g .2)) f (part-small 0 g bs o s h))
+    rw (rows-map (groupAt g .first) (groupAt g .end)) (free-legal (fieldsAt g) (partAt 0 g bs) (wide-slice (groupAt g .first) (groupAt g .end)) f (part-small 0 g bs o s h))
 
 free-parts : (g c : ℕ) (bs : List ℕ) → Octets bs → partsSound 0 g c ≡ true → span 0 g c ≤ length bs → isFree (fieldsAt g) ≡ true → partsLegal 0 g c bs ≡ true
 unfolding partsSound span partsLegal
@@ -69,7 +69,7 @@ free-parts g (suc c) bs o s h f =
     let r : partsSound 0 g c ≡ true = subst (λ x. partsSound 0 x c ≡ true) (add-zero g) (both-right (a && b) d s) in
     let k : span 0 (g + 0) c ≡ span 0 g c = ap (λ x. span 0 x c) (add-zero g) in
     rw (free-part g bs o p (omega arith) f, add-zero g)
-    (free-parts g c (drop (groupAt g .0) bs) (octets-drop (groupAt g .0) bs o) r (omega (arith, length-drop (groupAt g .0) bs)) f)
+    (free-parts g c (drop (groupAt g .octets) bs) (octets-drop (groupAt g .octets) bs o) r (omega (arith, length-drop (groupAt g .octets) bs)) f)
 
 -- ---- shapes with legal fields
 
@@ -79,11 +79,11 @@ module _ (l : LayoutRow) (bs : List ℕ) where
   whole-stopped n p e = rw e
 
   module _ (c long : ℕ) (e : shapeOf l bs ≡ ok (c, long)) where
-    whole-legal : partsLegal (stepOf (l .0)) (l .3) c (drop (headOf (l .0)) bs) ≡ true → ok (c, long) ≡ wholeOf l bs
+    whole-legal : partsLegal (stepOf (l .kind)) (l .first) c (drop (headOf (l .kind)) bs) ≡ true → ok (c, long) ≡ wholeOf l bs
     unfolding wholeOf _>>=_ need_or_then_
     whole-legal h = sym (rw (e, h))
 
-    whole-barred : partsLegal (stepOf (l .0)) (l .3) c (drop (headOf (l .0)) bs) ≡ false → refused 11 0 ≡ wholeOf l bs
+    whole-barred : partsLegal (stepOf (l .kind)) (l .first) c (drop (headOf (l .kind)) bs) ≡ false → refused 11 0 ≡ wholeOf l bs
     unfolding wholeOf _>>=_ need_or_then_
     whole-barred h = sym (rw (e, h))
 
@@ -93,20 +93,20 @@ module _ (l : LayoutRow) (bs : List ℕ) where
 
       -- what the walk over the parts asks
       pub record Walk (step head : ℕ) : Type 0 where
-        pub sound : partsSound step (l .3) c ≡ true
-        pub there : head + span step (l .3) c ≤ length bs
+        pub sound : partsSound step (l .first) c ≡ true
+        pub there : head + span step (l .first) c ≤ length bs
 
-      walk : Walk (stepOf (l .0)) (headOf (l .0))
+      walk : Walk (stepOf (l .kind)) (headOf (l .kind))
       walk = record { sound = fits .sound; there = omega (arith, fits .spans, fits .there) }
 
       -- parts with an FX bit
-      module _ (k : l .0 ≡ 4) where
+      module _ (k : l .kind ≡ 4) where
         pub walk-chain : Walk 1 0
         walk-chain = subst (λ x. Walk (stepOf x) (headOf x)) k walk
 
-        module _ {t : Bool} (et : t ≡ partsLegal 1 (l .3) c (drop 0 bs)) where
-          legal-chain : partsLegal (stepOf (l .0)) (l .3) c (drop (headOf (l .0)) bs) ≡ t
-          legal-chain = ap (λ x. partsLegal (stepOf x) (l .3) c (drop (headOf x) bs)) k ∙ sym et
+        module _ {t : Bool} (et : t ≡ partsLegal 1 (l .first) c (drop 0 bs)) where
+          legal-chain : partsLegal (stepOf (l .kind)) (l .first) c (drop (headOf (l .kind)) bs) ≡ t
+          legal-chain = ap (λ x. partsLegal (stepOf x) (l .first) c (drop (headOf x) bs)) k ∙ sym et
 
           pub chain-legal : t ≡ true → ok (c, long) ≡ wholeOf l bs
           chain-legal u = whole-legal (legal-chain ∙ u)
@@ -115,34 +115,34 @@ module _ (l : LayoutRow) (bs : List ℕ) where
           chain-barred u = whole-barred (legal-chain ∙ u)
 
       -- parts of one group
-      module _ (k : ¬ (l .0 ≡ 4)) where
-        no-step : stepOf (l .0) ≡ 0
-        no-step = rw (ne-eqb (l .0) 4 k)
+      module _ (k : ¬ (l .kind ≡ 4)) where
+        no-step : stepOf (l .kind) ≡ 0
+        no-step = rw (ne-eqb (l .kind) 4 k)
 
         pub group-at : Grouped l
-        group-at = go (l .0) refl
+        group-at = go (l .kind) refl
           where
-            go : (j : ℕ) → l .0 ≡ j → Grouped l
+            go : (j : ℕ) → l .kind ≡ j → Grouped l
             go zero q = refused-ok (no-shape l bs q ∙ e)
             go (suc zero) q = fixed-group l (rowed l s) q
             go (suc (suc zero)) q = list-group l (rowed l s) q
             go (suc (suc (suc zero))) q = led-group l (rowed l s) q
             go (suc (suc (suc (suc j)))) q = absurd (k (omega (arith, q, few-kinds l (rowed l s))))
 
-        pub walk-equal : {h : ℕ} → h ≡ headOf (l .0) → Walk 0 h
-        walk-equal eh = subst (Walk 0) (sym eh) (subst (λ x. Walk x (headOf (l .0))) no-step walk)
+        pub walk-equal : {h : ℕ} → h ≡ headOf (l .kind) → Walk 0 h
+        walk-equal eh = subst (Walk 0) (sym eh) (subst (λ x. Walk x (headOf (l .kind))) no-step walk)
 
-        pub equal-free : {t : Bool} → t ≡ groupAt (l .3) .4 → t ≡ true → ok (c, long) ≡ wholeOf l bs
+        pub equal-free : {t : Bool} → t ≡ groupAt (l .first) .free → t ≡ true → ok (c, long) ≡ wholeOf l bs
         equal-free et f =
-            let w : Walk 0 (headOf (l .0)) = walk-equal refl in
+            let w : Walk 0 (headOf (l .kind)) = walk-equal refl in
             whole-legal
-            (ap (λ x. partsLegal x (l .3) c (drop (headOf (l .0)) bs)) no-step
-            ∙ free-parts (l .3) c (drop (headOf (l .0)) bs) (octets-drop (headOf (l .0)) bs o) (w .sound) (omega (arith, w .there, length-drop (headOf (l .0)) bs))
-            (sym (group-free (l .3) (group-at .inside)) ∙ sym et ∙ f))
+            (ap (λ x. partsLegal x (l .first) c (drop (headOf (l .kind)) bs)) no-step
+            ∙ free-parts (l .first) c (drop (headOf (l .kind)) bs) (octets-drop (headOf (l .kind)) bs o) (w .sound) (omega (arith, w .there, length-drop (headOf (l .kind)) bs))
+            (sym (group-free (l .first) (group-at .inside)) ∙ sym et ∙ f))
 
-        module _ {t : Bool} {h : ℕ} (eh : h ≡ headOf (l .0)) (et : t ≡ partsLegal 0 (l .3) c (drop h bs)) where
-          legal-equal : partsLegal (stepOf (l .0)) (l .3) c (drop (headOf (l .0)) bs) ≡ t
-          legal-equal = ap (λ x. partsLegal x (l .3) c (drop (headOf (l .0)) bs)) no-step ∙ ap (λ x. partsLegal 0 (l .3) c (drop x bs)) (sym eh) ∙ sym et
+        module _ {t : Bool} {h : ℕ} (eh : h ≡ headOf (l .kind)) (et : t ≡ partsLegal 0 (l .first) c (drop h bs)) where
+          legal-equal : partsLegal (stepOf (l .kind)) (l .first) c (drop (headOf (l .kind)) bs) ≡ t
+          legal-equal = ap (λ x. partsLegal x (l .first) c (drop (headOf (l .kind)) bs)) no-step ∙ ap (λ x. partsLegal 0 (l .first) c (drop x bs)) (sym eh) ∙ sym et
 
           pub equal-legal : t ≡ true → ok (c, long) ≡ wholeOf l bs
           equal-legal u = whole-legal (legal-equal ∙ u)

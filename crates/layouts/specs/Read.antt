@@ -30,17 +30,17 @@ twosOf w c = cond (ltb c (2 ^ (w - 1))) (pos c) (negsuc (2 ^ w - suc c))
 
 -- the value that a field's code stands for
 unfoldable pub valueOf : FieldRow → ℕ → ℤ
-valueOf f c = cond (eqb (f .1) 1) (twosOf (f .0) c) (pos c)
+valueOf f c = cond (eqb (f .holds) 1) (twosOf (f .bits) c) (pos c)
 
 unfoldable pub within : FieldRow → ℤ → Bool
-within f v = leZ (f .2) v && leZ v (f .3)
+within f v = leZ (f .least) v && leZ v (f .greatest)
 
 unfoldable pub isSpare : FieldRow → Bool
-isSpare f = eqb (f .1) 2
+isSpare f = eqb (f .holds) 2
 
 abbrev pub width : List FieldRow → ℕ
 width [] = 0
-width (f ∷ fs) = f .0 + width fs
+width (f ∷ fs) = f .bits + width fs
 
 -- each field of a number is within its range
 abbrev pub legal : List FieldRow → ℕ → Bool
@@ -66,15 +66,15 @@ count (f ∷ fs) = takes f + count fs
 
 -- the rows of a group's fields; the number of a part that starts the octets, without its FX bit
 abbrev pub rowsAt : ℕ → List FieldRow
-rowsAt g = rows (groupAt g .1) (groupAt g .2)
+rowsAt g = rows (groupAt g .first) (groupAt g .end)
 
 abbrev pub partAt : ℕ → ℕ → List ℕ → ℕ
-partAt step g bs = joined (take (groupAt g .0) bs) / 2 ^ step
+partAt step g bs = joined (take (groupAt g .octets) bs) / 2 ^ step
 
 -- how many octets so many parts take, and how many values they have, the first by the group at a place
 unfoldable pub span : ℕ → ℕ → ℕ → ℕ
 span step g zero = 0
-span step g (suc c) = groupAt g .0 + span step (g + step) c
+span step g (suc c) = groupAt g .octets + span step (g + step) c
 
 unfoldable pub holds : ℕ → ℕ → ℕ → ℕ
 holds step g zero = 0
@@ -82,7 +82,7 @@ holds step g (suc c) = count (rowsAt g) + holds step (g + step) c
 
 -- the tables have a row for each part, and its fields fill its octets, but for the FX bit
 abbrev pub partSound : ℕ → GroupRow → Bool
-partSound step r = leb (r .2) 113 && leb 1 (r .0) && leb (r .0) 7 && eqb (width (rows (r .1) (r .2)) + step) (8 * r .0)
+partSound step r = leb (r .end) 113 && leb 1 (r .octets) && leb (r .octets) 7 && eqb (width (rows (r .first) (r .end)) + step) (8 * r .octets)
 
 unfoldable pub partsSound : ℕ → ℕ → ℕ → Bool
 partsSound step g zero = true
@@ -90,11 +90,11 @@ partsSound step g (suc c) = ltb g 52 && partSound step (groupAt g) && partsSound
 
 unfoldable pub partsLegal : ℕ → ℕ → ℕ → List ℕ → Bool
 partsLegal step g zero bs = true
-partsLegal step g (suc c) bs = legal (rowsAt g) (partAt step g bs) && partsLegal step (g + step) c (drop (groupAt g .0) bs)
+partsLegal step g (suc c) bs = legal (rowsAt g) (partAt step g bs) && partsLegal step (g + step) c (drop (groupAt g .octets) bs)
 
 unfoldable pub partValues : ℕ → ℕ → ℕ → List ℕ → List (List ℤ)
 partValues step g zero bs = []
-partValues step g (suc c) bs = values (rowsAt g) (partAt step g bs) ∷ partValues step (g + step) c (drop (groupAt g .0) bs)
+partValues step g (suc c) bs = values (rowsAt g) (partAt step g bs) ∷ partValues step (g + step) c (drop (groupAt g .octets) bs)
 
 -- ---- shapes: how many parts, and how many octets
 
@@ -109,10 +109,10 @@ shapeIs (Refused r) = refused r 0
 unfoldable pub chain : ℕ → ℕ → List ℕ → Answer Shaped
 chain g zero bs = refused 11 0
 chain g (suc n) bs =
-    need leb (groupAt g .0) (length bs) or 9 then
-    if eqb (joined (take (groupAt g .0) bs) % 2) 0
-    then ok (1, groupAt g .0)
-    else chain (g + 1) n (drop (groupAt g .0) bs) >>= λ s. ok (s .0 + 1, s .1 + groupAt g .0)
+    need leb (groupAt g .octets) (length bs) or 9 then
+    if eqb (joined (take (groupAt g .octets) bs) % 2) 0
+    then ok (1, groupAt g .octets)
+    else chain (g + 1) n (drop (groupAt g .octets) bs) >>= λ s. ok (s .0 + 1, s .1 + groupAt g .octets)
 
 -- an octet before the parts; each part its own group
 abbrev pub headOf : ℕ → ℕ
@@ -131,9 +131,9 @@ listShape lo hi size c have =
 -- by how the parts lie: 21 no item, 9 the count or length octet, 10 the length, 9 the body, 11 the count
 unfoldable pub shapeBy : ℕ → ℕ → ℕ → ℕ → ℕ → List ℕ → Answer Shaped
 shapeBy zero lo hi a e bs = refused 21 0
-shapeBy (suc zero) lo hi a e bs = need leb (groupAt a .0) (length bs) or 9 then ok (1, groupAt a .0)
+shapeBy (suc zero) lo hi a e bs = need leb (groupAt a .octets) (length bs) or 9 then ok (1, groupAt a .octets)
 shapeBy (suc (suc zero)) lo hi a e bs =
-    need leb 1 (length bs) or 9 then listShape lo hi (groupAt a .0) (getD bs 0 0) (length bs)
+    need leb 1 (length bs) or 9 then listShape lo hi (groupAt a .octets) (getD bs 0 0) (length bs)
 shapeBy (suc (suc (suc zero))) lo hi a e bs =
     need leb 1 (length bs) or 9 then
     need ltb lo (getD bs 0 0) or 10 then
@@ -141,13 +141,13 @@ shapeBy (suc (suc (suc zero))) lo hi a e bs =
 shapeBy (suc (suc (suc (suc k)))) lo hi a e bs = chain a (e - a) bs
 
 unfoldable pub shapeOf : LayoutRow → List ℕ → Answer Shaped
-shapeOf l bs = shapeBy (l .0) (l .1) (l .2) (l .3) (l .4) bs
+shapeOf l bs = shapeBy (l .kind) (l .least) (l .most) (l .first) (l .end) bs
 
 -- the shape of an item whose fields are legal
 unfoldable pub wholeOf : LayoutRow → List ℕ → Answer Shaped
 wholeOf l bs = do
   s ← shapeOf l bs
-  need partsLegal (stepOf (l .0)) (l .3) (s .0) (drop (headOf (l .0)) bs) or 11 then ok s
+  need partsLegal (stepOf (l .kind)) (l .first) (s .0) (drop (headOf (l .kind)) bs) or 11 then ok s
 
 -- how many octets it takes
 unfoldable pub wholeSize : LayoutRow → List ℕ → Answer ℕ
@@ -159,8 +159,8 @@ wholeSize l bs = do
 
 unfoldable pub singleSize : ℕ → List ℕ → Answer ℕ
 singleSize g bs =
-    need leb (groupAt g .0) (length bs) or 9 then
-    need legal (rowsAt g) (partAt 0 g bs) or 11 then ok (groupAt g .0)
+    need leb (groupAt g .octets) (length bs) or 9 then
+    need legal (rowsAt g) (partAt 0 g bs) or 11 then ok (groupAt g .octets)
 
 -- ---- an item by its row: its shape, then its fields
 
@@ -170,7 +170,7 @@ readKind k lo hi a e bs = do
   need partsLegal (stepOf k) a c (drop (headOf k) bs) or 11 then ok (partValues (stepOf k) a c (drop (headOf k) bs), drop long bs)
 
 unfoldable pub readBy : LayoutRow → Read Values
-readBy l bs = readKind (l .0) (l .1) (l .2) (l .3) (l .4) bs
+readBy l bs = readKind (l .kind) (l .least) (l .most) (l .first) (l .end) bs
 
 -- ---- rows that the code can work with
 
@@ -186,10 +186,10 @@ abbrev pub rowSoundBy : ℕ → ℕ → ℕ → ℕ → Bool
 rowSoundBy zero hi a e = true
 rowSoundBy (suc zero) hi a e = eqb hi 1
 rowSoundBy (suc (suc zero)) hi a e = leb 1 hi
-rowSoundBy (suc (suc (suc zero))) hi a e = eqb hi 254 && eqb (groupAt a .0) 1 && isOctet (slice (groupAt a .1) (groupAt a .2) fields)
+rowSoundBy (suc (suc (suc zero))) hi a e = eqb hi 254 && eqb (groupAt a .octets) 1 && isOctet (slice (groupAt a .first) (groupAt a .end) fields)
 rowSoundBy (suc (suc (suc (suc k)))) hi a e = eqb k 0 && eqb (a + hi) e && leb e 52
 
 -- there is a sound group for each part that an item may have, and room for all their values
 unfoldable pub rowSound : LayoutRow → Bool
 rowSound l =
-    partsSound (stepOf (l .0)) (l .3) (l .2) && leb (holds (stepOf (l .0)) (l .3) (l .2)) 8_192 && rowSoundBy (l .0) (l .2) (l .3) (l .4)
+    partsSound (stepOf (l .kind)) (l .first) (l .most) && leb (holds (stepOf (l .kind)) (l .first) (l .most)) 8_192 && rowSoundBy (l .kind) (l .most) (l .first) (l .end)

@@ -28,12 +28,12 @@ fn down(n: u64) -> i64
 
 // The value that a field's code stands for.
 pub fn value_of(f: FieldRow, code: u64) -> i64
-    requires { ⌜ (1 ≤ f .0) × (f .0 ≤ 62) ⌝ }
-    requires { ⌜ code < 2 ^ f .0 ⌝ }
+    requires { ⌜ (1 ≤ f .bits) × (f .bits ≤ 62) ⌝ }
+    requires { ⌜ code < 2 ^ f .bits ⌝ }
     ensures { λ v. ⌜ v ≡ valueOf f code ⌝ }
 {
-    let bits = f.0;
-    if f.1 != TWOS {
+    let bits = f.bits;
+    if f.holds != TWOS {
         return up(code);
     }
     if code < pow2(bits - 1) {
@@ -49,7 +49,7 @@ fn put(f: FieldRow, v: i64, out: &mut [i64; 8192], at: usize) -> usize
     requires { ⌜ at + takes f ≤ 8_192 ⌝ }
     ensures { λ r. ⌜ (r ≡ at + takes f) × (now (out .exit) ≡ sets (now (out .entry)) at (shown f v [])) ⌝ }
 {
-    if f.1 == SPARE {
+    if f.holds == SPARE {
         return at;
     }
     out[at] = v;
@@ -69,7 +69,7 @@ pub fn fields_store(n: u64, w: u64, a: usize, e: usize, out: &mut [i64; 8192], a
     let mut k = at;
     while i < e {
         let f = field_at(i);
-        left = left - f.0;
+        left = left - f.bits;
         let v = value_of(f, rest >> left);
         k = put(f, v, out, k);
         rest = rest % pow2(left);

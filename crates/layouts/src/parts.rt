@@ -43,7 +43,7 @@ fn number_at(s: &[u8], at: usize, size: usize) -> u64
 
 // Whether the fields of the part at a place, by a group, are legal: those that have a rule obey it.
 pub fn part_legal(s: &[u8], at: usize, group: usize, step: usize) -> bool
-    requires { ⌜ (step ≤ 1) × (group < 52) × (partSound step (groupAt group) ≡ true) × (at + groupAt group .0 ≤ length (now s)) ⌝ }
+    requires { ⌜ (step ≤ 1) × (group < 52) × (partSound step (groupAt group) ≡ true) × (at + groupAt group .octets ≤ length (now s)) ⌝ }
     ensures { λ r. ⌜ r ≡ legal (rowsAt group) (partAt step group (drop at (now (s .entry)))) ⌝ }
 {
     let a = first_rule(group);
@@ -121,17 +121,17 @@ fn chain_of(s: &[u8], first: usize, last: usize) -> Shape
 
 // The shape of a list of n parts, of which an item may have so many, in as many octets as there are.
 fn list_of(l: LayoutRow, n: usize, have: usize) -> Shape
-    requires { ⌜ (rowSound l ≡ true) × (l .0 ≡ 2) × (n ≤ 255) ⌝ }
-    ensures { λ r. ⌜ shapeIs r ≡ listShape (l .1) (l .2) (groupAt (l .3) .0) n have ⌝ }
+    requires { ⌜ (rowSound l ≡ true) × (l .kind ≡ 2) × (n ≤ 255) ⌝ }
+    ensures { λ r. ⌜ shapeIs r ≡ listShape (l .least) (l .most) (groupAt (l .first) .octets) n have ⌝ }
 {
-    let long = 1 + n * size_at(l.3);
+    let long = 1 + n * size_at(l.first);
     if have < long {
         return Shape::Refused { number: 9 };
     }
-    if n < l.1 {
+    if n < l.least {
         return Shape::Refused { number: 11 };
     }
-    if l.2 < n {
+    if l.most < n {
         return Shape::Refused { number: 11 };
     }
     Shape::Parts { count: n, long }
@@ -143,12 +143,12 @@ pub fn shape_of(l: LayoutRow, s: &[u8]) -> Shape
     requires { ⌜ rowSound l ≡ true ⌝ }
     ensures { λ r. ⌜ shapeIs r ≡ shapeOf l (now (s .entry)) ⌝ }
 {
-    let kind = l.0;
+    let kind = l.kind;
     if kind == NONE {
         return Shape::Refused { number: 21 };
     }
     if kind == FIXED {
-        let size = size_at(l.3);
+        let size = size_at(l.first);
         if s.len() < size {
             return Shape::Refused { number: 9 };
         }
@@ -158,14 +158,14 @@ pub fn shape_of(l: LayoutRow, s: &[u8]) -> Shape
         };
     }
     if kind == EXTENDED {
-        return chain_of(s, l.3, l.4);
+        return chain_of(s, l.first, l.end);
     }
     if s.len() < 1 {
         return Shape::Refused { number: 9 };
     }
     let n = octet(s[0]);
     if kind == LED {
-        if n <= l.1 {
+        if n <= l.least {
             return Shape::Refused { number: 10 };
         }
         if s.len() < n {
@@ -201,17 +201,17 @@ pub fn whole_of(l: LayoutRow, s: &[u8]) -> Shape
     let Shape::Parts { count, long: _ } = shape else {
         return shape;
     };
-    let kind = l.0;
+    let kind = l.kind;
     if kind == EXTENDED {
-        if parts_legal(s, 0, count, l.3, 1) {
+        if parts_legal(s, 0, count, l.first, 1) {
             return shape;
         }
         return Shape::Refused { number: 11 };
     }
-    if is_free(l.3) {
+    if is_free(l.first) {
         return shape;
     }
-    if parts_legal(s, head_of(kind), count, l.3, 0) {
+    if parts_legal(s, head_of(kind), count, l.first, 0) {
         return shape;
     }
     Shape::Refused { number: 11 }
@@ -228,15 +228,15 @@ fn part_store(
     out: &mut [i64; 8192],
     q: usize,
 ) -> usize
-    requires { ⌜ (step ≤ 1) × (group < 52) × (partSound step (groupAt group) ≡ true) × (at + groupAt group .0 ≤ length (now s)) ⌝ }
+    requires { ⌜ (step ≤ 1) × (group < 52) × (partSound step (groupAt group) ≡ true) × (at + groupAt group .octets ≤ length (now s)) ⌝ }
     requires { ⌜ q + count (rowsAt group) ≤ 8_192 ⌝ }
     ensures { λ r. ⌜ (r ≡ q + count (rowsAt group)) × (now (out .exit) ≡ sets (now (out .entry)) q (values (rowsAt group) (partAt step group (drop at (now (s .entry)))))) ⌝ }
 {
     let r = group_at(group);
-    let size = r.0;
+    let size = r.octets;
     let w = 8 * size - step;
     let n = number_at(s, at, size) >> step;
-    fields_store(n, w as u64, r.1, r.2, out, q)
+    fields_store(n, w as u64, r.first, r.end, out, q)
 }
 
 // The values of so many parts, at the start of the output; how many they are.
@@ -259,7 +259,7 @@ pub fn parts_store(
     while 0 < k {
         q = part_store(s, p, g, step, out, q);
         let r = group_at(g);
-        p = p + r.0;
+        p = p + r.octets;
         g = g + step;
         k = k - 1;
     }
@@ -278,10 +278,10 @@ fn step_of(kind: u8) -> usize
 
 // The values of an item with so many parts, at the start of the output; how many they are.
 pub fn item_store(l: LayoutRow, s: &[u8], parts: usize, out: &mut [i64; 8192]) -> usize
-    requires { ⌜ (partsSound (stepOf (l .0)) (l .3) parts ≡ true) × (headOf (l .0) + span (stepOf (l .0)) (l .3) parts ≤ length (now s)) ⌝ }
-    requires { ⌜ holds (stepOf (l .0)) (l .3) parts ≤ 8_192 ⌝ }
-    ensures { λ r. ⌜ (r ≡ holds (stepOf (l .0)) (l .3) parts) × (now (out .exit) ≡ sets (now (out .entry)) 0 (flatten (partValues (stepOf (l .0)) (l .3) parts (drop (headOf (l .0)) (now (s .entry)))))) ⌝ }
+    requires { ⌜ (partsSound (stepOf (l .kind)) (l .first) parts ≡ true) × (headOf (l .kind) + span (stepOf (l .kind)) (l .first) parts ≤ length (now s)) ⌝ }
+    requires { ⌜ holds (stepOf (l .kind)) (l .first) parts ≤ 8_192 ⌝ }
+    ensures { λ r. ⌜ (r ≡ holds (stepOf (l .kind)) (l .first) parts) × (now (out .exit) ≡ sets (now (out .entry)) 0 (flatten (partValues (stepOf (l .kind)) (l .first) parts (drop (headOf (l .kind)) (now (s .entry)))))) ⌝ }
 {
-    let kind = l.0;
-    parts_store(s, head_of(kind), parts, l.3, step_of(kind), out)
+    let kind = l.kind;
+    parts_store(s, head_of(kind), parts, l.first, step_of(kind), out)
 }

@@ -35,7 +35,7 @@ use Rattle.measuring.specs.Measure.{fixedOctets, variableOctets, octetsA
 -- ---- parts by FX bits: two at most, of an octet each
 
 abbrev Short : ℕ → ℕ → Type 0
-Short a e = (a + 2 ≡ e) × (groupAt a .0 ≡ 1) × (groupAt (a + 1) .0 ≡ 1)
+Short a e = (a + 2 ≡ e) × (groupAt a .octets ≡ 1) × (groupAt (a + 1) .octets ≡ 1)
 
 first-octet : (bs : List ℕ) → joined (take 1 bs) ≡ getD bs 0 0
 unfolding joined
@@ -43,38 +43,38 @@ first-octet [] = refl
 first-octet (b ∷ bs) = omega arith
 
 -- the last of them
-chain-one : (a : ℕ) (bs : List ℕ) (s : Shaped) → chain a 1 bs ≡ ok s → s .1 ≡ groupAt a .0
+chain-one : (a : ℕ) (bs : List ℕ) (s : Shaped) → chain a 1 bs ≡ ok s → s .1 ≡ groupAt a .octets
 unfolding chain
 chain-one a bs s h =
     need-elim _ _ _ h λ t h₁.
     ⊎-elim
     (λ (e, g). ap (λ x. x .1) (sym (ok-inj g)))
     (λ (e, g). bind-elim _ _ g λ y q _. refused-ok q)
-    (if-inv (eqb (joined (take (groupAt a .0) bs) % 2) 0) _ _ h₁)
+    (if-inv (eqb (joined (take (groupAt a .octets) bs) % 2) 0) _ _ h₁)
 
-chain-two : (a : ℕ) (bs : List ℕ) (s : Shaped) → groupAt a .0 ≡ 1 → groupAt (a + 1) .0 ≡ 1 → chain a 2 bs ≡ ok s → s .1 ≡ 1 + getD bs 0 0 % 2
+chain-two : (a : ℕ) (bs : List ℕ) (s : Shaped) → groupAt a .octets ≡ 1 → groupAt (a + 1) .octets ≡ 1 → chain a 2 bs ≡ ok s → s .1 ≡ 1 + getD bs 0 0 % 2
 unfolding chain
 chain-two a bs s one two h =
-    let f : joined (take (groupAt a .0) bs) ≡ getD bs 0 0 = ap (λ n. joined (take n bs)) one ∙ first-octet bs in
+    let f : joined (take (groupAt a .octets) bs) ≡ getD bs 0 0 = ap (λ n. joined (take n bs)) one ∙ first-octet bs in
     need-elim _ _ _ h λ t h₁.
     ⊎-elim
     (λ (e, g).
-    let z : joined (take (groupAt a .0) bs) % 2 ≡ 0 = eqb-true _ _ e in
-    let n : groupAt a .0 ≡ s .1 = ap (λ x. x .1) (ok-inj g) in
+    let z : joined (take (groupAt a .octets) bs) % 2 ≡ 0 = eqb-true _ _ e in
+    let n : groupAt a .octets ≡ s .1 = ap (λ x. x .1) (ok-inj g) in
     omega (arith, one, f))
     (λ (e, g).
     bind-elim _ _ g λ y q g₁.
-    let z : joined (take (groupAt a .0) bs) % 2 ≡ 0 → ⊥ = eqb-false _ _ e in
-    let n : y .1 + groupAt a .0 ≡ s .1 = ap (λ x. x .1) (ok-inj g₁) in
-    omega (arith, one, two, f, chain-one (a + 1) (drop (groupAt a .0) bs) y q))
-    (if-inv (eqb (joined (take (groupAt a .0) bs) % 2) 0) _ _ h₁)
+    let z : joined (take (groupAt a .octets) bs) % 2 ≡ 0 → ⊥ = eqb-false _ _ e in
+    let n : y .1 + groupAt a .octets ≡ s .1 = ap (λ x. x .1) (ok-inj g₁) in
+    omega (arith, one, two, f, chain-one (a + 1) (drop (groupAt a .octets) bs) y q))
+    (if-inv (eqb (joined (take (groupAt a .octets) bs) % 2) 0) _ _ h₁)
 
 -- ---- the shapes: the octets of an item by how its parts lie, its group and its first octet
 
 abbrev octetsBy : ℕ → ℕ → ℕ → ℕ
 octetsBy zero a x = 0
-octetsBy (suc zero) a x = groupAt a .0
-octetsBy (suc (suc zero)) a x = 1 + x * groupAt a .0
+octetsBy (suc zero) a x = groupAt a .octets
+octetsBy (suc (suc zero)) a x = 1 + x * groupAt a .octets
 octetsBy (suc (suc (suc zero))) a x = x
 octetsBy (suc (suc (suc (suc k)))) a x = 1 + x % 2
 
@@ -100,34 +100,34 @@ shape-size (suc (suc (suc (suc k)))) lo hi a e bs s w h =
     let n : e - a ≡ 2 = omega (arith, v .0) in
     chain-two a bs s (v .1) (v .2) (subst (λ x. chain a x bs ≡ ok s) n h)
 
-row-size : (l : LayoutRow) (bs : List ℕ) (n : ℕ) → (4 ≤ l .0 → Short (l .3) (l .4)) → wholeSize l bs ≡ ok n → n ≡ octetsBy (l .0) (l .3) (getD bs 0 0)
+row-size : (l : LayoutRow) (bs : List ℕ) (n : ℕ) → (4 ≤ l .kind → Short (l .first) (l .end)) → wholeSize l bs ≡ ok n → n ≡ octetsBy (l .kind) (l .first) (getD bs 0 0)
 unfolding wholeSize wholeOf shapeOf
 row-size l bs n w h =
     bind-elim _ _ h λ s p h₁.
     bind-elim _ _ p λ r q p₁.
     need-elim _ _ _ p₁ λ t g.
-    sym (ok-inj h₁) ∙ ap (λ x. x .1) (sym (ok-inj g)) ∙ shape-size (l .0) (l .1) (l .2) (l .3) (l .4) bs r w q
+    sym (ok-inj h₁) ∙ ap (λ x. x .1) (sym (ok-inj g)) ∙ shape-size (l .kind) (l .least) (l .most) (l .first) (l .end) bs r w q
 
 -- ---- every place: there is no item there, or its octets are those of its row
 
 abbrev isShort : ℕ → ℕ → Bool
-isShort a e = eqb (a + 2) e && (eqb (groupAt a .0) 1 && eqb (groupAt (a + 1) .0) 1)
+isShort a e = eqb (a + 2) e && (eqb (groupAt a .octets) 1 && eqb (groupAt (a + 1) .octets) 1)
 
 short-of : (a e : ℕ) → isShort a e ≡ true → Short a e
 short-of a e h =
-    let b = eqb (groupAt a .0) 1 in
-    let d = eqb (groupAt (a + 1) .0) 1 in
+    let b = eqb (groupAt a .octets) 1 in
+    let d = eqb (groupAt (a + 1) .octets) 1 in
     let g : b && d ≡ true = both-right (eqb (a + 2) e) (b && d) h in
     (eqb-true _ _ (both-left (eqb (a + 2) e) (b && d) h), eqb-true _ _ (both-left b d g), eqb-true _ _ (both-right b d g))
 
 abbrev rowOf : ℕ → ℕ → LayoutRow
-rowOf i f = layoutAt (placeRowAt (i * 36 + f) .0)
+rowOf i f = layoutAt (placeRowAt (i * 36 + f) .layout)
 
 abbrev sameOctets : ℕ → ℕ → LayoutRow → Bool
-sameOctets i f l = allBelow 256 (λ x. eqb (octetsAt i f x) (octetsBy (l .0) (l .3) x))
+sameOctets i f l = allBelow 256 (λ x. eqb (octetsAt i f x) (octetsBy (l .kind) (l .first) x))
 
 abbrev soundSize : ℕ → ℕ → LayoutRow → Bool
-soundSize i f l = eqb (l .0) 0 || ((ltb (l .0) 4 || isShort (l .3) (l .4)) && sameOctets i f l)
+soundSize i f l = eqb (l .kind) 0 || ((ltb (l .kind) 4 || isShort (l .first) (l .end)) && sameOctets i f l)
 
 all-sizes : allBelow 2 (λ i. allBelow 36 (λ f. soundSize i f (rowOf i f))) ≡ true
 unfolding octetsAt fixedOctets variableOctets digitOf digitAt if_then_else_ groupAt layoutAt placeRowAt groups layouts categories category017 category018
@@ -142,17 +142,17 @@ size-here i f bs n h k o c =
     let w : wholeSize l bs ≡ ok n = check-place i f bs h k o ∙ c in
     let t : soundSize i f l ≡ true =
     all-below 36 (λ g. soundSize i g (rowOf i g)) f (all-below 2 (λ j. allBelow 36 (λ g. soundSize j g (rowOf j g))) i all-sizes h) k in
-    let a : Bool = ltb (l .0) 4 || isShort (l .3) (l .4) in
-    let g : a && sameOctets i f l ≡ true = other (eqb (l .0) 0) (a && sameOctets i f l) t (λ e. none-there l (eqb-true (l .0) 0 e) w) in
-    row-size l bs n (λ m. short-of (l .3) (l .4) (other (ltb (l .0) 4) (isShort (l .3) (l .4)) (both-left a (sameOctets i f l) g) (λ e. at-least (l .0) m e))) w
+    let a : Bool = ltb (l .kind) 4 || isShort (l .first) (l .end) in
+    let g : a && sameOctets i f l ≡ true = other (eqb (l .kind) 0) (a && sameOctets i f l) t (λ e. none-there l (eqb-true (l .kind) 0 e) w) in
+    row-size l bs n (λ m. short-of (l .first) (l .end) (other (ltb (l .kind) 4) (isShort (l .first) (l .end)) (both-left a (sameOctets i f l) g) (λ e. at-least (l .kind) m e))) w
     ∙ sym
-    (eqb-true _ _ (all-below 256 (λ x. eqb (octetsAt i f x) (octetsBy (l .0) (l .3) x)) (getD bs 0 0) (both-right a (sameOctets i f l) g) (octet-at bs o 0)))
+    (eqb-true _ _ (all-below 256 (λ x. eqb (octetsAt i f x) (octetsBy (l .kind) (l .first) x)) (getD bs 0 0) (both-right a (sameOctets i f l) g) (octet-at bs o 0)))
   where
-    none-there : (l : LayoutRow) → l .0 ≡ 0 → wholeSize l bs ≡ ok n → ⊥
+    none-there : (l : LayoutRow) → l .kind ≡ 0 → wholeSize l bs ≡ ok n → ⊥
     none-there l e w =
         bind-elim _ _ w λ s p _.
         bind-elim _ _ p λ r q _.
-        refused-ok (subst (λ x. shapeBy x (l .1) (l .2) (l .3) (l .4) bs ≡ ok r) e q)
+        refused-ok (subst (λ x. shapeBy x (l .least) (l .most) (l .first) (l .end) bs ≡ ok r) e q)
 
     at-least : (k : ℕ) → 4 ≤ k → ltb k 4 ≡ true → ⊥
     at-least k m e = let z : _≡_ {A = ℕ} 0 1 = cc (le-ltb k 4 m, e) in absurd (omega arith)

@@ -44,22 +44,22 @@ plainly (suc n) e = sym e
 
 -- ---- the words of the table
 
-words-each : (t ws : List ℕ) (ps : List PlaceRow) (i : ℕ) → soundWords t ws ps ≡ true → i < length ps → soundWord t (getD ws i 0) (layoutAt (getD ps i nowhere .0)) ≡ true
+words-each : (t ws : List ℕ) (ps : List PlaceRow) (i : ℕ) → soundWords t ws ps ≡ true → i < length ps → soundWord t (getD ws i 0) (layoutAt (getD ps i nowhere .layout)) ≡ true
 unfolding soundWord soundWords
 words-each t [] ps i h k = refl
 words-each t (w ∷ ws) [] i h k = absurd (not-suc-le-zero k)
-words-each t (w ∷ ws) (p ∷ ps) zero h k = both-left (soundWord t w (layoutAt (p .0))) (soundWords t ws ps) h
-words-each t (w ∷ ws) (p ∷ ps) (suc i) h k = words-each t ws ps i (both-right (soundWord t w (layoutAt (p .0))) (soundWords t ws ps) h) (le-of-suc-le-suc k)
+words-each t (w ∷ ws) (p ∷ ps) zero h k = both-left (soundWord t w (layoutAt (p .layout))) (soundWords t ws ps) h
+words-each t (w ∷ ws) (p ∷ ps) (suc i) h k = words-each t ws ps i (both-right (soundWord t w (layoutAt (p .layout))) (soundWords t ws ps) h) (le-of-suc-le-suc k)
 
 places-long : length (profileRows 1 categories) ≡ 72
 unfolding categories category017 category018
 places-long = refl
 
 -- the word of a place is sound, by its second digit
-pub word-sound : (t : List ℕ) (i k : ℕ) {w : ℕ} → soundSteps t ≡ true → i < 72 → w ≡ getD t i 0 → w / 256 % 16 ≡ k → soundBy k t (getD t i 0) (layoutAt (placeRowAt i .0)) ≡ true
+pub word-sound : (t : List ℕ) (i k : ℕ) {w : ℕ} → soundSteps t ≡ true → i < 72 → w ≡ getD t i 0 → w / 256 % 16 ≡ k → soundBy k t (getD t i 0) (layoutAt (placeRowAt i .layout)) ≡ true
 unfolding soundSteps soundWord placeRowAt
 word-sound t i k s h e d =
-    subst (λ x. soundBy x t (getD t i 0) (layoutAt (placeRowAt i .0)) ≡ true) (ap (λ w. w / 256 % 16) (sym e) ∙ d)
+    subst (λ x. soundBy x t (getD t i 0) (layoutAt (placeRowAt i .layout)) ≡ true) (ap (λ w. w / 256 % 16) (sym e) ∙ d)
     (words-each t t (profileRows 1 categories) i s (subst (λ x. i < x) (sym places-long) h))
 
 -- ---- a free item
@@ -75,7 +75,7 @@ pub free-check : (profile frn n : ℕ) (bs : List ℕ) → profile < 2 → frn <
 free-check profile frn n bs h k o e a b l =
     let at : ℕ = profile * 36 + frn in
     sym
-    (free-there (layoutAt (placeRowAt at .0)) n bs (layout-sound (placeRowAt at .0) (place-row at)) o (free-of (layoutAt (placeRowAt at .0)) n (sym e ∙ single-is at) a b) l
+    (free-there (layoutAt (placeRowAt at .layout)) n bs (layout-sound (placeRowAt at .layout) (place-row at)) o (free-of (layoutAt (placeRowAt at .layout)) n (sym e ∙ single-is at) a b) l
     ∙ check-place profile frn bs h k o)
 
 -- ---- the first three octets of a part
@@ -203,89 +203,89 @@ asked-pair t i j size bs o l (r ∷ (q ∷ [])) s h k =
 asked-pair t i j size bs o l (r ∷ (q ∷ (p ∷ rs))) s h k = absurd (false≢true s)
 
 -- a part by its group, whose rules it obeys
-obeyed-legal : (step g : ℕ) (bs : List ℕ) → Octets bs → g < 52 → partSound step (groupAt g) ≡ true → groupAt g .0 ≤ length bs
-    → allObeyed (slice (firstRule g) (firstRule (g + 1)) rules) (joined (take (groupAt g .0) bs) / 2 ^ step) ≡ true → legal (rowsAt g) (partAt step g bs) ≡ true
+obeyed-legal : (step g : ℕ) (bs : List ℕ) → Octets bs → g < 52 → partSound step (groupAt g) ≡ true → groupAt g .octets ≤ length bs
+    → allObeyed (slice (firstRule g) (firstRule (g + 1)) rules) (joined (take (groupAt g .octets) bs) / 2 ^ step) ≡ true → legal (rowsAt g) (partAt step g bs) ≡ true
 obeyed-legal step g bs o h p l e = sym (part-ruled step g 0 bs o h p (omega arith) refl refl refl refl (sym e))
 
-asked-legal : (low high step g : ℕ) (bs : List ℕ) → Octets bs → g < 52 → partSound step (groupAt g) ≡ true → groupAt g .0 ≤ length bs
+asked-legal : (low high step g : ℕ) (bs : List ℕ) → Octets bs → g < 52 → partSound step (groupAt g) ≡ true → groupAt g .octets ≤ length bs
     → soundRule low high step g ≡ true → asks low high (firstThree bs) ≡ true → legal (rowsAt g) (partAt step g bs) ≡ true
 unfolding soundRule
-asked-legal low high step g bs o h p l s e = obeyed-legal step g bs o h p l (asked-rules low high step (groupAt g .0) bs o l (slice (firstRule g) (firstRule (g + 1)) rules) s e)
+asked-legal low high step g bs o h p l s e = obeyed-legal step g bs o h p l (asked-rules low high step (groupAt g .octets) bs o l (slice (firstRule g) (firstRule (g + 1)) rules) s e)
 
 -- ---- one part with a rule, or two
 
 module _ (l : LayoutRow) (w : ℕ) (bs : List ℕ) (r : rowSound l ≡ true) (o : Octets bs) (h : w % 16 ≤ length bs) where
   -- it obeys its rules
-  single-told : (c : Bool) → eqb (l .0) 1 && eqb (groupAt (l .3) .0) (w % 16) && c ≡ true
-      → (l .3 < 52 → partSound 0 (groupAt (l .3)) ≡ true → groupAt (l .3) .0 ≤ length bs → c ≡ true → legal (rowsAt (l .3)) (partAt 0 (l .3) bs) ≡ true) → Plainly (w % 16) (wholeSize l bs)
+  single-told : (c : Bool) → eqb (l .kind) 1 && eqb (groupAt (l .first) .octets) (w % 16) && c ≡ true
+      → (l .first < 52 → partSound 0 (groupAt (l .first)) ≡ true → groupAt (l .first) .octets ≤ length bs → c ≡ true → legal (rowsAt (l .first)) (partAt 0 (l .first) bs) ≡ true) → Plainly (w % 16) (wholeSize l bs)
   single-told c s f =
-      let a = eqb (l .0) 1 in
-      let b = eqb (groupAt (l .3) .0) (w % 16) in
+      let a = eqb (l .kind) 1 in
+      let b = eqb (groupAt (l .first) .octets) (w % 16) in
       let u : a && b ≡ true = both-left (a && b) c s in
-      let m : w % 16 ≡ groupAt (l .3) .0 = sym (eqb-true _ _ (both-right a b u)) in
-      let g : Single l (l .3) = record { kind = eqb-true (l .0) 1 (both-left a b u); group = refl } in
-      let p = single-sound l (l .3) r g in
-      plainly (w % 16) (single-legal (l .3) bs m h (sym (f (p .0) (p .1) (omega arith) (both-right (a && b) c s))) refl ∙ single-size l (l .3) bs g)
+      let m : w % 16 ≡ groupAt (l .first) .octets = sym (eqb-true _ _ (both-right a b u)) in
+      let g : Single l (l .first) = record { kind = eqb-true (l .kind) 1 (both-left a b u); group = refl } in
+      let p = single-sound l (l .first) r g in
+      plainly (w % 16) (single-legal (l .first) bs m h (sym (f (p .0) (p .1) (omega arith) (both-right (a && b) c s))) refl ∙ single-size l (l .first) bs g)
 
   pub ruled-told : (low high : ℕ) → soundSingle low high w l ≡ true → asks low high (firstThree bs) ≡ true → Plainly (w % 16) (wholeSize l bs)
   unfolding soundSingle
-  ruled-told low high s e = single-told (soundRule low high 0 (l .3)) s (λ p q k d. asked-legal low high 0 (l .3) bs o p q k d e)
+  ruled-told low high s e = single-told (soundRule low high 0 (l .first)) s (λ p q k d. asked-legal low high 0 (l .first) bs o p q k d e)
 
   pub twice-told : (t : List ℕ) → soundTwice t w l ≡ true → asked t (w / 4_096 % 16) (firstThree bs) ≡ true → asked t ((w / 4_096 + 1) % 16) (firstThree bs) ≡ true
       → Plainly (w % 16) (wholeSize l bs)
   unfolding soundTwice
   twice-told t s e f =
-      let rs = slice (firstRule (l .3)) (firstRule (l .3 + 1)) rules in
-      single-told (samePair t (w / 4_096 % 16) ((w / 4_096 + 1) % 16) (groupAt (l .3) .0) rs) s
-      (λ p q k d. obeyed-legal 0 (l .3) bs o p q k (asked-pair t (w / 4_096 % 16) ((w / 4_096 + 1) % 16) (groupAt (l .3) .0) bs o k rs d e f))
+      let rs = slice (firstRule (l .first)) (firstRule (l .first + 1)) rules in
+      single-told (samePair t (w / 4_096 % 16) ((w / 4_096 + 1) % 16) (groupAt (l .first) .octets) rs) s
+      (λ p q k d. obeyed-legal 0 (l .first) bs o p q k (asked-pair t (w / 4_096 % 16) ((w / 4_096 + 1) % 16) (groupAt (l .first) .octets) bs o k rs d e f))
 
 -- ---- a list or a led item
 
 module _ (l : LayoutRow) (w : ℕ) (bs : List ℕ) (r : rowSound l ≡ true) (o : Octets bs) (h : 1 ≤ length bs) (s : soundCounted w l ≡ true) {n : ℕ} (en : n ≡ getD bs 0 0) (b : n < 256) where
   -- any parts will do
-  counted-whole : (c long k : ℕ) → ok (c, long) ≡ shapeOf l bs → l .0 ≡ k → k < 4 → ok long ≡ wholeSize l bs
+  counted-whole : (c long k : ℕ) → ok (c, long) ≡ shapeOf l bs → l .kind ≡ k → k < 4 → ok long ≡ wholeSize l bs
   unfolding soundCounted
-  counted-whole c long k e q m = check-whole l bs c long (equal-free l bs c long (sym e) r o (λ z. absurd (omega (arith, q, z))) refl (both-left (groupAt (l .3) .4) _ s))
+  counted-whole c long k e q m = check-whole l bs c long (equal-free l bs c long (sym e) r o (λ z. absurd (omega (arith, q, z))) refl (both-left (groupAt (l .first) .free) _ s))
 
   pub counted-told : w / 4_096 % 16 ≤ n → w % 16 + n * (w / 16 % 16) ≤ length bs → Plainly (w % 16 + n * (w / 16 % 16)) (wholeSize l bs)
   unfolding soundCounted
-  counted-told least there = plainly (w % 16 + n * (w / 16 % 16)) (go (eqb (l .0) 2) refl (both-right (groupAt (l .3) .4) _ s))
+  counted-told least there = plainly (w % 16 + n * (w / 16 % 16)) (go (eqb (l .kind) 2) refl (both-right (groupAt (l .first) .free) _ s))
     where
       lists : Bool
-      lists = eqb (w % 16) 1 && eqb (w / 16 % 16) (groupAt (l .3) .0) && leb (l .1) (w / 4_096 % 16) && leb 255 (l .2)
+      lists = eqb (w % 16) 1 && eqb (w / 16 % 16) (groupAt (l .first) .octets) && leb (l .least) (w / 4_096 % 16) && leb 255 (l .most)
 
       leds : Bool
-      leds = eqb (l .0) 3 && eqb (w % 16) 0 && eqb (w / 16 % 16) 1 && ltb (l .1) (w / 4_096 % 16)
+      leds = eqb (l .kind) 3 && eqb (w % 16) 0 && eqb (w / 16 % 16) 1 && ltb (l .least) (w / 4_096 % 16)
 
-      go : (t : Bool) → eqb (l .0) 2 ≡ t → cond t lists leds ≡ true → ok (w % 16 + n * (w / 16 % 16)) ≡ wholeSize l bs
+      go : (t : Bool) → eqb (l .kind) 2 ≡ t → cond t lists leds ≡ true → ok (w % 16 + n * (w / 16 % 16)) ≡ wholeSize l bs
       go true k u =
           let a = eqb (w % 16) 1 in
-          let c = eqb (w / 16 % 16) (groupAt (l .3) .0) in
-          let d = leb (l .1) (w / 4_096 % 16) in
-          let f = leb 255 (l .2) in
+          let c = eqb (w / 16 % 16) (groupAt (l .first) .octets) in
+          let d = leb (l .least) (w / 4_096 % 16) in
+          let f = leb 255 (l .most) in
           let v : a && c && d ≡ true = both-left (a && c && d) f u in
           let x : a && c ≡ true = both-left (a && c) d v in
-          let q : l .0 ≡ 2 = eqb-true (l .0) 2 k in
+          let q : l .kind ≡ 2 = eqb-true (l .kind) 2 k in
           let i : w % 16 ≡ 1 = eqb-true (w % 16) 1 (both-left a c x) in
-          let j : w / 16 % 16 ≡ groupAt (l .3) .0 = eqb-true _ _ (both-right a c x) in
-          let y : l .1 ≤ n = omega (arith, leb-true (l .1) (w / 4_096 % 16) (both-right (a && c) d v)) in
-          let z : n ≤ l .2 = omega (arith, leb-true 255 (l .2) (both-right (a && c && d) f u)) in
+          let j : w / 16 % 16 ≡ groupAt (l .first) .octets = eqb-true _ _ (both-right a c x) in
+          let y : l .least ≤ n = omega (arith, leb-true (l .least) (w / 4_096 % 16) (both-right (a && c) d v)) in
+          let z : n ≤ l .most = omega (arith, leb-true 255 (l .most) (both-right (a && c && d) f u)) in
           subst (λ m. ok (m + n * (w / 16 % 16)) ≡ wholeSize l bs) (sym i)
           (counted-whole n (1 + n * (w / 16 % 16)) 2
-          (list-there (l .1) (l .2) (groupAt (l .3) .0) n (length bs) j (subst (λ m. m + n * (w / 16 % 16) ≤ length bs) i there) y z
-          ∙ ap (λ m. listShape (l .1) (l .2) (groupAt (l .3) .0) m (length bs)) en ∙ list-shape l bs q h)
+          (list-there (l .least) (l .most) (groupAt (l .first) .octets) n (length bs) j (subst (λ m. m + n * (w / 16 % 16) ≤ length bs) i there) y z
+          ∙ ap (λ m. listShape (l .least) (l .most) (groupAt (l .first) .octets) m (length bs)) en ∙ list-shape l bs q h)
           q (lit< tt))
       go false k u =
-          let a = eqb (l .0) 3 in
+          let a = eqb (l .kind) 3 in
           let c = eqb (w % 16) 0 in
           let d = eqb (w / 16 % 16) 1 in
-          let f = ltb (l .1) (w / 4_096 % 16) in
+          let f = ltb (l .least) (w / 4_096 % 16) in
           let v : a && c && d ≡ true = both-left (a && c && d) f u in
           let x : a && c ≡ true = both-left (a && c) d v in
-          let q : l .0 ≡ 3 = eqb-true (l .0) 3 (both-left a c x) in
+          let q : l .kind ≡ 3 = eqb-true (l .kind) 3 (both-left a c x) in
           let i : w % 16 ≡ 0 = eqb-true (w % 16) 0 (both-right a c x) in
           let j : w / 16 % 16 ≡ 1 = eqb-true (w / 16 % 16) 1 (both-right (a && c) d v) in
-          let y : l .1 < n = omega (arith, ltb-true (l .1) (w / 4_096 % 16) (both-right (a && c && d) f u)) in
+          let y : l .least < n = omega (arith, ltb-true (l .least) (w / 4_096 % 16) (both-right (a && c && d) f u)) in
           let m : w % 16 + n * (w / 16 % 16) ≡ n = rw (i, j) (omega arith) in
           subst (λ g. ok g ≡ wholeSize l bs) (sym m)
           (counted-whole (n - 1) n 3 (led-there l bs q h en y (omega arith)) q (lit< tt))
@@ -299,22 +299,22 @@ product-fits n w h =
 -- ---- an extended item
 
 pub record Extended (t : List ℕ) (w : ℕ) (l : LayoutRow) : Type 0 where
-  pub kind : l .0 ≡ 4
-  pub ends : l .3 + 2 ≡ l .4
-  pub one : 1 ≡ groupAt (l .3) .0
-  pub two : 1 ≡ groupAt (l .3 + 1) .0
-  pub first : soundRow t (w / 4_096 % 16) 1 (l .3) ≡ true
-  pub second : soundRow t ((w / 4_096 + 1) % 16) 1 (l .3 + 1) ≡ true
+  pub kind : l .kind ≡ 4
+  pub ends : l .first + 2 ≡ l .end
+  pub one : 1 ≡ groupAt (l .first) .octets
+  pub two : 1 ≡ groupAt (l .first + 1) .octets
+  pub first : soundRow t (w / 4_096 % 16) 1 (l .first) ≡ true
+  pub second : soundRow t ((w / 4_096 + 1) % 16) 1 (l .first + 1) ≡ true
 
 extended-of : (t : List ℕ) (w : ℕ) (l : LayoutRow) → soundExtended t w l ≡ true → Extended t w l
 unfolding soundExtended
 extended-of t w l s =
-    let a = eqb (l .0) 4 in
-    let b = eqb (l .3 + 2) (l .4) in
-    let c = eqb (groupAt (l .3) .0) 1 in
-    let d = eqb (groupAt (l .3 + 1) .0) 1 in
-    let e = soundRow t (w / 4_096 % 16) 1 (l .3) in
-    let f = soundRow t ((w / 4_096 + 1) % 16) 1 (l .3 + 1) in
+    let a = eqb (l .kind) 4 in
+    let b = eqb (l .first + 2) (l .end) in
+    let c = eqb (groupAt (l .first) .octets) 1 in
+    let d = eqb (groupAt (l .first + 1) .octets) 1 in
+    let e = soundRow t (w / 4_096 % 16) 1 (l .first) in
+    let f = soundRow t ((w / 4_096 + 1) % 16) 1 (l .first + 1) in
     let u : a && b && c && d && e ≡ true = both-left (a && b && c && d && e) f s in
     let v : a && b && c && d ≡ true = both-left (a && b && c && d) e u in
     let x : a && b && c ≡ true = both-left (a && b && c) d v in
@@ -332,38 +332,38 @@ module _ (t : List ℕ) (l : LayoutRow) (w : ℕ) (bs : List ℕ) (r : rowSound 
   x : Extended t w l
   x = extended-of t w l s
 
-  begun : Chaining (l .3) (l .4) bs (l .3) 0 0
-  begun = chain-begun (l .3) (l .4) bs (chain-parts l (rowed l r) (x .kind))
+  begun : Chaining (l .first) (l .end) bs (l .first) 0 0
+  begun = chain-begun (l .first) (l .end) bs (chain-parts l (rowed l r) (x .kind))
 
-  more : l .3 < l .4
+  more : l .first < l .end
   more = omega (arith, x .ends)
 
-  first-legal : legal (rowsAt (l .3)) (partAt 1 (l .3) bs) ≡ true
+  first-legal : legal (rowsAt (l .first)) (partAt 1 (l .first) bs) ≡ true
   first-legal =
-      let g = chain-group (l .3) (l .4) bs (l .3) 0 0 begun more (x .one) in
-      asked-legal (lowAt t (w / 4_096 % 16)) (highAt t (w / 4_096 % 16)) 1 (l .3) bs o (g .inside) (g .sound) (omega (arith, x .one)) (x .first) e
+      let g = chain-group (l .first) (l .end) bs (l .first) 0 0 begun more (x .one) in
+      asked-legal (lowAt t (w / 4_096 % 16)) (highAt t (w / 4_096 % 16)) 1 (l .first) bs o (g .inside) (g .sound) (omega (arith, x .one)) (x .first) e
 
-  extended-whole : (c long : ℕ) → ok (c, long) ≡ chain (l .3) (l .4 - l .3) bs → partsLegal 1 (l .3) c bs ≡ true → wholeSize l bs ≡ ok long
+  extended-whole : (c long : ℕ) → ok (c, long) ≡ chain (l .first) (l .end - l .first) bs → partsLegal 1 (l .first) c bs ≡ true → wholeSize l bs ≡ ok long
   extended-whole c long q p = sym (check-whole l bs c long (chain-legal l bs c long (sym (q ∙ chain-shape l bs (x .kind))) r o (x .kind) refl p))
 
   pub extended-one : getD bs 0 0 % 2 ≡ 0 → wholeSize l bs ≡ ok 1
   unfolding partsLegal
-  extended-one f = extended-whole 1 1 (chain-last (l .3) (l .4) bs (l .3) 0 0 begun more (x .one) (omega arith) (eq-eqb (getD bs 0 0 % 2) 0 f)) (rw first-legal)
+  extended-one f = extended-whole 1 1 (chain-last (l .first) (l .end) bs (l .first) 0 0 begun more (x .one) (omega arith) (eq-eqb (getD bs 0 0 % 2) 0 f)) (rw first-legal)
 
   module _ (f : ¬ (getD bs 0 0 % 2 ≡ 0)) (k : 2 ≤ length bs) (q : asked t ((w / 4_096 + 1) % 16) (firstThree (drop 1 bs)) ≡ true) where
-    next : Chaining (l .3) (l .4) bs (l .3 + 1) 1 1
-    next = chain-more (l .3) (l .4) bs (l .3) 0 0 begun more (x .one) (omega arith) (ne-eqb (getD bs 0 0 % 2) 0 f)
+    next : Chaining (l .first) (l .end) bs (l .first + 1) 1 1
+    next = chain-more (l .first) (l .end) bs (l .first) 0 0 begun more (x .one) (omega arith) (ne-eqb (getD bs 0 0 % 2) 0 f)
 
-    last : l .3 + 1 < l .4
+    last : l .first + 1 < l .end
     last = omega (arith, x .ends)
 
-    second-legal : legal (rowsAt (l .3 + 1)) (partAt 1 (l .3 + 1) (drop 1 bs)) ≡ true
+    second-legal : legal (rowsAt (l .first + 1)) (partAt 1 (l .first + 1) (drop 1 bs)) ≡ true
     second-legal =
-        let g = chain-group (l .3) (l .4) bs (l .3 + 1) 1 1 next last (x .two) in
-        asked-legal (lowAt t ((w / 4_096 + 1) % 16)) (highAt t ((w / 4_096 + 1) % 16)) 1 (l .3 + 1) (drop 1 bs) (octets-drop 1 bs o) (g .inside) (g .sound) (omega (arith, x .two, length-drop 1 bs)) (x .second) q
+        let g = chain-group (l .first) (l .end) bs (l .first + 1) 1 1 next last (x .two) in
+        asked-legal (lowAt t ((w / 4_096 + 1) % 16)) (highAt t ((w / 4_096 + 1) % 16)) 1 (l .first + 1) (drop 1 bs) (octets-drop 1 bs o) (g .inside) (g .sound) (omega (arith, x .two, length-drop 1 bs)) (x .second) q
 
     pub extended-two : getD bs 1 0 % 2 ≡ 0 → wholeSize l bs ≡ ok 2
     unfolding partsLegal
     extended-two z =
-        extended-whole 2 2 (chain-last (l .3) (l .4) bs (l .3 + 1) 1 1 next last (x .two) (omega arith) (eq-eqb (getD bs 1 0 % 2) 0 z))
+        extended-whole 2 2 (chain-last (l .first) (l .end) bs (l .first + 1) 1 1 next last (x .two) (omega arith) (eq-eqb (getD bs 1 0 % 2) 0 z))
         (rw (first-legal, ← x .one, second-legal))

@@ -96,7 +96,7 @@ module _ (i f : ℕ) (bs : List ℕ) (h : i < 2) (k : f < 36) (o : Octets bs) wh
   free-test z =
       let a : Bool = eqb (freeOctets i f) 0 in
       let b : Bool = eqb (getD singles (i * 36 + f) 0) (freeOctets i f) && ltb (freeOctets i f) 8 in
-      let c : Bool = eqb (listWord i f) 0 || soundCounted (listWord i f) (layoutAt (placeRowAt (i * 36 + f) .0)) in
+      let c : Bool = eqb (listWord i f) 0 || soundCounted (listWord i f) (layoutAt (placeRowAt (i * 36 + f) .layout)) in
       other a b (both-left (a || b) c (both-right (ltb (ruledOctets i f) 8) ((a || b) && c) (told-sound i f h k))) (λ e. z (eqb-true (freeOctets i f) 0 e))
 
   pub free-told : (n : ℕ) → n ≡ freeOctets i f → (n ≡ 0 → ⊥) → n ≤ length bs → Plainly n (checkAt i f bs)
@@ -109,21 +109,21 @@ module _ (i f : ℕ) (bs : List ℕ) (h : i < 2) (k : f < 36) (o : Octets bs) wh
 
   -- ---- a list or a led item
 
-  list-test : (listWord i f ≡ 0 → ⊥) → soundCounted (listWord i f) (layoutAt (placeRowAt (i * 36 + f) .0)) ≡ true
+  list-test : (listWord i f ≡ 0 → ⊥) → soundCounted (listWord i f) (layoutAt (placeRowAt (i * 36 + f) .layout)) ≡ true
   unfolding soundTold
   list-test z =
       let a : Bool = eqb (freeOctets i f) 0 || eqb (getD singles (i * 36 + f) 0) (freeOctets i f) && ltb (freeOctets i f) 8 in
-      let b : Bool = soundCounted (listWord i f) (layoutAt (placeRowAt (i * 36 + f) .0)) in
+      let b : Bool = soundCounted (listWord i f) (layoutAt (placeRowAt (i * 36 + f) .layout)) in
       let d : Bool = eqb (listWord i f) 0 || b in
       other (eqb (listWord i f) 0) b (both-right a d (both-right (ltb (ruledOctets i f) 8) (a && d) (told-sound i f h k))) (λ e. z (eqb-true (listWord i f) 0 e))
 
   pub list-told : (w n : ℕ) → w ≡ listWord i f → (w ≡ 0 → ⊥) → 1 ≤ length bs → n ≡ getD bs 0 0 → n < 256 → w / 4_096 % 16 ≤ n → w % 16 + n * (w / 16 % 16) ≤ length bs
       → Plainly (w % 16 + n * (w / 16 % 16)) (checkAt i f bs)
   list-told w n e z long en b least there =
-      let lay : LayoutRow = layoutAt (placeRowAt (i * 36 + f) .0) in
+      let lay : LayoutRow = layoutAt (placeRowAt (i * 36 + f) .layout) in
       let t : soundCounted w lay ≡ true = ap (λ x. soundCounted x lay) e ∙ list-test (λ y. z (e ∙ y)) in
       subst (Plainly (w % 16 + n * (w / 16 % 16))) (check-place i f bs h k o)
-      (counted-told lay w bs (layout-sound (placeRowAt (i * 36 + f) .0) (place-row (i * 36 + f))) o long t en b least there)
+      (counted-told lay w bs (layout-sound (placeRowAt (i * 36 + f) .layout) (place-row (i * 36 + f))) o long t en b least there)
 
   -- ---- an item with one rule
 
@@ -131,18 +131,18 @@ module _ (i f : ℕ) (bs : List ℕ) (h : i < 2) (k : f < 36) (o : Octets bs) wh
   unfolding soundTold
   ruled-few =
       let a : Bool = eqb (freeOctets i f) 0 || eqb (getD singles (i * 36 + f) 0) (freeOctets i f) && ltb (freeOctets i f) 8 in
-      let b : Bool = eqb (listWord i f) 0 || soundCounted (listWord i f) (layoutAt (placeRowAt (i * 36 + f) .0)) in
+      let b : Bool = eqb (listWord i f) 0 || soundCounted (listWord i f) (layoutAt (placeRowAt (i * 36 + f) .layout)) in
       ltb-true (ruledOctets i f) 8 (both-left (ltb (ruledOctets i f) 8) (a && b) (told-sound i f h k))
 
   pub ruled-keeps : (size rule : ℕ) → size ≡ ruledOctets i f → size ≤ length bs → soundTwin i f rule ≡ true → (rule ≡ 0 → ⊥) → asks rule (rule / 2 ^ 32) (firstThree bs) ≡ true
       → Plainly size (checkAt i f bs)
   unfolding soundTwin
   ruled-keeps size rule e l s z a =
-      let lay : LayoutRow = layoutAt (placeRowAt (i * 36 + f) .0) in
+      let lay : LayoutRow = layoutAt (placeRowAt (i * 36 + f) .layout) in
       let few : ruledOctets i f < 8 = ruled-few in
       let m : size % 16 ≡ size = mod-eq-of-lt (omega arith) in
       let t : soundSingle rule (rule / 2 ^ 32) size lay ≡ true =
       ap (λ x. soundSingle rule (rule / 2 ^ 32) x lay) e ∙ other (eqb rule 0) (soundSingle rule (rule / 2 ^ 32) (ruledOctets i f) lay) s (λ y. z (eqb-true rule 0 y)) in
       subst (λ x. Plainly x (checkAt i f bs)) m
       (subst (Plainly (size % 16)) (check-place i f bs h k o)
-      (ruled-told lay size bs (layout-sound (placeRowAt (i * 36 + f) .0) (place-row (i * 36 + f))) o (omega arith) rule (rule / 2 ^ 32) t a))
+      (ruled-told lay size bs (layout-sound (placeRowAt (i * 36 + f) .layout) (place-row (i * 36 + f))) o (omega arith) rule (rule / 2 ^ 32) t a))

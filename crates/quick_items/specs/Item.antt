@@ -52,7 +52,7 @@ sameRules low high step size (r ∷ []) = sameRule low high step size r
 sameRules low high step size (r ∷ (q ∷ rs)) = false
 
 unfoldable pub soundRule : ℕ → ℕ → ℕ → ℕ → Bool
-soundRule low high step g = sameRules low high step (groupAt g .0) (slice (firstRule g) (firstRule (g + 1)) rules)
+soundRule low high step g = sameRules low high step (groupAt g .octets) (slice (firstRule g) (firstRule (g + 1)) rules)
 
 -- the rules of the table, 16 of them
 abbrev pub lowAt : List ℕ → ℕ → ℕ
@@ -75,7 +75,7 @@ soundFree w l = cond (eqb w 0) true (eqb w (singleOf l))
 
 -- one part with a rule: the rule's row, 1, 0, its octets
 unfoldable pub soundSingle : ℕ → ℕ → ℕ → LayoutRow → Bool
-soundSingle low high w l = eqb (l .0) 1 && eqb (groupAt (l .3) .0) (w % 16) && soundRule low high 0 (l .3)
+soundSingle low high w l = eqb (l .kind) 1 && eqb (groupAt (l .first) .octets) (w % 16) && soundRule low high 0 (l .first)
 
 abbrev pub soundRuled : List ℕ → ℕ → LayoutRow → Bool
 soundRuled t w l = soundSingle (lowAt t (w / 4_096 % 16)) (highAt t (w / 4_096 % 16)) w l
@@ -83,16 +83,16 @@ soundRuled t w l = soundSingle (lowAt t (w / 4_096 % 16)) (highAt t (w / 4_096 %
 -- a list of free parts: its least count, 2, the octets of a part, 1; a led item: its least length, 2, 1, 0
 unfoldable pub soundCounted : ℕ → LayoutRow → Bool
 soundCounted w l =
-    groupAt (l .3) .4
-    && cond (eqb (l .0) 2)
-    (eqb (w % 16) 1 && eqb (w / 16 % 16) (groupAt (l .3) .0) && leb (l .1) (w / 4_096 % 16) && leb 255 (l .2))
-    (eqb (l .0) 3 && eqb (w % 16) 0 && eqb (w / 16 % 16) 1 && ltb (l .1) (w / 4_096 % 16))
+    groupAt (l .first) .free
+    && cond (eqb (l .kind) 2)
+    (eqb (w % 16) 1 && eqb (w / 16 % 16) (groupAt (l .first) .octets) && leb (l .least) (w / 4_096 % 16) && leb 255 (l .most))
+    (eqb (l .kind) 3 && eqb (w % 16) 0 && eqb (w / 16 % 16) 1 && ltb (l .least) (w / 4_096 % 16))
 
 -- an extended item of at most two parts, an octet each: the row of the first part's rule, which that of the second follows, 3, 0, 0
 unfoldable pub soundExtended : List ℕ → ℕ → LayoutRow → Bool
 soundExtended t w l =
-    eqb (l .0) 4 && eqb (l .3 + 2) (l .4) && eqb (groupAt (l .3) .0) 1 && eqb (groupAt (l .3 + 1) .0) 1
-    && soundRow t (w / 4_096 % 16) 1 (l .3) && soundRow t ((w / 4_096 + 1) % 16) 1 (l .3 + 1)
+    eqb (l .kind) 4 && eqb (l .first + 2) (l .end) && eqb (groupAt (l .first) .octets) 1 && eqb (groupAt (l .first + 1) .octets) 1
+    && soundRow t (w / 4_096 % 16) 1 (l .first) && soundRow t ((w / 4_096 + 1) % 16) 1 (l .first + 1)
 
 -- two rows ask all that a group of so many octets does, which has two rules
 abbrev pub samePair : List ℕ → ℕ → ℕ → ℕ → List Rule → Bool
@@ -104,8 +104,8 @@ samePair t i j size (r ∷ (q ∷ (p ∷ rs))) = false
 -- one part with two rules: the row of the first rule, which that of the second follows, 4, 0, its octets
 unfoldable pub soundTwice : List ℕ → ℕ → LayoutRow → Bool
 soundTwice t w l =
-    eqb (l .0) 1 && eqb (groupAt (l .3) .0) (w % 16)
-    && samePair t (w / 4_096 % 16) ((w / 4_096 + 1) % 16) (groupAt (l .3) .0) (slice (firstRule (l .3)) (firstRule (l .3 + 1)) rules)
+    eqb (l .kind) 1 && eqb (groupAt (l .first) .octets) (w % 16)
+    && samePair t (w / 4_096 % 16) ((w / 4_096 + 1) % 16) (groupAt (l .first) .octets) (slice (firstRule (l .first)) (firstRule (l .first + 1)) rules)
 
 -- by the second digit
 abbrev pub soundBy : ℕ → List ℕ → ℕ → LayoutRow → Bool
@@ -122,7 +122,7 @@ soundWord t w l = soundBy (w / 256 % 16) t w l
 unfoldable pub soundWords : List ℕ → List ℕ → List PlaceRow → Bool
 soundWords t [] ps = true
 soundWords t (w ∷ ws) [] = true
-soundWords t (w ∷ ws) (p ∷ ps) = soundWord t w (layoutAt (p .0)) && soundWords t ws ps
+soundWords t (w ∷ ws) (p ∷ ps) = soundWord t w (layoutAt (p .layout)) && soundWords t ws ps
 
 unfoldable pub soundSteps : List ℕ → Bool
 soundSteps t = soundWords t t (profileRows 1 categories)

@@ -32,7 +32,7 @@ ruledOctets i f = digitOf i f 0x90_1660_0000 0x1008_6000_0100_0000 0x4_1002_0000
 
 -- its rule as a pair of words of `steps` in one number, the second in the upper half: it asks what the item's rule does; 0 tells nothing
 unfoldable pub soundTwin : ℕ → ℕ → ℕ → Bool
-soundTwin i f r = eqb r 0 || soundSingle r (r / 2 ^ 32) (ruledOctets i f) (layoutAt (placeRowAt (i * 36 + f) .0))
+soundTwin i f r = eqb r 0 || soundSingle r (r / 2 ^ 32) (ruledOctets i f) (layoutAt (placeRowAt (i * 36 + f) .layout))
 
 -- the word of a list or of a led item, in the columns of `steps`; 0 tells nothing
 unfoldable pub listWord : ℕ → ℕ → ℕ
@@ -46,4 +46,4 @@ unfoldable pub soundTold : ℕ → ℕ → Bool
 soundTold i f =
     ltb (ruledOctets i f) 8
     && ((eqb (freeOctets i f) 0 || eqb (getD singles (i * 36 + f) 0) (freeOctets i f) && ltb (freeOctets i f) 8)
-    && (eqb (listWord i f) 0 || soundCounted (listWord i f) (layoutAt (placeRowAt (i * 36 + f) .0))))
+    && (eqb (listWord i f) 0 || soundCounted (listWord i f) (layoutAt (placeRowAt (i * 36 + f) .layout))))

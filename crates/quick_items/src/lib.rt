@@ -206,8 +206,8 @@ fn is_asked(t: &Steps, rule: usize, n: usize) -> bool
 
 // One free part.
 fn free_size(t: &Steps, place: usize, part: &[u8]) -> usize
-    requires { ⌜ (place < 72) × (getD (now t) place 0 < 8) × (soundFree (getD (now t) place 0) (layoutAt (placeRowAt place .0)) ≡ true) ⌝ }
-    ensures { λ r. ⌜ Plainly r (wholeSize (layoutAt (placeRowAt place .0)) (now (part .entry))) ⌝ }
+    requires { ⌜ (place < 72) × (getD (now t) place 0 < 8) × (soundFree (getD (now t) place 0) (layoutAt (placeRowAt place .layout)) ≡ true) ⌝ }
+    ensures { λ r. ⌜ Plainly r (wholeSize (layoutAt (placeRowAt place .layout)) (now (part .entry))) ⌝ }
 {
     let size = word_at(t, place);
     if part.len() < size {
@@ -218,8 +218,8 @@ fn free_size(t: &Steps, place: usize, part: &[u8]) -> usize
 
 // One part with a rule.
 fn ruled_size(t: &Steps, place: usize, part: &[u8]) -> usize
-    requires { ⌜ (place < 72) × (1 ≤ length (now part)) × (soundRuled (now t) (getD (now t) place 0) (layoutAt (placeRowAt place .0)) ≡ true) ⌝ }
-    ensures { λ r. ⌜ Plainly r (wholeSize (layoutAt (placeRowAt place .0)) (now (part .entry))) ⌝ }
+    requires { ⌜ (place < 72) × (1 ≤ length (now part)) × (soundRuled (now t) (getD (now t) place 0) (layoutAt (placeRowAt place .layout)) ≡ true) ⌝ }
+    ensures { λ r. ⌜ Plainly r (wholeSize (layoutAt (placeRowAt place .layout)) (now (part .entry))) ⌝ }
 {
     let w = word_at(t, place);
     let size = w % 16;
@@ -234,8 +234,8 @@ fn ruled_size(t: &Steps, place: usize, part: &[u8]) -> usize
 
 // A count octet and free parts, or a length octet and contents.
 fn counted_size(t: &Steps, place: usize, part: &[u8]) -> usize
-    requires { ⌜ (place < 72) × (1 ≤ length (now part)) × (soundCounted (getD (now t) place 0) (layoutAt (placeRowAt place .0)) ≡ true) ⌝ }
-    ensures { λ r. ⌜ Plainly r (wholeSize (layoutAt (placeRowAt place .0)) (now (part .entry))) ⌝ }
+    requires { ⌜ (place < 72) × (1 ≤ length (now part)) × (soundCounted (getD (now t) place 0) (layoutAt (placeRowAt place .layout)) ≡ true) ⌝ }
+    ensures { λ r. ⌜ Plainly r (wholeSize (layoutAt (placeRowAt place .layout)) (now (part .entry))) ⌝ }
 {
     let w = word_at(t, place);
     let n = octet(part[0]);
@@ -251,8 +251,8 @@ fn counted_size(t: &Steps, place: usize, part: &[u8]) -> usize
 
 // Parts as far as FX bits say, of one octet each and at most two.
 fn extended_size(t: &Steps, place: usize, part: &[u8]) -> usize
-    requires { ⌜ (place < 72) × (1 ≤ length (now part)) × (soundExtended (now t) (getD (now t) place 0) (layoutAt (placeRowAt place .0)) ≡ true) ⌝ }
-    ensures { λ r. ⌜ Plainly r (wholeSize (layoutAt (placeRowAt place .0)) (now (part .entry))) ⌝ }
+    requires { ⌜ (place < 72) × (1 ≤ length (now part)) × (soundExtended (now t) (getD (now t) place 0) (layoutAt (placeRowAt place .layout)) ≡ true) ⌝ }
+    ensures { λ r. ⌜ Plainly r (wholeSize (layoutAt (placeRowAt place .layout)) (now (part .entry))) ⌝ }
 {
     let w = word_at(t, place);
     if !is_asked(t, w / 4096 % 16, first_three(part)) {
@@ -275,8 +275,8 @@ fn extended_size(t: &Steps, place: usize, part: &[u8]) -> usize
 
 // One part with two rules.
 fn twice_size(t: &Steps, place: usize, part: &[u8]) -> usize
-    requires { ⌜ (place < 72) × (1 ≤ length (now part)) × (soundTwice (now t) (getD (now t) place 0) (layoutAt (placeRowAt place .0)) ≡ true) ⌝ }
-    ensures { λ r. ⌜ Plainly r (wholeSize (layoutAt (placeRowAt place .0)) (now (part .entry))) ⌝ }
+    requires { ⌜ (place < 72) × (1 ≤ length (now part)) × (soundTwice (now t) (getD (now t) place 0) (layoutAt (placeRowAt place .layout)) ≡ true) ⌝ }
+    ensures { λ r. ⌜ Plainly r (wholeSize (layoutAt (placeRowAt place .layout)) (now (part .entry))) ⌝ }
 {
     let w = word_at(t, place);
     let size = w % 16;
@@ -296,7 +296,7 @@ fn twice_size(t: &Steps, place: usize, part: &[u8]) -> usize
 // How many octets the item at a place of the tables takes, where it is plainly legal.
 fn quick_at(t: &Steps, place: usize, part: &[u8]) -> usize
     requires { ⌜ (place < 72) × (soundSteps (now t) ≡ true) ⌝ }
-    ensures { λ r. ⌜ Plainly r (wholeSize (layoutAt (placeRowAt place .0)) (now (part .entry))) ⌝ }
+    ensures { λ r. ⌜ Plainly r (wholeSize (layoutAt (placeRowAt place .layout)) (now (part .entry))) ⌝ }
 {
     let w = word_at(t, place);
     if w < 8 {

@@ -152,29 +152,29 @@ front-told a w rule bs there fits least ex ey ez et k = record {
   kept = ap (asks rule (rule / 2 ^ 32)) (sym (three-at (startOf a) bs ex ey ez)) ∙ sym et ∙ k;
 }
 
-special-told : (i f w rule n : ℕ) (bs : List ℕ) → i < 2 → f < 36 → Octets bs → soundSpecial w rule (layoutAt (placeRowAt (i * 36 + f) .0)) ≡ true → 1 ≤ length bs
+special-told : (i f w rule n : ℕ) (bs : List ℕ) → i < 2 → f < 36 → Octets bs → soundSpecial w rule (layoutAt (placeRowAt (i * 36 + f) .layout)) ≡ true → 1 ≤ length bs
     → getD bs 0 0 < 256 → n ≡ w % 16 + getD bs 0 0 * (w / 16 % 16) → n ≤ length bs → w / 4_096 % 16 ≤ getD bs 0 0 → asks rule (rule / 2 ^ 32) (firstThree bs) ≡ true
     → checkAt i f bs ≡ ok n
 special-told i f w rule n bs h k o s long b e l least asked =
-    let lay : LayoutRow = layoutAt (placeRowAt (i * 36 + f) .0) in
+    let lay : LayoutRow = layoutAt (placeRowAt (i * 36 + f) .layout) in
     let min : Bool = ltb 0 (w % 16 + w / 4_096 % 16 * (w / 16 % 16)) in
     let more : w / 4_096 % 16 * (w / 16 % 16) ≤ getD bs 0 0 * (w / 16 % 16) = mul-le-mul-right (w / 16 % 16) least in
     let first : 0 < w % 16 + w / 4_096 % 16 * (w / 16 % 16) = ltb-true 0 _ (both-left min _ s) in
     let some : n ≡ 0 → ⊥ = λ z. omega (arith, first, more) in
-    let sound = layout-sound (placeRowAt (i * 36 + f) .0) (place-row (i * 36 + f)) in
+    let sound = layout-sound (placeRowAt (i * 36 + f) .layout) (place-row (i * 36 + f)) in
     sym (check-place i f bs h k o) ∙ told n (wholeSize lay bs) (go sound (eqb (w / 256 % 16) 1) (both-right min _ s)) some
   where
-    go : rowSound (layoutAt (placeRowAt (i * 36 + f) .0)) ≡ true → (t : Bool) → cond t (eqb (w / 16 % 16) 0 && soundSingle rule (rule / 2 ^ 32) w (layoutAt (placeRowAt (i * 36 + f) .0))) (soundCounted w (layoutAt (placeRowAt (i * 36 + f) .0))) ≡ true
-        → Plainly n (wholeSize (layoutAt (placeRowAt (i * 36 + f) .0)) bs)
+    go : rowSound (layoutAt (placeRowAt (i * 36 + f) .layout)) ≡ true → (t : Bool) → cond t (eqb (w / 16 % 16) 0 && soundSingle rule (rule / 2 ^ 32) w (layoutAt (placeRowAt (i * 36 + f) .layout))) (soundCounted w (layoutAt (placeRowAt (i * 36 + f) .layout))) ≡ true
+        → Plainly n (wholeSize (layoutAt (placeRowAt (i * 36 + f) .layout)) bs)
     go sound true q =
         let z : w / 16 % 16 ≡ 0 = eqb-true _ _ (both-left (eqb (w / 16 % 16) 0) _ q) in
         let y : w % 16 + getD bs 0 0 * 0 ≡ w % 16 = omega arith in
         let m : n ≡ w % 16 = e ∙ ap (λ x. w % 16 + getD bs 0 0 * x) z ∙ y in
-        subst (λ x. Plainly x (wholeSize (layoutAt (placeRowAt (i * 36 + f) .0)) bs)) (sym m)
-        (ruled-told (layoutAt (placeRowAt (i * 36 + f) .0)) w bs sound o (omega (arith, m)) rule (rule / 2 ^ 32) (both-right (eqb (w / 16 % 16) 0) _ q) asked)
+        subst (λ x. Plainly x (wholeSize (layoutAt (placeRowAt (i * 36 + f) .layout)) bs)) (sym m)
+        (ruled-told (layoutAt (placeRowAt (i * 36 + f) .layout)) w bs sound o (omega (arith, m)) rule (rule / 2 ^ 32) (both-right (eqb (w / 16 % 16) 0) _ q) asked)
     go sound false q =
-        subst (λ x. Plainly x (wholeSize (layoutAt (placeRowAt (i * 36 + f) .0)) bs)) (sym e)
-        (counted-told (layoutAt (placeRowAt (i * 36 + f) .0)) w bs sound o long q refl b least (omega (arith, e)))
+        subst (λ x. Plainly x (wholeSize (layoutAt (placeRowAt (i * 36 + f) .layout)) bs)) (sym e)
+        (counted-told (layoutAt (placeRowAt (i * 36 + f) .layout)) w bs sound o long q refl b least (omega (arith, e)))
 
 -- ---- runs of free items
 
@@ -349,7 +349,7 @@ module _ (i a b rule left n m bits : ℕ) (bs : List ℕ) (h : i < 2) (o : Octet
       let x : ℕ = w % 16 + head * (w / 16 % 16) in
       let p = ltb f 36 in
       let q = eqb (startOf a) (usedOf a + 5 + s) in
-      let r = soundSpecial w rule (layoutAt (placeRowAt (i * 36 + f) .0)) in
+      let r = soundSpecial w rule (layoutAt (placeRowAt (i * 36 + f) .layout)) in
       let u = eqb (tailOf a) (runSum i g vs) in
       let v = eqb left (number (runLeft i g vs)) in
       let t₁ : p && q && r && u ≡ true = both-left (p && q && r && u) v t in

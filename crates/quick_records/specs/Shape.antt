@@ -86,7 +86,7 @@ abbrev pub soundThen : ℕ → ℕ → ℕ → ℕ → ℕ → ℕ → List Bool
 soundThen i a b rule left s [] = false
 soundThen i a b rule left s (false ∷ vs) = false
 soundThen i a b rule left s (true ∷ vs) =
-    ltb (63 - length vs) 36 && eqb (startOf a) (usedOf a + 5 + s) && soundSpecial (wordOf b) rule (layoutAt (placeRowAt (i * 36 + (63 - length vs)) .0))
+    ltb (63 - length vs) 36 && eqb (startOf a) (usedOf a + 5 + s) && soundSpecial (wordOf b) rule (layoutAt (placeRowAt (i * 36 + (63 - length vs)) .layout))
     && eqb (tailOf a) (runSum i (64 - length vs) vs) && eqb left (number (runLeft i (64 - length vs) vs))
 
 abbrev pub soundItems : ℕ → ℕ → ℕ → ℕ → ℕ → List Bool → Bool

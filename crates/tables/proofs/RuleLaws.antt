@@ -17,15 +17,15 @@ use Rattle.rules.specs.Field.{Field, spare, value, unsigned, signed, half}
 use Rattle.rules.specs.Category017.{category017}
 use Rattle.rules.specs.Category018.{category018}
 use Rattle.rules.specs.Entry.{categories}
-use Rattle.tables.specs.Tables.{fields, groups, layouts, groupRows, groupAt}
+use Rattle.tables.specs.Tables.{fields, groups, layouts, groupRows, noGroupRow, groupAt}
 use Rattle.tables.specs.FieldRules.{Rule, rulesOf, obeys, allObeyed, rules, firstRule, ruleAt, ruleWords, addedTo, limits, sizes}
 use Rattle.tables.proofs.TableLaws.{in-row, each, every, fieldsAt, getD-map-in}
 
 -- ---- the tables
 
-pub size-of : (g : ℕ) → getD sizes g 0 ≡ groupAt g .0
+pub size-of : (g : ℕ) → getD sizes g 0 ≡ groupAt g .octets
 unfolding sizes groupAt
-size-of g = List·getD-map (λ r. r .0) (groupRows 0 groups) g (0, 0, 0, 0, false)
+size-of g = List·getD-map (λ r. r .octets) (groupRows 0 groups) g noGroupRow
 
 rules-long : length rules ≡ 17
 unfolding rules groups layouts categories category017 category018
@@ -152,9 +152,9 @@ unfolding firstRule groups layouts categories category017 category018
 first-few g h = leb-true _ _ (below (λ i. leb (firstRule i) 17) (λ i. true) 53 refl g h)
 
 -- a group without a rule says that it is free
-pub group-said : (g : ℕ) → g < 52 → leb (firstRule (g + 1)) (firstRule g) ≡ groupAt g .4
+pub group-said : (g : ℕ) → g < 52 → leb (firstRule (g + 1)) (firstRule g) ≡ groupAt g .free
 unfolding firstRule groupAt fields groups layouts categories category017 category018
-group-said g h = rw (add-one g) (below (λ i. leb (firstRule (suc i)) (firstRule i)) (λ i. groupAt i .4) 52 refl g h)
+group-said g h = rw (add-one g) (below (λ i. leb (firstRule (suc i)) (firstRule i)) (λ i. groupAt i .free) 52 refl g h)
 
 pub rules-few : (g : ℕ) → g < 52 → {e : ℕ} → e ≡ firstRule (g + 1) → e ≤ 17
 rules-few g h ee = subst (λ x. x ≤ 17) (sym ee) (first-few (g + 1) (omega arith))

@@ -24,7 +24,7 @@ use Rattle.rules.specs.Entry.{categories, profileAt, over}
 use Rattle.tables.specs.declared.tables.GroupRow.{GroupRow}
 use Rattle.tables.specs.declared.tables.LayoutRow.{LayoutRow}
 use Rattle.tables.specs.declared.tables.FieldRow.{FieldRow}
-use Rattle.tables.specs.Tables.{fields, fieldRow, fieldAt, ranges, least, greatest, fieldWord, fieldWords, groupWord, groupWords, layoutWord, layoutWords, layoutsIn, referencesIn, isFree, groups, layouts, groupRows, groupAt, layoutRows, layoutBy, layoutIs, layoutAt, nowhere, profileRows, placeRowAt, placeIs}
+use Rattle.tables.specs.Tables.{fields, fieldRow, noFieldRow, noGroupRow, noLayoutRow, fieldAt, ranges, least, greatest, fieldWord, fieldWords, groupWord, groupWords, layoutWord, layoutWords, layoutsIn, referencesIn, isFree, groups, layouts, groupRows, groupAt, layoutRows, layoutBy, layoutIs, layoutAt, nowhere, profileRows, placeRowAt, placeIs}
 
 -- ---- places
 
@@ -123,9 +123,9 @@ none-other p f h = place-none ∙ sym (ap (λ ps. placeAt ps f) (profile-past p 
     nothing (suc f) = refl
 
 -- a row has a layout of the table
-pub place-row : (i : ℕ) → placeRowAt i .0 < 51
+pub place-row : (i : ℕ) → placeRowAt i .layout < 51
 unfolding placeRowAt categories category017 category018
-place-row i = ltb-true (placeRowAt i .0) 51 (at-row (λ r. ltb (r .0) 51) (λ r. true) (profileRows 1 categories) i nowhere refl refl)
+place-row i = ltb-true (placeRowAt i .layout) 51 (at-row (λ r. ltb (r .layout) 51) (λ r. true) (profileRows 1 categories) i nowhere refl refl)
 
 -- ---- what holds of each row of a table, by one test
 
@@ -144,24 +144,24 @@ pub fields-long : length (map fieldRow fields) ≡ 113
 unfolding fields groups layouts categories category017 category018
 fields-long = refl
 
-pub field-wide : (i : ℕ) → i < 113 → 1 ≤ fieldAt i .0
+pub field-wide : (i : ℕ) → i < 113 → 1 ≤ fieldAt i .bits
 unfolding fieldAt fields groups layouts categories category017 category018
-field-wide i h = leb-true 1 (fieldAt i .0) (each (λ f. leb 1 (f .0)) (map fieldRow fields) (0, 0, pos 0, pos 0) refl i h)
+field-wide i h = leb-true 1 (fieldAt i .bits) (each (λ f. leb 1 (f .bits)) (map fieldRow fields) noFieldRow refl i h)
 
-pub field-few : (i : ℕ) → i < 113 → fieldAt i .0 ≤ 62
+pub field-few : (i : ℕ) → i < 113 → fieldAt i .bits ≤ 62
 unfolding fieldAt fields groups layouts categories category017 category018
-field-few i h = leb-true (fieldAt i .0) 62 (each (λ f. leb (f .0) 62) (map fieldRow fields) (0, 0, pos 0, pos 0) refl i h)
+field-few i h = leb-true (fieldAt i .bits) 62 (each (λ f. leb (f .bits) 62) (map fieldRow fields) noFieldRow refl i h)
 
 -- ---- groups
 
 abbrev pub fieldsAt : ℕ → List Field
-fieldsAt g = slice (groupAt g .1) (groupAt g .2) fields
+fieldsAt g = slice (groupAt g .first) (groupAt g .end) fields
 
 -- a row says that its group is free where it is
-pub group-free : (g : ℕ) → g < 52 → groupAt g .4 ≡ isFree (slice (groupAt g .1) (groupAt g .2) fields)
+pub group-free : (g : ℕ) → g < 52 → groupAt g .free ≡ isFree (slice (groupAt g .first) (groupAt g .end) fields)
 unfolding groupAt fields groups layouts categories category017 category018
 group-free g h =
-    in-row (λ r. r .4) (λ r. isFree (slice (r .1) (r .2) fields)) (groupRows 0 groups) g (0, 0, 0, 0, false) h refl
+    in-row (λ r. r .free) (λ r. isFree (slice (r .first) (r .end) fields)) (groupRows 0 groups) g noGroupRow h refl
 
 -- ---- rows as one number
 
@@ -172,19 +172,19 @@ getD-map-in f (a ∷ l) (suc i) d e h = getD-map-in f l i d e (le-of-suc-le-suc 
 
 -- what was put into digits is read from them
 abbrev pub fieldDigits : ℕ → FieldRow
-fieldDigits w = (w / 1_000, w / 100 % 10, getD least (w % 100) (pos 0), getD greatest (w % 100) (pos 0))
+fieldDigits w = record { bits = w / 1_000; holds = w / 100 % 10; least = getD least (w % 100) (pos 0); greatest = getD greatest (w % 100) (pos 0) }
 
 abbrev pub groupDigits : ℕ → GroupRow
-groupDigits w = (w / 100_000_000, w / 100_000 % 1_000, w / 100_000 % 1_000 + w / 1_000 % 100, w / 10 % 100, eqb (w % 10) 1)
+groupDigits w = record { octets = w / 100_000_000; first = w / 100_000 % 1_000; end = w / 100_000 % 1_000 + w / 1_000 % 100; values = w / 10 % 100; free = eqb (w % 10) 1 }
 
 abbrev pub layoutDigits : ℕ → LayoutRow
-layoutDigits w = (w / 100_000_000, w / 10_000_000 % 10, w / 10_000 % 1_000, w / 10 % 1_000, w / 10 % 1_000 + w % 10)
+layoutDigits w = record { kind = w / 100_000_000; least = w / 10_000_000 % 10; most = w / 10_000 % 1_000; first = w / 10 % 1_000; end = w / 10 % 1_000 + w % 10 }
 
 pub field-digits : (i : ℕ) → i < 113 → fieldDigits (getD fieldWords i 0) ≡ fieldAt i
 unfolding fieldWords fieldAt least greatest ranges fields groups layouts categories category017 category018
 field-digits i h =
-    ap fieldDigits (getD-map-in fieldWord (map fieldRow fields) i (0, 0, pos 0, pos 0) 0 h)
-    ∙ in-row (λ r. fieldDigits (fieldWord r)) (λ r. r) (map fieldRow fields) i (0, 0, pos 0, pos 0) h refl
+    ap fieldDigits (getD-map-in fieldWord (map fieldRow fields) i noFieldRow 0 h)
+    ∙ in-row (λ r. fieldDigits (fieldWord r)) (λ r. r) (map fieldRow fields) i noFieldRow h refl
 
 pub field-range : (i : ℕ) → i < 113 → getD fieldWords i 0 % 100 < 21
 unfolding fieldWords ranges fields groups layouts categories category017 category018
@@ -193,28 +193,25 @@ field-range i h = ltb-true _ 21 (each (λ w. ltb (w % 100) 21) fieldWords 0 refl
 pub group-digits : (i : ℕ) → i < 52 → groupDigits (getD groupWords i 0) ≡ groupAt i
 unfolding groupWords groupAt fields groups layouts categories category017 category018
 group-digits i h =
-    ap groupDigits (getD-map-in groupWord (groupRows 0 groups) i (0, 0, 0, 0, false) 0 h)
-    ∙ in-row (λ r. groupDigits (groupWord r)) (λ r. r) (groupRows 0 groups) i (0, 0, 0, 0, false) h refl
+    ap groupDigits (getD-map-in groupWord (groupRows 0 groups) i noGroupRow 0 h)
+    ∙ in-row (λ r. groupDigits (groupWord r)) (λ r. r) (groupRows 0 groups) i noGroupRow h refl
 
 pub layout-digits : (i : ℕ) → i < 51 → layoutDigits (getD layoutWords i 0) ≡ layoutAt i
 unfolding layoutWords layoutAt layouts categories category017 category018
 layout-digits zero h = refl
 layout-digits (suc i) h =
-    ap layoutDigits (getD-map-in layoutWord (layoutRows 0 layouts) i (0, 0, 0, 0, 0) 0 (le-of-suc-le-suc h))
-    ∙ in-row (λ r. layoutDigits (layoutWord r)) (λ r. r) (layoutRows 0 layouts) i (0, 0, 0, 0, 0) (le-of-suc-le-suc h) refl
+    ap layoutDigits (getD-map-in layoutWord (layoutRows 0 layouts) i noLayoutRow 0 (le-of-suc-le-suc h))
+    ∙ in-row (λ r. layoutDigits (layoutWord r)) (λ r. r) (layoutRows 0 layouts) i noLayoutRow (le-of-suc-le-suc h) refl
 
-pub layout-in : (i : ℕ) → getD layoutsIn i 0 ≡ placeRowAt i .0
+pub layout-in : (i : ℕ) → getD layoutsIn i 0 ≡ placeRowAt i .layout
 unfolding layoutsIn placeRowAt
-layout-in i = List·getD-map (λ r. r .0) (profileRows 1 categories) i nowhere
+layout-in i = List·getD-map (λ r. r .layout) (profileRows 1 categories) i nowhere
 
-pub reference-in : (i : ℕ) → getD referencesIn i 0 ≡ placeRowAt i .1
+pub reference-in : (i : ℕ) → getD referencesIn i 0 ≡ placeRowAt i .reference
 unfolding referencesIn placeRowAt
-reference-in i = List·getD-map (λ r. r .1) (profileRows 1 categories) i nowhere
+reference-in i = List·getD-map (λ r. r .reference) (profileRows 1 categories) i nowhere
 
 -- ---- layouts
-
-no-layout : LayoutRow
-no-layout = (0, 0, 0, 0, 0)
 
 -- the first row is that of no item, each other one that of an item
 pub layout-none : layoutIs (layoutAt 0) ≡ none
@@ -222,5 +219,5 @@ unfolding layoutIs layoutBy layoutAt
 layout-none = refl
 
 pub layout-some : (j : ℕ) → j < 50 → present (layoutIs (layoutAt (suc j))) ≡ true
-unfolding layoutIs layoutBy layoutAt groupAt fields groups layouts categories category017 category018 no-layout
-layout-some j h = each (λ l. present (layoutIs l)) (layoutRows 0 layouts) no-layout refl j h
+unfolding layoutIs layoutBy layoutAt groupAt fields groups layouts categories category017 category018
+layout-some j h = each (λ l. present (layoutIs l)) (layoutRows 0 layouts) noLayoutRow refl j h

@@ -22,7 +22,7 @@ one-group-at place a b p q = p ∙ sym q
 pub one-layout-at : (place : ℕ) (a b : LayoutRow) → a ≡ layoutAt place → b ≡ layoutAt place → a ≡ b
 one-layout-at place a b p q = p ∙ sym q
 
-pub one-layout-row : (place a b : ℕ) → a ≡ placeRowAt place .0 → b ≡ placeRowAt place .0 → a ≡ b
+pub one-layout-row : (place a b : ℕ) → a ≡ placeRowAt place .layout → b ≡ placeRowAt place .layout → a ≡ b
 one-layout-row place a b p q = p ∙ sym q
 
 pub one-place-at : (place : ℕ) (a b : PlaceRow) → a ≡ placeRowAt place → b ≡ placeRowAt place → a ≡ b
@@ -30,13 +30,13 @@ one-place-at place a b p q = p ∙ sym q
 
 -- ---- the rules of fields
 
-pub one-size-at : (group a b : ℕ) → a ≡ groupAt group .0 → b ≡ groupAt group .0 → a ≡ b
+pub one-size-at : (group a b : ℕ) → a ≡ groupAt group .octets → b ≡ groupAt group .octets → a ≡ b
 one-size-at group a b p q = p ∙ sym q
 
 pub one-first-rule : (group a b : ℕ) → a ≡ firstRule group → b ≡ firstRule group → a ≡ b
 one-first-rule group a b p q = p ∙ sym q
 
-pub one-is-free : (group : ℕ) (a b : Bool) → a ≡ groupAt group .4 → b ≡ groupAt group .4 → a ≡ b
+pub one-is-free : (group : ℕ) (a b : Bool) → a ≡ groupAt group .free → b ≡ groupAt group .free → a ≡ b
 one-is-free group a b p q = p ∙ sym q
 
 pub one-single-at : (place a b : ℕ) → a ≡ getD singles place 0 → b ≡ getD singles place 0 → a ≡ b

@@ -62,11 +62,11 @@ unfoldable pub limits : List ℕ
 limits = map (λ r. r .limit) rules
 
 unfoldable pub sizes : List ℕ
-sizes = map (λ r. r .0) (groupRows 0 groups)
+sizes = map (λ r. r .octets) (groupRows 0 groups)
 
 -- of an item with one part, its octets where it is free, and else 8 more than the place of its group; of any other item 0
 abbrev pub singleOf : LayoutRow → ℕ
-singleOf l = cond (eqb (l .0) 1) (cond (groupAt (l .3) .4) (groupAt (l .3) .0) (8 + l .3)) 0
+singleOf l = cond (eqb (l .kind) 1) (cond (groupAt (l .first) .free) (groupAt (l .first) .octets) (8 + l .first)) 0
 
 unfoldable pub singles : List ℕ
-singles = map (λ r. singleOf (layoutAt (r .0))) (profileRows 1 categories)
+singles = map (λ r. singleOf (layoutAt (r .layout))) (profileRows 1 categories)

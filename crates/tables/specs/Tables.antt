@@ -48,9 +48,9 @@ minus zero = pos 0
 minus (suc n) = negsuc n
 
 abbrev pub fieldRow : Field → FieldRow
-fieldRow (spare w) = (w, 2, pos 0, pos 0)
-fieldRow (value w (unsigned lo hi)) = (w, 0, pos lo, pos hi)
-fieldRow (value w (signed lo hi)) = (w, 1, minus lo, pos hi)
+fieldRow (spare w) = record { bits = w; holds = 2; least = pos 0; greatest = pos 0 }
+fieldRow (value w (unsigned lo hi)) = record { bits = w; holds = 0; least = pos lo; greatest = pos hi }
+fieldRow (value w (signed lo hi)) = record { bits = w; holds = 1; least = minus lo; greatest = pos hi }
 
 -- any bits are legal in each of the fields
 abbrev pub isFree : List Field → Bool
@@ -63,14 +63,14 @@ isFree (value w (signed lo hi) ∷ fs) = eqb lo (half w) && eqb (suc hi) (half w
 abbrev pub groupRows : ℕ → List Group → List GroupRow
 groupRows k [] = []
 groupRows k (g ∷ gs) =
-    (g .size, k, k + length (g .fields), arity (g .fields), isFree (g .fields)) ∷ groupRows (k + length (g .fields)) gs
+    record { octets = g .size; first = k; end = k + length (g .fields); values = arity (g .fields); free = isFree (g .fields) } ∷ groupRows (k + length (g .fields)) gs
 
 -- of a layout whose first group stands at a place
 abbrev pub layoutRow : ℕ → Layout → LayoutRow
-layoutRow k (fixed g) = (1, 1, 1, k, k + 1)
-layoutRow k (repeated lo hi g) = (2, lo, hi, k, k + 1)
-layoutRow k (led lo) = (3, lo, 254, k, k + 1)
-layoutRow k (extended gs) = (4, 1, length gs, k, k + length gs)
+layoutRow k (fixed g) = record { kind = 1; least = 1; most = 1; first = k; end = k + 1 }
+layoutRow k (repeated lo hi g) = record { kind = 2; least = lo; most = hi; first = k; end = k + 1 }
+layoutRow k (led lo) = record { kind = 3; least = lo; most = 254; first = k; end = k + 1 }
+layoutRow k (extended gs) = record { kind = 4; least = 1; most = length gs; first = k; end = k + length gs }
 
 abbrev pub layoutRows : ℕ → List Layout → List LayoutRow
 layoutRows k [] = []
@@ -78,28 +78,38 @@ layoutRows k (l ∷ ls) = layoutRow k l ∷ layoutRows (k + length (groupsOf l))
 
 -- no item
 abbrev pub nowhere : PlaceRow
-nowhere = (0, 0)
+nowhere = record { layout = 0; reference = 0 }
 
 -- of the places of a profile, the first item's layout standing at a place
 abbrev pub placeRows : ℕ → List (Option Place) → List PlaceRow
 placeRows k [] = []
 placeRows k (none ∷ ps) = nowhere ∷ placeRows k ps
-placeRows k (some p ∷ ps) = (k, p .reference) ∷ placeRows (k + 1) ps
+placeRows k (some p ∷ ps) = record { layout = k; reference = p .reference } ∷ placeRows (k + 1) ps
 
 -- 36 places for each profile, FRN 0 first
 abbrev pub profileRows : ℕ → List Category → List PlaceRow
 profileRows k [] = []
 profileRows k (c ∷ cs) = over (nowhere ∷ placeRows k (places c)) (replicate 36 nowhere) ++ profileRows (k + length (layoutsOf (places c))) cs
 
+-- what a table has past its end: no bits, no octets, no parts
+abbrev pub noFieldRow : FieldRow
+noFieldRow = record { bits = 0; holds = 0; least = pos 0; greatest = pos 0 }
+
+abbrev pub noGroupRow : GroupRow
+noGroupRow = record { octets = 0; first = 0; end = 0; values = 0; free = false }
+
+abbrev pub noLayoutRow : LayoutRow
+noLayoutRow = record { kind = 0; least = 0; most = 0; first = 0; end = 0 }
+
 unfoldable pub fieldAt : ℕ → FieldRow
-fieldAt i = getD (map fieldRow fields) i (0, 0, pos 0, pos 0)
+fieldAt i = getD (map fieldRow fields) i noFieldRow
 
 unfoldable pub groupAt : ℕ → GroupRow
-groupAt i = getD (groupRows 0 groups) i (0, 0, 0, 0, false)
+groupAt i = getD (groupRows 0 groups) i noGroupRow
 
 -- the first layout is that of no item
 unfoldable pub layoutAt : ℕ → LayoutRow
-layoutAt i = getD {A = LayoutRow} ((0, 0, 0, 0, 0) ∷ layoutRows 0 layouts) i (0, 0, 0, 0, 0)
+layoutAt i = getD (noLayoutRow ∷ layoutRows 0 layouts) i noLayoutRow
 
 unfoldable pub placeRowAt : ℕ → PlaceRow
 placeRowAt i = getD (profileRows 1 categories) i nowhere
@@ -120,7 +130,7 @@ rangeIn (r ∷ rs) low high = cond (sameZ low (r .0) && sameZ high (r .1)) 0 (su
 
 abbrev pub rangesOf : List (ℤ × ℤ) → List FieldRow → List (ℤ × ℤ)
 rangesOf rs [] = rs
-rangesOf rs (f ∷ fs) = rangesOf (cond (eqb (rangeIn rs (f .2) (f .3)) (length rs)) (rs ++ ((f .2, f .3) ∷ [])) rs) fs
+rangesOf rs (f ∷ fs) = rangesOf (cond (eqb (rangeIn rs (f .least) (f .greatest)) (length rs)) (rs ++ ((f .least, f .greatest) ∷ [])) rs) fs
 
 unfoldable pub ranges : List (ℤ × ℤ)
 ranges = rangesOf [] (map fieldRow fields)
@@ -133,15 +143,15 @@ greatest = map (λ r. r .1) ranges
 
 -- bits, what it holds, the place of its range: 2, 1 and 2 digits
 abbrev pub fieldWord : FieldRow → ℕ
-fieldWord r = r .0 * 1_000 + r .1 * 100 + rangeIn ranges (r .2) (r .3)
+fieldWord r = r .bits * 1_000 + r .holds * 100 + rangeIn ranges (r .least) (r .greatest)
 
 -- octets, place of the first field, how many fields, how many values, whether it is free: 1, 3, 2, 2 and 1 digits
 abbrev pub groupWord : GroupRow → ℕ
-groupWord r = r .0 * 100_000_000 + r .1 * 100_000 + (r .2 - r .1) * 1_000 + r .3 * 10 + cond (r .4) 1 0
+groupWord r = r .octets * 100_000_000 + r .first * 100_000 + (r .end - r .first) * 1_000 + r .values * 10 + cond (r .free) 1 0
 
 -- how the parts lie, the least and the greatest number of parts, place of the first group, how many groups: 1, 1, 3, 3 and 1 digits
 abbrev pub layoutWord : LayoutRow → ℕ
-layoutWord r = r .0 * 100_000_000 + r .1 * 10_000_000 + r .2 * 10_000 + r .3 * 10 + (r .4 - r .3)
+layoutWord r = r .kind * 100_000_000 + r .least * 10_000_000 + r .most * 10_000 + r .first * 10 + (r .end - r .first)
 
 unfoldable pub fieldWords : List ℕ
 fieldWords = map fieldWord (map fieldRow fields)
@@ -153,15 +163,15 @@ unfoldable pub layoutWords : List ℕ
 layoutWords = 0 ∷ map layoutWord (layoutRows 0 layouts)
 
 unfoldable pub layoutsIn : List ℕ
-layoutsIn = map (λ r. r .0) (profileRows 1 categories)
+layoutsIn = map (λ r. r .layout) (profileRows 1 categories)
 
 unfoldable pub referencesIn : List ℕ
-referencesIn = map (λ r. r .1) (profileRows 1 categories)
+referencesIn = map (λ r. r .reference) (profileRows 1 categories)
 
 -- ---- what the rows stand for
 
 abbrev pub groupIs : GroupRow → Group
-groupIs r = group (r .0) (slice (r .1) (r .2) fields)
+groupIs r = group (r .octets) (slice (r .first) (r .end) fields)
 
 unfoldable pub layoutBy : ℕ → ℕ → ℕ → Group → List Group → Option Layout
 layoutBy zero lo hi g gs = none
@@ -171,11 +181,11 @@ layoutBy (suc (suc (suc zero))) lo hi g gs = some (led lo)
 layoutBy (suc (suc (suc (suc k)))) lo hi g gs = some (extended gs)
 
 unfoldable pub layoutIs : LayoutRow → Option Layout
-layoutIs r = layoutBy (r .0) (r .1) (r .2) (groupIs (groupAt (r .3))) (slice (r .3) (r .4) (map groupIs (groupRows 0 groups)))
+layoutIs r = layoutBy (r .kind) (r .least) (r .most) (groupIs (groupAt (r .first))) (slice (r .first) (r .end) (map groupIs (groupRows 0 groups)))
 
 abbrev pub with : ℕ → Option Layout → Option Place
 with r none = none
 with r (some l) = at r l
 
 unfoldable pub placeIs : PlaceRow → Option Place
-placeIs r = with (r .1) (layoutIs (layoutAt (r .0)))
+placeIs r = with (r .reference) (layoutIs (layoutAt (r .layout)))

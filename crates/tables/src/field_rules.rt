@@ -304,7 +304,7 @@ fn single_in(place: usize) -> u8
 // How many octets a part of a group has.
 pub fn size_at(group: usize) -> usize
     requires { ⌜ group < 52 ⌝ }
-    ensures { λ r. ⌜ r ≡ groupAt group .0 ⌝ }
+    ensures { λ r. ⌜ r ≡ groupAt group .octets ⌝ }
 {
     size_in(group) as usize
 }
@@ -320,7 +320,7 @@ pub fn first_rule(group: usize) -> usize
 // Whether a group is free: it has no rule.
 pub fn is_free(group: usize) -> bool
     requires { ⌜ group < 52 ⌝ }
-    ensures { λ r. ⌜ r ≡ groupAt group .4 ⌝ }
+    ensures { λ r. ⌜ r ≡ groupAt group .free ⌝ }
 {
     first_rule(group + 1) <= first_rule(group)
 }

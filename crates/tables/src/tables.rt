@@ -15,11 +15,22 @@ pub const TWOS: u8 = 1;
 pub const SPARE: u8 = 2;
 
 // A field: how many bits, what it holds, its least and its greatest value.
-pub struct FieldRow(pub u64, pub u8, pub i64, pub i64);
+pub struct FieldRow {
+    pub bits: u64,
+    pub holds: u8,
+    pub least: i64,
+    pub greatest: i64,
+}
 
 // A group, the fields of a part: how many octets the part has; the place of its first field and the one past its last; how many values it has;
 // whether it is free: every number of its octets is legal, so that its fields need no look.
-pub struct GroupRow(pub usize, pub usize, pub usize, pub usize, pub bool);
+pub struct GroupRow {
+    pub octets: usize,
+    pub first: usize,
+    pub end: usize,
+    pub values: usize,
+    pub free: bool,
+}
 
 // How the parts of an item lie: no item; one part; a count octet and parts; a length octet and contents; parts as far as FX bits say.
 pub const NONE: u8 = 0;
@@ -34,10 +45,19 @@ pub const EXTENDED: u8 = 4;
 
 // A layout: how its parts lie; the least and the greatest number of parts; the place of its first group and the one past its last.
 // The parts of an extended item have a group each, those of any other item share one.
-pub struct LayoutRow(pub u8, pub usize, pub usize, pub usize, pub usize);
+pub struct LayoutRow {
+    pub kind: u8,
+    pub least: usize,
+    pub most: usize,
+    pub first: usize,
+    pub end: usize,
+}
 
 // What a profile has at an FRN: the place of the layout, 0 where there is no item, and the number after the slash of the item's reference.
-pub struct PlaceRow(pub usize, pub u16);
+pub struct PlaceRow {
+    pub layout: usize,
+    pub reference: u16,
+}
 
 // How many profiles there are, and how many places each has here: FRN 0 to 35, of which 0 and those past a profile's end have no item.
 pub const PROFILES: usize = 2;
@@ -533,12 +553,12 @@ pub fn field_at(place: usize) -> FieldRow
 {
     let w = field_word(place);
     let range = (w % 100) as usize;
-    FieldRow(
-        (w / 1000) as u64,
-        (w / 100 % 10) as u8,
-        least_at(range),
-        greatest_at(range),
-    )
+    FieldRow {
+        bits: (w / 1000) as u64,
+        holds: (w / 100 % 10) as u8,
+        least: least_at(range),
+        greatest: greatest_at(range),
+    }
 }
 
 pub fn group_at(place: usize) -> GroupRow
@@ -547,13 +567,13 @@ pub fn group_at(place: usize) -> GroupRow
 {
     let w = group_word(place);
     let first = (w / 100_000 % 1_000) as usize;
-    GroupRow(
-        (w / 100_000_000) as usize,
-        first,
-        first + (w / 1_000 % 100) as usize,
-        (w / 10 % 100) as usize,
-        w % 10 == 1,
-    )
+    GroupRow {
+        octets: (w / 100_000_000) as usize,
+        first: first,
+        end: first + (w / 1_000 % 100) as usize,
+        values: (w / 10 % 100) as usize,
+        free: w % 10 == 1,
+    }
 }
 
 pub fn layout_at(place: usize) -> LayoutRow
@@ -562,19 +582,19 @@ pub fn layout_at(place: usize) -> LayoutRow
 {
     let w = layout_word(place);
     let first = (w / 10 % 1_000) as usize;
-    LayoutRow(
-        (w / 100_000_000) as u8,
-        (w / 10_000_000 % 10) as usize,
-        (w / 10_000 % 1_000) as usize,
-        first,
-        first + (w % 10) as usize,
-    )
+    LayoutRow {
+        kind: (w / 100_000_000) as u8,
+        least: (w / 10_000_000 % 10) as usize,
+        most: (w / 10_000 % 1_000) as usize,
+        first: first,
+        end: first + (w % 10) as usize,
+    }
 }
 
 // The place of the layout alone.
 pub fn layout_row(place: usize) -> usize
     requires { ⌜ place < 72 ⌝ }
-    ensures { λ r. ⌜ r ≡ placeRowAt place .0 ⌝ }
+    ensures { λ r. ⌜ r ≡ placeRowAt place .layout ⌝ }
 {
     layout_in(place) as usize
 }
@@ -583,5 +603,8 @@ pub fn place_at(place: usize) -> PlaceRow
     requires { ⌜ place < 72 ⌝ }
     ensures { λ r. ⌜ r ≡ placeRowAt place ⌝ }
 {
-    PlaceRow(layout_in(place) as usize, reference_in(place))
+    PlaceRow {
+        layout: layout_in(place) as usize,
+        reference: reference_in(place),
+    }
 }

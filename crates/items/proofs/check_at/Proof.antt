@@ -21,23 +21,23 @@ octets-at : (c : tie.After-shared-slice-known) → Octets (c .before .args .part
 octets-at c = octets-known (c .before .args .part .now) (λ i. omega (arith, c .shared-slice-known .given i))
 
 -- what the table says of it
-said : (c : tie.After-single-at) → c .single-at .result ≡ singleOf (layoutAt (placeRowAt (c .before .before .args .place) .0))
+said : (c : tie.After-single-at) → c .single-at .result ≡ singleOf (layoutAt (placeRowAt (c .before .before .args .place) .layout))
 said c = c .single-at .ensures ∙ single-is (c .before .before .args .place)
 
 -- it has one part, with a rule
-single-here : (c : tie.Then1) → Single (layoutAt (placeRowAt (c .before .before .before .args .place) .0)) (c .before .single-at .result - 8)
+single-here : (c : tie.Then1) → Single (layoutAt (placeRowAt (c .before .before .before .args .place) .layout)) (c .before .single-at .result - 8)
 single-here c = single-of _ _ (layout-sound _ (place-row _)) (said (c .before)) (c .if1 .taken)
 
 -- or it is free
-free-here : (c : tie.Then2) → Free (layoutAt (placeRowAt (c .before .before .before .before .args .place) .0)) (c .before .before .single-at .result)
+free-here : (c : tie.Then2) → Free (layoutAt (placeRowAt (c .before .before .before .before .args .place) .layout)) (c .before .before .single-at .result)
 free-here c = free-of _ _ (said (c .before .before)) (c .if2 .taken) (c .before .if1 .left)
 
 -- the layout of any other item, and its check
-row-at : (c : tie.After-layout-at) → c .layout-at .result ≡ layoutAt (placeRowAt (c .before .before .before .before .before .before .args .place) .0)
+row-at : (c : tie.After-layout-at) → c .layout-at .result ≡ layoutAt (placeRowAt (c .before .before .before .before .before .before .args .place) .layout)
 row-at c = c .layout-at .ensures ∙ ap layoutAt (c .before .layout-row .ensures)
 
 whole-at : (c : tie.After-whole-of)
-    → shapeIs (c .whole-of .result) ≡ wholeOf (layoutAt (placeRowAt (c .before .before .before .before .before .before .before .args .place) .0)) (c .before .before .before .before .before .before .before .args .part .now)
+    → shapeIs (c .whole-of .result) ≡ wholeOf (layoutAt (placeRowAt (c .before .before .before .before .before .before .before .args .place) .layout)) (c .before .before .before .before .before .before .before .args .part .now)
 whole-at c = c .whole-of .ensures ∙ ap (λ (l : LayoutRow). wholeOf l (c .before .before .before .before .before .before .before .args .part .now)) (row-at (c .before))
 
 single-at-requires : tie.Need-single-at-requires

@@ -13,12 +13,12 @@ place-of-requires c κs = search needs
 returns : tie.Need-returns
 returns c =
     let r = c .before .before .place-of in
-    sym (ap (isNamed _) (sym (r .ensures .0)) ∙ place-named _ (r .result) (r .ensures .1) ∙ rw (eq-eqb (r .result .0) 0 (c .if1 .taken)))
+    sym (ap (isNamed _) (sym (r .ensures .0)) ∙ place-named _ (r .result) (r .ensures .1) ∙ rw (eq-eqb (r .result .layout) 0 (c .if1 .taken)))
 
 returns-2 : tie.Need-returns-2
 returns-2 c =
     let r = c .before .before .before .place-of in
-    sym (ap (isNamed _) (sym (r .ensures .0)) ∙ place-named _ (r .result) (r .ensures .1) ∙ rw (ne-eqb (r .result .0) 0 (c .before .if1 .left)))
+    sym (ap (isNamed _) (sym (r .ensures .0)) ∙ place-named _ (r .result) (r .ensures .1) ∙ rw (ne-eqb (r .result .layout) 0 (c .before .if1 .left)))
 
 pub is-named-spec : {M : Type 1} → statement M
 is-named-spec = tie.close (tie.spec place-of-requires returns returns-2)

@@ -21,7 +21,7 @@ returns : tie.Need-returns
 returns c =
     let s = c .before .before .before in (
       ap placeIs (c .place-at .ensures) ∙ place-is (s .args .profile) (s .args .frn) (c .before .before .if1 .taken) (c .before .if2 .taken),
-      subst (λ r. r .0 < 51) (sym (c .place-at .ensures)) (place-row (s .args .profile * 36 + s .args .frn)),
+      subst (λ r. r .layout < 51) (sym (c .place-at .ensures)) (place-row (s .args .profile * 36 + s .args .frn)),
     )
 
 returns-2 : tie.Need-returns-2

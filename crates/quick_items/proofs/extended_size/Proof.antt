@@ -20,7 +20,7 @@ octets-at : (c : tie.After-shared-slice-known) → Octets (c .before .args .part
 octets-at c = octets-known (c .before .args .part .now) (λ i. omega (arith, c .shared-slice-known .given i))
 
 -- the word is sound
-sound-at : (c : tie.After-word-at) → soundExtended (c .before .before .args .t .now) (c .word-at .result) (layoutAt (placeRowAt (c .before .before .args .place) .0)) ≡ true
+sound-at : (c : tie.After-word-at) → soundExtended (c .before .before .args .t .now) (c .word-at .result) (layoutAt (placeRowAt (c .before .before .args .place) .layout)) ≡ true
 sound-at c = rw (c .word-at .ensures) (c .before .before .pre .2)
 
 -- each part obeys its rule

@@ -17,7 +17,7 @@ abbrev μ-loop : tie.MeasureT-loop
 
 -- the sizes of the parts so far
 fits-at : (c : tie.After-struct-known Inv-loop μ-loop)
-    → (c .before .before .before .before .before .before .before .before .before .loop .size + c .before .group-at .result .0 ≤ 8 * (c .before .before .before .before .before .before .before .before .before .loop .count + 1))
+    → (c .before .before .before .before .before .before .before .before .before .loop .size + c .before .group-at .result .octets ≤ 8 * (c .before .before .before .before .before .before .before .before .before .loop .count + 1))
     × (c .before .before .before .before .before .before .before .before .before .loop .count < 255)
 fits-at c =
     size-fits _ _ _ _ _ _ (c .before .before .before .before .before .before .before .before .before .loop .inv)

@@ -24,11 +24,11 @@ placed-at : (c : tie.After-group-at Inv-loop μ-loop)
     (c .before .before .before .before .before .before .before .before .before .before .before .args .count)
     (c .before .before .before .before .before .before .before .before .before .before .before .args .start)
     (now (c .before .before .before .before .before .before .before .before .before .before .before .args .out))
-    (eqb (c .before .before .before .before .before .before .before .before .before .layout-at .result .0) 4)
+    (eqb (c .before .before .before .before .before .before .before .before .before .layout-at .result .kind) 4)
     (c .before .before .before .before .before .before .before .loop .out)
     (c .before .before .before .before .before .before .before .loop .part) (c .before .before .before .before .before .before .before .loop .from)
     (c .before .before .before .before .before .before .before .loop .at) (c .before .before .number .given .0 .0) (c .before .before .number .given .0 .1 .0)
-    (c .group-at .result .0)
+    (c .group-at .result .octets)
 placed-at c =
     placed _ _ _ _ _ _ _ _ _ _ (c .before .before .before .before .before .before .before .loop .inv) (c .before .before .before .before .before .before .loop-test .taken) _
     (c .before .before .before .before .before .part-group .ensures .1) (c .group-at .ensures)
@@ -84,7 +84,7 @@ mark-requires c κs =
 lay-number-requires : tie.Need-lay-number-requires Inv-loop μ-loop
 lay-number-requires c κs =
     let t = placed-at (c .before .before) in
-    ((t .short, subst (λ x. x < 2 ^ (8 * c .before .before .group-at .result .0)) (sym (c .before .mark .ensures)) (t .fits)), t .fit)
+    ((t .short, subst (λ x. x < 2 ^ (8 * c .before .before .group-at .result .octets)) (sym (c .before .mark .ensures)) (t .fits)), t .fit)
 
 add-at : tie.Need-add-at Inv-loop μ-loop
 add-at c =

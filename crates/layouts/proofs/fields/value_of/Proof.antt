@@ -51,7 +51,7 @@ sub-down-2 c = search needs
 down-requires : tie.Need-down-requires
 down-requires c κs =
     let s = c .before .before .before .before .before in
-    omega (arith, c .pow22 .ensures, below63 (s .args .f .0) (2 ^ s .args .f .0 - 1) (s .pre .0 .1) (omega (arith, pow-pos (s .args .f .0))))
+    omega (arith, c .pow22 .ensures, below63 (s .args .f .bits) (2 ^ s .args .f .bits - 1) (s .pre .0 .1) (omega (arith, pow-pos (s .args .f .bits))))
 
 returns-3 : tie.Need-returns-3
 returns-3 c =

@@ -32,7 +32,7 @@ sub-w c = omega (arith, sound-at c .some)
 number-at-requires : tie.Need-number-at-requires
 number-at-requires c κs =
     let s = c .before .before in
-    (omega (arith, sound-at c .short), subst (λ (r : GroupRow). s .args .at + r .0 ≤ length (s .args .s .now)) (sym (c .group-at .ensures)) (s .pre .0 .3))
+    (omega (arith, sound-at c .short), subst (λ (r : GroupRow). s .args .at + r .octets ≤ length (s .args .s .now)) (sym (c .group-at .ensures)) (s .pre .0 .3))
 
 shr-n : tie.Need-shr-n
 shr-n c = search needs
@@ -42,17 +42,17 @@ fields-store-requires c κs =
     let s = c .before .before .before .before in
     let r = c .before .before .group-at in
     let o = one-part (s .args .step) (r .result) (c .before .number-at .result) (sound-at (c .before .before)) (c .before .number-at .ensures .1) in
-    ((sound-at (c .before .before) .inside, o .wide), ((omega (arith, o .few), o .small), subst (λ (x : GroupRow). s .args .q + count (rows (x .1) (x .2)) ≤ 8_192) (sym (r .ensures)) (s .pre .1)))
+    ((sound-at (c .before .before) .inside, o .wide), ((omega (arith, o .few), o .small), subst (λ (x : GroupRow). s .args .q + count (rows (x .first) (x .end)) ≤ 8_192) (sym (r .ensures)) (s .pre .1)))
 
 returns : tie.Need-returns
 returns c =
     let s = c .before .before .before .before .before in
     let r = c .before .before .before .group-at in
     let f = c .fields-store .ensures in (
-      f .0 ∙ ap (λ (x : GroupRow). s .args .q + count (rows (x .1) (x .2))) (r .ensures),
+      f .0 ∙ ap (λ (x : GroupRow). s .args .q + count (rows (x .first) (x .end))) (r .ensures),
       f .1
-          ∙ ap (λ n. sets (now (s .args .out)) (s .args .q) (values (rows (r .result .1) (r .result .2)) (n / 2 ^ s .args .step))) (c .before .before .number-at .ensures .0)
-          ∙ ap (λ (x : GroupRow). sets (now (s .args .out)) (s .args .q) (values (rows (x .1) (x .2)) (joined (take (x .0) (drop (s .args .at) (s .args .s .now))) / 2 ^ s .args .step))) (r .ensures),
+          ∙ ap (λ n. sets (now (s .args .out)) (s .args .q) (values (rows (r .result .first) (r .result .end)) (n / 2 ^ s .args .step))) (c .before .before .number-at .ensures .0)
+          ∙ ap (λ (x : GroupRow). sets (now (s .args .out)) (s .args .q) (values (rows (x .first) (x .end)) (joined (take (x .octets) (drop (s .args .at) (s .args .s .now))) / 2 ^ s .args .step))) (r .ensures),
     )
 
 pub part-store-spec : {M : Type 1} → statement M

@@ -36,7 +36,7 @@ group-at-requires c κs = first-of (c .before .before) .inside
 add-p : tie.Need-add-p Inv-loop μ-loop
 add-p c =
     let s = c .before .before .before .before .before .before .before in
-    let e : c .before .group-at .result .0 ≡ groupAt (c .before .before .before .before .before .loop .g) .0 = ap (λ (r : GroupRow). r .0) (c .before .group-at .ensures) in
+    let e : c .before .group-at .result .octets ≡ groupAt (c .before .before .before .before .before .loop .g) .octets = ap (λ (r : GroupRow). r .octets) (c .before .group-at .ensures) in
     omega (arith, first-of (c .before .before .before .before) .spans, c .before .before .before .before .before .loop .inv .place, s .pre .0 .2, s .good .0 .0)
 
 add-g : tie.Need-add-g Inv-loop μ-loop

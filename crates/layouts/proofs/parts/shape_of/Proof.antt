@@ -5,7 +5,7 @@ use borrow.Author.Needs.{needs}
 use Rattle.layouts.proofs.parts.shape_of.Statement.{statement}
 use Rattle.layouts.proofs.parts.shape_of.Tie as tie
 
-list-at : (c : tie.Else6) → c .before .before .before .before .before .before .before .before .args .l .0 ≡ 2
+list-at : (c : tie.Else6) → c .before .before .before .before .before .before .before .before .args .l .kind ≡ 2
 list-at c = a-list _ (rowed _ (c .before .before .before .before .before .before .before .before .pre)) (c .before .before .before .before .before .before .if1 .left) (c .before .before .before .before .before .if2 .left) (c .before .before .before .before .if4 .left) (c .if6 .left)
 
 returns : tie.Need-returns
