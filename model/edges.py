@@ -1,8 +1,7 @@
-"""Writes tests/vectors/edges-questions.txt and -answers.txt from tables.py: every item at its edges, read and written.
+"""The vectors tests/vectors/edges-questions.txt and -answers.txt, from tables.py: every item at its edges, read
+and written. Written by make.py.
 
-    python3 model/edges.py
-
-For each item of both categories: each field at its least and its greatest value and one past each; each spare
+For each item of each category: each field at its least and its greatest value and one past each; each spare
 bit set alone; an octet too few and one too many; room for it and one octet less. For lists no part, one,
 255 and one more than may be; for the led item its least and greatest contents and one past each; for
 extended items each number of parts, and FX set in the last. Then numbers that no item has, lists longer than
@@ -10,7 +9,7 @@ any item's, rooms of any size, and records added at their edges. The answers are
 made to show is asked of each before anything is written.
 """
 
-import pathlib
+import functools
 
 import reading
 import tables
@@ -153,7 +152,7 @@ def others():
             if reference not in known:
                 for question in ("read %d %s 00" % (category.number, reference), "write %d %s 9 0" % (category.number, reference)):
                     yield question, "refused 21 at 0"
-    for number in (0, 16, 19, 61, 255):
+    for number in (n for n in (0, 16, 19, 61, 255) if n not in tables.CATEGORIES):
         for question in ("read %d 000 00" % number, "write %d 000 9 0" % number, "write %d 000 0 300" % number):
             yield question, "refused 21 at 0"
 
@@ -202,17 +201,20 @@ def additions():
     yield "add %s 99 1,2,3,5 %s" % (whole, items), "ok 21 110015" + whole[6:] + whole[6:]
 
 
-def main():
-    root = pathlib.Path(__file__).resolve().parents[1]
-    pairs = [pair for category in tables.CATEGORIES.values() for item in category.items for pair in cases(category, item)]
+@functools.cache
+def pairs():
+    """Every question with its answer, once."""
+    out = [pair for category in tables.CATEGORIES.values() for item in category.items for pair in cases(category, item)]
     for question, answer in [*others(), *numbers(), *additions()]:
         if reading.answer(question) != answer:
             raise SystemExit("%s: %s" % (question, reading.answer(question)))
-        pairs.append((question, answer))
-    pairs = list(dict.fromkeys(pairs))
-    for name, side in (("questions", 0), ("answers", 1)):
-        (root / "tests" / "vectors" / ("edges-%s.txt" % name)).write_text("".join(pair[side] + "\n" for pair in pairs))
+        out.append((question, answer))
+    return list(dict.fromkeys(out))
 
 
-if __name__ == "__main__":
-    main()
+def questions():
+    return "".join(question + "\n" for question, _ in pairs())
+
+
+def answers():
+    return "".join(answer + "\n" for _, answer in pairs())

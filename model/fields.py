@@ -1,18 +1,18 @@
-"""Writes docs/FIELDS.md from tables.py: every item of both categories, its layout and its fields.
-
-    python3 model/fields.py
+"""The page docs/FIELDS.md, from tables.py: every item of each category, its layout and its fields. Written
+by make.py.
 """
 
-import pathlib
+import textwrap
 
 import tables
 from tables import FX, SIGNED, SPARE
 
+FIRST = """Every item of %s, as it is read and written here. Made from model/tables.py by model/make.py; R1 to R11 are
+rows of DECISIONS.md. Section numbers are those of the category's own document."""
+
 HEAD = """# Items and fields
 
-Every item of categories 017 (document 000, edition 1.3) and 018 (document 002, edition 1.6), as it
-is read and written here. Made from model/tables.py by model/fields.py; R1 to R11 are rows of
-DECISIONS.md. Section numbers are those of the category's own document.
+%s
 
 - Bits are numbered as the documents do, 1 being the lowest bit of the last octet. `48/25` is bits 48
   down to 25. Octets go high octet first.
@@ -118,13 +118,8 @@ def written(category):
             yield ("| %s | %s | %s | %s | %s |" % row).replace("  ", " ").replace("  ", " ")
 
 
-def main():
-    lines = [HEAD]
+def page():
+    lines = [HEAD % textwrap.fill(FIRST % tables.editions(), 100)]
     for category in tables.CATEGORIES.values():
         lines += list(written(category)) + [""]
-    page = pathlib.Path(__file__).resolve().parents[1] / "docs" / "FIELDS.md"
-    page.write_text("\n".join(lines).rstrip("\n") + "\n", encoding="utf-8")
-
-
-if __name__ == "__main__":
-    main()
+    return "\n".join(lines).rstrip("\n") + "\n"

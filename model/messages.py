@@ -1,19 +1,19 @@
-"""Writes docs/MESSAGES.md, and tests/vectors/messages-questions.txt and -answers.txt, from tables.py.
-
-    python3 model/messages.py
+"""The page docs/MESSAGES.md, and tests/vectors/messages-questions.txt and -answers.txt, from tables.py.
+Written by make.py.
 
 For every known message type a block of one record with its compulsory items only, and the same block
 without each of them. The answers are reading.py's; what document 01 says of these blocks (14; 12 for
 the message type item; 7 where no item is left) is asked of them before anything is written.
 """
 
-import pathlib
+import functools
+import textwrap
 
 import reading
 import tables
 from tables import FX, SPARE
 
-# ---- the fields of each item that some type must send (the message type apart)
+# ---- the fields of items that some type must send; an item that is not here has those of `middle`
 
 VALUES = {
     17: {
@@ -52,12 +52,13 @@ VALUES = {
     },
 }
 
+FIRST = """For every known message type of %s: one block that is accepted, with only the type's compulsory items, and
+the same block without each of them. Made from model/tables.py by model/make.py, as are the same blocks,
+with their answers, in tests/vectors/messages-questions.txt and messages-answers.txt."""
+
 HEAD = """# Message types
 
-For every known message type of categories 017 (document 000, edition 1.3) and 018 (document 002, edition
-1.6): one block that is accepted, with only the type's compulsory items, and the same block without each
-of them. Made from model/tables.py by model/messages.py, as are the same blocks, with their
-answers, in tests/vectors/messages-questions.txt and messages-answers.txt.
+%s
 
 - Each block holds one record, which starts at place 3. Lists have one part, the led item two content
   octets, extended items no extent. Fields are named as in FIELDS.md.
@@ -80,7 +81,11 @@ def block(category, values):
     for frn in frns:
         reference = tables.usable(category)[frn]
         item = known[reference]
-        parts.append(("I%03d/%s" % (category.number, reference), reading.write_item(item, values[reference]), said(item, values[reference])))
+        name = "I%03d/%s" % (category.number, reference)
+        try:
+            parts.append((name, reading.write_item(item, values[reference]), said(item, values[reference])))
+        except reading.Refused:
+            raise SystemExit("messages.py: VALUES has no such fields as %s has" % name)
     length = 3 + sum(len(octets) for _, octets, _ in parts)
     parts = [("CAT", bytes([category.number]), str(category.number)), ("LEN", length.to_bytes(2, "big"), str(length))] + parts
     return b"".join(octets for _, octets, _ in parts), parts
@@ -109,6 +114,12 @@ def spaced(octets):
     return octets.hex(" ").upper()
 
 
+def middle(item):
+    """The number in the middle of each field's range, of one part or of as few contents as may be."""
+    values = [(field.least + field.greatest) // 2 for field in item.parts[0] if field.kind not in (SPARE, FX)]
+    return values * (item.least if item.form == "led" else 1)
+
+
 def expected(reference, left):
     """What document 01 says of an accepted block without one compulsory item."""
     return "refused %d at 3" % (7 if not left else 12 if reference == "000" else 14)
@@ -117,7 +128,8 @@ def expected(reference, left):
 def cases(category, row):
     """(reference left out or None, octets, parts, answer) for a message type."""
     compulsory = row.compulsory.split()
-    values = {reference: VALUES[category.number].get(reference, [row.number]) for reference in compulsory}
+    chosen = {"000": [row.number], **VALUES.get(category.number, {})}
+    values = {reference: chosen.get(reference) or middle(tables.items(category)[reference]) for reference in compulsory}
     for missing in [None] + compulsory:
         kept = {reference: fields for reference, fields in values.items() if reference != missing}
         octets, parts = block(category, kept)
@@ -132,14 +144,14 @@ def cases(category, row):
 
 def number(category, kind):
     """A message type as its document prints it."""
-    return "%02Xh" % kind if category.number == 18 else "%03d" % kind
+    return "%02Xh" % kind if category.base == 16 else "%03d" % kind
 
 
 def summary(category):
     yield "## Category %03d" % category.number
     yield ""
     yield "Sections 5.2.1 (numbers%s) and 5.3.2 (items). Items are named by the number after the slash." % (
-        ", hexadecimal" if category.number == 18 else ", decimal")
+        ", hexadecimal" if category.base == 16 else ", decimal")
     yield ""
     yield "| Type | Name | Compulsory | Optional |"
     yield "|--|--|--|--|"
@@ -176,8 +188,8 @@ def listed(category):
             number(category, row.number), row.name, category.number, cell.reference, cell.printed.replace("*", "\\*"), cell.ground)
 
 
-def page():
-    yield HEAD
+def lines():
+    yield HEAD % textwrap.fill(FIRST % tables.editions(), 105)
     for category in tables.CATEGORIES.values():
         yield from summary(category)
         yield ""
@@ -195,15 +207,23 @@ def page():
         yield from listed(category)
 
 
-def main():
-    root = pathlib.Path(__file__).resolve().parents[1]
-    (root / "docs" / "MESSAGES.md").write_text("\n".join(page()) + "\n", encoding="utf-8")
-    pairs = [("block " + octets.hex().upper(), answer)
-             for category in tables.CATEGORIES.values() for row in category.messages
-             for _, octets, _, answer in cases(category, row)]
-    for name, side in (("questions", 0), ("answers", 1)):
-        (root / "tests" / "vectors" / ("messages-%s.txt" % name)).write_text("".join(pair[side] + "\n" for pair in pairs))
+def page():
+    return "\n".join(lines()) + "\n"
 
 
-if __name__ == "__main__":
-    main()
+# ---- the vectors
+
+@functools.cache
+def pairs():
+    """Each block as a question, and its answer."""
+    return [("block " + octets.hex().upper(), answer)
+            for category in tables.CATEGORIES.values() for row in category.messages
+            for _, octets, _, answer in cases(category, row)]
+
+
+def questions():
+    return "".join(question + "\n" for question, _ in pairs())
+
+
+def answers():
+    return "".join(answer + "\n" for _, answer in pairs())

@@ -1,24 +1,13 @@
-"""Writes samples/messages.rec and crates/asterix_check/stdin and stdout from tests/vectors/messages-questions.txt.
+"""The recording samples/messages.rec, which is the input of crates/asterix_check too, and the line that is
+answered to it. Written by make.py.
 
-    python3 model/samples.py
-
-The recording has the accepted block of every message type, one after the other, and then for each category
-one block that holds the records of all of them. reading.py says how it is answered.
+It has the accepted block of every message type, one after the other, and then for each category one block
+that holds the records of all of them. reading.py says how it is answered.
 """
 
-import pathlib
-
+import messages
 import reading
-
-ROOT = pathlib.Path(__file__).resolve().parents[1]
-
-
-def blocks():
-    """The accepted blocks, as octets."""
-    vectors = ROOT / "tests" / "vectors"
-    questions = (vectors / "messages-questions.txt").read_text().splitlines()
-    answers = (vectors / "messages-answers.txt").read_text().splitlines()
-    return [bytes.fromhex(question.split()[1]) for question, answer in zip(questions, answers) if answer.startswith("ok ")]
+import tables
 
 
 def joined(parts):
@@ -27,15 +16,11 @@ def joined(parts):
     return parts[0][:1] + (3 + len(records)).to_bytes(2, "big") + records
 
 
-def main():
-    singles = blocks()
-    several = [joined([block for block in singles if block[0] == number]) for number in (17, 18)]
-    recording = b"".join(singles + several)
-    line = "accepted %d blocks %d records\n" % reading.read_recording(recording)
-    (ROOT / "samples" / "messages.rec").write_bytes(recording)
-    (ROOT / "crates" / "asterix_check" / "stdin").write_bytes(recording)
-    (ROOT / "crates" / "asterix_check" / "stdout").write_text(line)
+def recording():
+    singles = [bytes.fromhex(question.split()[1]) for question, answer in messages.pairs() if answer.startswith("ok ")]
+    several = [joined([block for block in singles if block[0] == number]) for number in tables.CATEGORIES]
+    return b"".join(singles + several)
 
 
-if __name__ == "__main__":
-    main()
+def line():
+    return "accepted %d blocks %d records\n" % reading.read_recording(recording())

@@ -19,8 +19,9 @@ from collections import namedtuple
 
 UNSIGNED, SIGNED, SPARE, FX = "unsigned", "signed", "spare", "fx"
 
-# One field: least and greatest are the values it may have, says is what they mean.
-Field = namedtuple("Field", "name bits width kind unit least greatest says")
+# One field: least and greatest are the values it may have, says is what they mean; called is its name
+# where its item's title does not stand beside it.
+Field = namedtuple("Field", "name bits width kind unit least greatest says called")
 
 # One item. form is fixed, list, led or extended; octets is the size of one part; least and greatest
 # say how many parts there may be (fixed: one; list: what the count octet may say; led: content
@@ -30,31 +31,33 @@ Item = namedtuple("Item", "reference section title form octets least greatest pa
 # One row of a profile: no reference where the FRN is unusable.
 Place = namedtuple("Place", "frn reference says")
 
-# One message type: the items that it must send, and those that it may send, in profile order.
-Message = namedtuple("Message", "number name compulsory optional")
+# One message type: the items that it must send, and those that it may send, in profile order; also is
+# the name over its column of 5.3.2, where that is another.
+Message = namedtuple("Message", "number name compulsory optional also", defaults=[""])
 
 # A cell that depends on more than the message type, as printed in the table, and the ground.
 Cell = namedtuple("Cell", "number reference printed ground")
 
-# A category: octets is the most that an FSPEC has; time is the item that is a record's time, and
-# untimed has the message types in which it is not (document 02, W-201).
-Category = namedtuple("Category", "number document edition octets items profile messages cells time untimed note")
+# A category: octets is the most that an FSPEC has; base is that in which its document prints the numbers
+# of message types; time is the item that is a record's time, and untimed has the message types in which
+# it is not (document 02, W-201).
+Category = namedtuple("Category", "number document edition octets base items profile messages cells time untimed note")
 
 
-def unsigned(name, bits, width, unit="", says="", least=0, greatest=None):
+def unsigned(name, bits, width, unit="", says="", least=0, greatest=None, called=None):
     top = 2 ** width - 1 if greatest is None else greatest
-    return Field(name, bits, width, UNSIGNED, unit, least, top, says)
+    return Field(name, bits, width, UNSIGNED, unit, least, top, says, called or name)
 
 
-def signed(name, bits, width, unit, says, least, greatest):
-    return Field(name, bits, width, SIGNED, unit, least, greatest, says)
+def signed(name, bits, width, unit, says, least, greatest, called=None):
+    return Field(name, bits, width, SIGNED, unit, least, greatest, says, called or name)
 
 
 def spare(bits, width):
-    return Field("spare", bits, width, SPARE, "", 0, 0, "zero")
+    return Field("spare", bits, width, SPARE, "", 0, 0, "zero", "spare")
 
 
-FX_BIT = Field("FX", "1", 1, FX, "", 0, 1, "1: another octet follows")
+FX_BIT = Field("FX", "1", 1, FX, "", 0, 1, "1: another octet follows", "FX")
 
 
 def fixed(reference, section, title, octets, *fields, note=""):
@@ -66,7 +69,7 @@ def repeated(reference, section, title, octets, least, *fields, note=""):
 
 
 def led(reference, section, title, least, greatest, note=""):
-    content = unsigned("content", "8/1", 8, says="one octet of the packet")
+    content = unsigned("content", "8/1", 8, says="one octet of the packet", called="an octet of the contents")
     return Item(reference, section, title, "led", 1, least, greatest, [[content]], note)
 
 
@@ -81,7 +84,7 @@ DAY = 24 * 3600 * 128 - 1  # 11,059,199: the last 1/128 s of a day
 
 ITEMS_017 = [
     fixed("000", "5.2.1", "Message Type", 1,
-          unsigned("type", "8/1", 8, says="a decimal number; those known are in MESSAGES.md")),
+          unsigned("type", "8/1", 8, says="a decimal number; those known are in MESSAGES.md", called="message type")),
     fixed("010", "5.2.2", "Data Source Identifier", 2,
           unsigned("SAC", "16/9", 8, says="system area code"),
           unsigned("SIC", "8/1", 8, says="system identity code")),
@@ -101,19 +104,19 @@ ITEMS_017 = [
           unsigned("G", "15", 1, says="1: garbled code"),
           unsigned("L", "14", 1, says="1: smoothed, not from the last scan"),
           spare("13", 1),
-          unsigned("code", "12/1", 12, says="four octal digits A, B, C, D, as one number (R9)")),
+          unsigned("code", "12/1", 12, says="four octal digits A, B, C, D, as one number (R9)", called="Mode 3/A code")),
     fixed("140", "5.2.7", "Time of Day", 3,
-          unsigned("time", "24/1", 24, "1/128 s", "since midnight, UTC", greatest=DAY),
+          unsigned("time", "24/1", 24, "1/128 s", "since midnight, UTC", greatest=DAY, called="time of day"),
           note=LOST),
     fixed("200", "5.2.8", "Track Velocity in Polar Co-ordinates", 4,
           unsigned("speed", "32/17", 16, "2^-14 NM/s", "ground speed"),
           unsigned("heading", "16/1", 16, "360/2^16 degree", "from geographical north at the aircraft"),
           note="The figure is lost; the two units place speed above heading (R8), and no range is left to enforce (R6)."),
     repeated("210", "5.2.9", "Mode S Address List", 3, 0,
-             unsigned("address", "24/1", 24, says="Mode S address, A23 to A0"),
+             unsigned("address", "24/1", 24, says="Mode S address, A23 to A0", called="Mode S address"),
              note="The empty list is its encoding rule's own (R4). " + LOST),
     fixed("220", "5.2.10", "Aircraft Address", 3,
-          unsigned("address", "24/1", 24, says="Mode S address, A23 to A0"),
+          unsigned("address", "24/1", 24, says="Mode S address, A23 to A0", called="aircraft address"),
           note=LOST),
     fixed("221", "5.2.11", "Duplicate Address Reference Number (DRN)", 2,
           unsigned("DRN", "16/1", 16, says="tells apart aircraft that share an address"),
@@ -131,28 +134,28 @@ ITEMS_017 = [
              unsigned("SAC", "16/9", 8, says="system area code"),
              unsigned("SIC", "8/1", 8, says="system identification code")),
     fixed("360", "5.2.15", "Cluster Controller Command State", 1,
-          unsigned("state", "8/1", 8, says="number of the state to be selected")),
+          unsigned("state", "8/1", 8, says="number of the state to be selected", called="cluster controller command state")),
 ]
 
 # ---- 5.2 of category 018
 
 ITEMS_018 = [
     fixed("000", "5.2.1", "Message Type", 1,
-          unsigned("type", "8/1", 8, says="those known, in hexadecimal, are in MESSAGES.md"),
+          unsigned("type", "8/1", 8, says="those known, in hexadecimal, are in MESSAGES.md", called="message type"),
           note=LOST),
     fixed("001", "5.2.2", "Result", 1,
           unsigned("CAUSE", "8/5", 4, says="0 accepted, 1 rejected, 2 cancelled, 3 finished, 4 delayed, 5 in progress, 6 invalid"),
           unsigned("DIAG", "4/1", 4, says="what led to CAUSE; 0 is none")),
     fixed("002", "5.2.3", "Time of Day", 3,
-          unsigned("time", "24/1", 24, "1/128 s", "since midnight, UTC", greatest=DAY),
+          unsigned("time", "24/1", 24, "1/128 s", "since midnight, UTC", greatest=DAY, called="time of day"),
           note=LOST),
     fixed("004", "5.2.4", "II Code", 1,
           unsigned("former", "8/5", 4, says="former II code"),
           unsigned("current", "4/1", 4, says="current II code")),
     fixed("005", "5.2.5", "Mode S Address", 3,
-          unsigned("address", "24/1", 24, says="Mode S address, A23 to A0")),
+          unsigned("address", "24/1", 24, says="Mode S address, A23 to A0", called="Mode S address")),
     repeated("006", "5.2.6", "Mode S Address List", 3, 1,
-             unsigned("address", "24/1", 24, says="Mode S address, A23 to A0")),
+             unsigned("address", "24/1", 24, says="Mode S address, A23 to A0", called="Mode S address")),
     fixed("007", "5.2.7", "Aircraft Data Link Command", 1,
           unsigned("UM", "8", 1, says="1: UC is taken into account"),
           unsigned("DM", "7", 1, says="1: DC is taken into account"),
@@ -190,12 +193,12 @@ ITEMS_018 = [
           spare("8/4", 5),
           unsigned("COM", "3/1", 3, says="0 surveillance only, up to 4; 5 to 7 aren't assigned")),
     fixed("011", "5.2.11", "Capability Report", 7,
-          unsigned("report", "56/1", 56, says="as the Mode S subnetwork SARPs have it, one number (R9)")),
+          unsigned("report", "56/1", 56, says="as the Mode S subnetwork SARPs have it, one number (R9)", called="capability report")),
     fixed("012", "5.2.12", "Aircraft Coverage Quality Factor", 1,
           unsigned("FS", "8", 1, says="1: on the ground"),
           unsigned("CQF", "7/1", 7, says="1 least to 126 greatest; 0 not supported, 127 undefined")),
     fixed("013", "5.2.13", "Aircraft CQF Calculation Method", 1,
-          unsigned("method", "8/1", 8, says="number of the method"),
+          unsigned("method", "8/1", 8, says="number of the method", called="CQF calculation method"),
           note=LOST),
     fixed("014", "5.2.14", "Aircraft Position in Polar Co-ordinates", 4,
           unsigned("RHO", "32/17", 16, "1/256 NM", "range"),
@@ -206,10 +209,10 @@ ITEMS_018 = [
           signed("Y", "16/1", 16, "1/128 NM", "", -32768, 32767),
           note="\"Max. range\" bars no number (R6)."),
     fixed("016", "5.2.16", "Packet Number", 4,
-          unsigned("number", "32/1", 32, says="of an uplink packet"),
+          unsigned("number", "32/1", 32, says="of an uplink packet", called="packet number"),
           note=LOST),
     repeated("017", "5.2.17", "Packet Number List", 4, 1,
-             unsigned("number", "32/1", 32, says="of an uplink packet"),
+             unsigned("number", "32/1", 32, says="of an uplink packet", called="packet number"),
              note=LOST),
     fixed("018", "5.2.18", "Mode S Packet Properties", 1,
           spare("8", 1),
@@ -218,7 +221,7 @@ ITEMS_018 = [
     led("019", "5.2.19", "Mode S Packet", 2, 254,
         note="Section 5.2.19 is missing; the profile prints \"3+\", so the length octet is 3 to 255 (R2)."),
     fixed("020", "5.2.20", "Broadcast Number", 4,
-          unsigned("number", "32/1", 32, says="of an uplink broadcast"),
+          unsigned("number", "32/1", 32, says="of an uplink broadcast", called="broadcast number"),
           note=LOST),
     fixed("021", "5.2.21", "Broadcast Properties", 6,
           unsigned("priority", "48/45", 4, says="0 lowest"),
@@ -231,15 +234,15 @@ ITEMS_018 = [
     fixed("023", "5.2.23", "Uplink or Downlink Broadcast", 7,
           unsigned("broadcast", "56/1", 56, says="MA or MB field, one number (R9)")),
     fixed("025", "5.2.24", "GICB Number", 4,
-          unsigned("number", "32/1", 32, says="of a GICB request")),
+          unsigned("number", "32/1", 32, says="of a GICB request", called="GICB number")),
     fixed("027", "5.2.25", "BDS Code", 1,
-          unsigned("BDS", "8/1", 8, says="register of the transponder"),
+          unsigned("BDS", "8/1", 8, says="register of the transponder", called="BDS code"),
           note=LOST),
     fixed("028", "5.2.26", "GICB Extraction Periodicity", 2,
-          unsigned("seconds", "16/1", 16, "s", "0: the smallest there is"),
+          unsigned("seconds", "16/1", 16, "s", "0: the smallest there is", called="periodicity"),
           note=LOST),
     fixed("029", "5.2.27", "GICB Extracted", 7,
-          unsigned("GICB", "56/1", 56, says="MB field, one number (R9)")),
+          unsigned("GICB", "56/1", 56, says="MB field, one number (R9)", called="GICB extracted")),
     fixed("030", "5.2.28", "GICB Properties", 2,
           unsigned("priority", "16/12", 5, says="0 lowest"),
           spare("11/9", 3),
@@ -249,18 +252,18 @@ ITEMS_018 = [
           unsigned("RD", "5/4", 2, says="reply goes to 0 data link, 1 surveillance, 2 both"),
           spare("3/1", 3)),
     fixed("031", "5.2.29", "Aircraft Identity", 6,
-          unsigned("identity", "48/1", 48, says="eight characters of BDS 20, one number (R9)"),
+          unsigned("identity", "48/1", 48, says="eight characters of BDS 20, one number (R9)", called="aircraft identity"),
           note=LOST),
     fixed("032", "5.2.30", "Aircraft Mode A", 2,
           unsigned("V", "16", 1, says="1: code not validated"),
           unsigned("G", "15", 1, says="1: garbled code"),
           unsigned("L", "14", 1, says="1: not from the last scan"),
           spare("13", 1),
-          unsigned("code", "12/1", 12, says="four octal digits A, B, C, D, as one number (R9)")),
+          unsigned("code", "12/1", 12, says="four octal digits A, B, C, D, as one number (R9)", called="Mode A code")),
     fixed("033", "5.2.31", "Aircraft Height", 2,
           unsigned("V", "16", 1, says="1: code not validated"),
           unsigned("G", "15", 1, says="1: garbled code"),
-          signed("level", "14/1", 14, "25 ft", "a quarter of a flight level", -8192, 8191),
+          signed("level", "14/1", 14, "25 ft", "a quarter of a flight level", -8192, 8191, called="flight level"),
           note="The level is two's complement (R7)."),
     fixed("034", "5.2.32", "Aircraft Speed", 2,
           unsigned("speed", "16/1", 16, "2^-14 NM/s", "at most 2 NM/s (R6)", greatest=32768)),
@@ -297,7 +300,7 @@ PROFILE_017 = [
     Place(18, None, "spare"),
     Place(19, None, "spare"),
     Place(20, None, "spare"),
-    Place(21, None, "reserved for special purpose"),
+    Place(21, None, "reserved for Special Purpose Indicator"),
 ]
 
 # ---- 5.3.1 of category 018, table 9
@@ -347,7 +350,7 @@ MESSAGES_017 = [
     Message(10, "Track data", "010 012 000 220 140 045 070 050 200 230", "221 240"),
     Message(20, "Track data request", "010 012 000 220", ""),
     Message(21, "Track data stop", "010 012 000 220", ""),
-    Message(22, "Cancel track data request", "010 012 000 220", "221"),
+    Message(22, "Cancel track data request", "010 012 000 220", "221", "Cancellation of Track Data"),
     Message(23, "Track data stop acknowledgement", "010 012 000 220", ""),
     Message(30, "New Node / Change-over, initial or intermediate message segment", "010 012 000 210", ""),
     Message(31, "New Node / Change-over, final or only message segment", "010 012 000 210", ""),
@@ -424,11 +427,17 @@ CELLS_018 = [
 ]
 
 CATEGORIES = {
-    17: Category(17, "000", "1.3", 3, ITEMS_017, PROFILE_017, MESSAGES_017, CELLS_017, "140", [],
+    17: Category(17, "000", "1.3", 3, 10, ITEMS_017, PROFILE_017, MESSAGES_017, CELLS_017, "140", [],
                  "Table 2 and the sentence below it give the FSPEC three octets."),
-    18: Category(18, "002", "1.6", 5, ITEMS_018, PROFILE_018, MESSAGES_018, CELLS_018, "002", [0x40],
+    18: Category(18, "002", "1.6", 5, 16, ITEMS_018, PROFILE_018, MESSAGES_018, CELLS_018, "002", [0x40],
                  "Table 9 gives the FSPEC five octets, the sentence below it six; the table is followed (R1)."),
 }
+
+
+def editions():
+    """The categories, each with its document and edition, as a phrase."""
+    said = ["%03d (document %s, edition %s)" % (c.number, c.document, c.edition) for c in CATEGORIES.values()]
+    return "categories " + " and ".join([", ".join(said[:-1])] * (len(said) > 1) + said[-1:])
 
 
 # ---- what must hold of it all

@@ -16,10 +16,11 @@ ghost use Rattle.measuring.specs.Shape.{soundShapes, Told};
 
 pub type Shapes = [u64; 128];
 
-// 64 shapes, made and compared by model/shapes.py, each where `quick_records::slot_of` looks for it: those of `quick_records` that have no item with FX bits, one list or
+// 64 shapes, made by model/make.py, each where `quick_records::slot_of` looks for it: those of `quick_records` that have no item with FX bits, one list or
 // led item at most, and no time after that. A shape has two words, with columns: the category, less 17; nothing; the octets of the FSPEC; the FSPEC, its
 // first octet lowest _ where in the record the time stands; the octets of the record without the parts of its list; where the list stands; the octets
 // of a part. A led item is a list of octets, its length octet among them. Where there is no time or no list, its columns are 0.
+// ---- made by model/make.py: SHAPES
 const SHAPES: Shapes = [
     0x1_0000_1_00000000E0, // no shape: category 018, FSPEC E0 again
     0x00_06_00_0,
@@ -150,6 +151,7 @@ const SHAPES: Shapes = [
     0x1_0000_2_00000040E9, // category 018, FSPEC E9 40: type 0x23
     0x00_0A_0A_1,
 ];
+// ---- end of what is made
 
 pub fn shapes() -> Shapes
     ensures { λ r. ⌜ soundShapes r ≡ true ⌝ }

@@ -4,12 +4,15 @@ ghost use mathlib.Core.Bool.{true};
 ghost use Rattle.quick_records.specs.Record.{soundTypes};
 ghost use Rattle.quick_records.specs.Shape.{soundSets};
 
+// ---- made by model/make.py: Types, Sets
 pub type Types = [u8; 256];
 
 pub type Sets = [u64; 328];
+// ---- end of what is made
 
 // Message types, and the octets of the first items. A type's row, 0 where it is unknown, by profile and type, of which no known one is above 111; then, by
 // profile and the presence bits of FRN 4 to 7, the octets of FRN 1 to 7 where FRN 1 to 3 are there and all are free and fixed, else 0.
+// ---- made by model/make.py: TYPES
 const TYPES: Types = [
     1, // I017/000  5.2.1  0  Network information
     0,
@@ -268,13 +271,15 @@ const TYPES: Types = [
     13, // category 018, FRN 1 to 3, 4, 5, 6
     0, // category 018, FRN 1 to 3, 4, 5, 6, 7
 ];
+// ---- end of what is made
 
 // Rows of message types: what the type must have; what it must or may have. The first row is no type's.
 //
-// Then 64 shapes, made and compared by model/shapes.py, each where `slot_of` looks for it: FSPECs that are legal for some message type, all but those of Aircraft_report, with what follows
+// Then 64 shapes, made by model/make.py, each where `slot_of` looks for it: FSPECs that are legal for some message type, all but those of Aircraft_report, with what follows
 // from them. A shape has four words, with columns, the right one first: the FSPEC, its first octet lowest; its octets; where in the record the item
 // stands that is looked into; how many octets the free items after it take; the category, less 17 _ the message types, bit n for row n; the item's word,
 // as in `quick_items::steps` _ the item's rule, as there _ the items that are left then. Where no item is looked into, the place is that of FRN 1, the word 0, the rule any bits.
+// ---- made by model/make.py: SETS
 const SETS: Sets = [
     0,
     0,
@@ -605,6 +610,7 @@ const SETS: Sets = [
     0x28_FFFFFF_00_000000,
     0,
 ];
+// ---- end of what is made
 
 pub fn type_table() -> Types
     ensures { λ r. ⌜ soundTypes r ≡ true ⌝ }

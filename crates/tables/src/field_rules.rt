@@ -8,6 +8,7 @@ ghost use Rattle.tables.specs.Tables.{groupAt};
 ghost use Rattle.tables.specs.FieldRules.{obeys, allObeyed, rules, ruleAt, firstRule, ruleWords, addedTo, limits, sizes, singles};
 
 // Rules, group after group: how many bits stand below the field _ how many it has.
+// ---- made by model/make.py: RULES
 const RULES: [u16; 17] = [
     0_24, //  I017/140  5.2.7   time of day
     24_24, // I017/045  5.2.4   latitude
@@ -27,8 +28,10 @@ const RULES: [u16; 17] = [
     12_01, // I018/032  5.2.30  spare
     0_16, //  I018/034  5.2.32  speed
 ];
+// ---- end of what is made
 
 // Rules: what is added to the field's code, so that what is legal starts at 0.
+// ---- made by model/make.py: ADDED
 const ADDED: [u32; 17] = [
     0, //       I017/140  5.2.7   time of day
     4194304, // I017/045  5.2.4   latitude
@@ -48,8 +51,10 @@ const ADDED: [u32; 17] = [
     0, //       I018/032  5.2.30  spare
     0, //       I018/034  5.2.32  speed
 ];
+// ---- end of what is made
 
 // Rules: the greatest sum, in the bits of the field, that is legal.
+// ---- made by model/make.py: LIMITS
 const LIMITS: [u32; 17] = [
     11059199, // I017/140  5.2.7   time of day
     8388607, //  I017/045  5.2.4   latitude
@@ -69,8 +74,10 @@ const LIMITS: [u32; 17] = [
     0, //        I018/032  5.2.30  spare
     32768, //    I018/034  5.2.32  speed
 ];
+// ---- end of what is made
 
 // Groups: how many octets.
+// ---- made by model/make.py: SIZES
 const SIZES: [u8; 52] = [
     2, // I017/010  5.2.2   Data Source Identifier
     2, // I017/012  5.2.3   Data Destination Identifier
@@ -125,8 +132,10 @@ const SIZES: [u8; 52] = [
     1, // I018/012  5.2.12  Aircraft Coverage Quality Factor
     1, // I018/013  5.2.13  Aircraft CQF Calculation Method
 ];
+// ---- end of what is made
 
 // Groups: the place of the first rule; the next row has the one past the last.
+// ---- made by model/make.py: FIRST_RULES
 const FIRST_RULES: [u8; 53] = [
     0, //  I017/010  5.2.2   Data Source Identifier
     0, //  I017/012  5.2.3   Data Destination Identifier
@@ -182,8 +191,10 @@ const FIRST_RULES: [u8; 53] = [
     17, // I018/013  5.2.13  Aircraft CQF Calculation Method
     17, // the end
 ];
+// ---- end of what is made
 
 // Places, of an item with one part: how many octets it has, where it is free; 8 more than the place of its group, where it has a rule. Else 0.
+// ---- made by model/make.py: SINGLE
 const SINGLE: [u8; 72] = [
     0, //  FRN 0   no item
     2, //  FRN 1   I017/010  5.2.2   Data Source Identifier
@@ -258,6 +269,7 @@ const SINGLE: [u8; 72] = [
     1, //  FRN 34  I018/012  5.2.12  Aircraft Coverage Quality Factor
     1, //  FRN 35  I018/013  5.2.13  Aircraft CQF Calculation Method
 ];
+// ---- end of what is made
 
 fn rule_word(place: usize) -> u16
     requires { ⌜ place < 17 ⌝ }

@@ -60,13 +60,16 @@ pub struct PlaceRow {
 }
 
 // How many profiles there are, and how many places each has here: FRN 0 to 35, of which 0 and those past a profile's end have no item.
+// ---- made by model/make.py: PROFILES, FRNS
 pub const PROFILES: usize = 2;
 
 pub const FRNS: usize = 36;
+// ---- end of what is made
 
 // ---- the tables: a row is one number, its columns set apart by `_`. (A constant is written out where it is read, so a row is small.)
 
 // Fields: bits _ what it holds _ the place of its range.
+// ---- made by model/make.py: FIELDS
 const FIELDS: [u16; 113] = [
     8_0_00, //  I017/010  5.2.2   SAC
     8_0_00, //  I017/010  5.2.2   SIC
@@ -182,8 +185,10 @@ const FIELDS: [u16; 113] = [
     7_0_20, //  I018/012  5.2.12  CQF
     8_0_00, //  I018/013  5.2.13  CQF calculation method
 ];
+// ---- end of what is made
 
 // The least value of each range.
+// ---- made by model/make.py: LEAST
 const LEAST: [i64; 21] = [
     0, //        8 bits
     0, //        24 bits
@@ -207,8 +212,10 @@ const LEAST: [i64; 21] = [
     0, //        I018/034  5.2.32  speed
     0, //        7 bits
 ];
+// ---- end of what is made
 
 // The greatest value of each range.
+// ---- made by model/make.py: GREATEST
 const GREATEST: [i64; 21] = [
     255, //               8 bits
     16777215, //          24 bits
@@ -232,8 +239,10 @@ const GREATEST: [i64; 21] = [
     32768, //             I018/034  5.2.32  speed
     127, //               7 bits
 ];
+// ---- end of what is made
 
 // Groups: octets _ place of the first field _ how many fields _ how many values _ whether it is free.
+// ---- made by model/make.py: GROUPS
 const GROUPS: [u32; 52] = [
     2_000_02_02_1, // I017/010  5.2.2   Data Source Identifier
     2_002_02_02_1, // I017/012  5.2.3   Data Destination Identifier
@@ -288,8 +297,10 @@ const GROUPS: [u32; 52] = [
     1_110_02_02_1, // I018/012  5.2.12  Aircraft Coverage Quality Factor
     1_112_01_01_1, // I018/013  5.2.13  Aircraft CQF Calculation Method
 ];
+// ---- end of what is made
 
 // Layouts: how the parts lie _ the least _ and the greatest number of parts _ place of the first group _ how many groups.
+// ---- made by model/make.py: LAYOUTS
 const LAYOUTS: [u32; 51] = [
     0, //             no item
     1_1_001_000_1, // I017/010  5.2.2   Data Source Identifier
@@ -343,8 +354,10 @@ const LAYOUTS: [u32; 51] = [
     1_1_001_050_1, // I018/012  5.2.12  Aircraft Coverage Quality Factor
     1_1_001_051_1, // I018/013  5.2.13  Aircraft CQF Calculation Method
 ];
+// ---- end of what is made
 
 // Places: the place of the layout.
+// ---- made by model/make.py: PLACES
 const PLACES: [u8; 72] = [
     0, //  FRN 0   no item
     1, //  FRN 1   I017/010  5.2.2   Data Source Identifier
@@ -419,8 +432,10 @@ const PLACES: [u8; 72] = [
     49, // FRN 34  I018/012  5.2.12  Aircraft Coverage Quality Factor
     50, // FRN 35  I018/013  5.2.13  Aircraft CQF Calculation Method
 ];
+// ---- end of what is made
 
 // Places: the number after the slash of the reference.
+// ---- made by model/make.py: REFERENCES
 const REFERENCES: [u16; 72] = [
     0, //   FRN 0   no item
     10, //  FRN 1   I017/010  5.2.2   Data Source Identifier
@@ -495,6 +510,7 @@ const REFERENCES: [u16; 72] = [
     12, //  FRN 34  I018/012  5.2.12  Aircraft Coverage Quality Factor
     13, //  FRN 35  I018/013  5.2.13  Aircraft CQF Calculation Method
 ];
+// ---- end of what is made
 
 // ---- the rows
 

@@ -1,0 +1,127 @@
+"""The tables of the code, each made from tables.py: a function for each region of make.py, which gives
+its lines. What a column is, and how it is tied to the rules, says the file that has the region.
+"""
+
+import rows
+from rows import FRNS, PROFILES
+from tables import SIGNED, SPARE
+
+KINDS = {"fixed": 1, "list": 2, "led": 3, "extended": 4}  # how parts lie, in `LAYOUTS`
+
+
+def aligned(table, indent=4):
+    """Rows, each a word and what stands beside it, which starts in one column."""
+    width = max(len(word) for word, _ in table)
+    return ["%s%s, //%s %s" % (" " * indent, word, " " * (width - len(word)), says) for word, says in table]
+
+
+def constant(name, kind, table):
+    """A table and its size."""
+    return ["const %s: [%s; %d] = [" % (name, kind, len(table))] + aligned(table) + ["];"]
+
+
+# ---- crates/tables/src/tables.rt
+
+def sizes():
+    return ["pub const PROFILES: usize = %d;" % len(PROFILES), "", "pub const FRNS: usize = %d;" % FRNS]
+
+
+def fields():
+    range_at = {span: n for n, span in enumerate(rows.ranges())}
+    holds = {SIGNED: 1, SPARE: 2}
+    return constant("FIELDS", "u16", [
+        ("%d_%d_%02d" % (field.width, holds.get(field.kind, 0), range_at[rows.range_of(field)]), rows.named(group, field))
+        for group, field in rows.fields()])
+
+
+def ranged(group, field):
+    """What a range is, by the first field that has it."""
+    if field.kind == SPARE:
+        return "spare"
+    if field.kind == SIGNED:
+        text = "two's complement in %d bits" % field.width
+        return text if rows.is_free(field) else text + ", " + rows.named(group, field)
+    return "%d bits" % field.width if rows.is_free(field) else rows.named(group, field)
+
+
+def least():
+    return constant("LEAST", "i64", [(str(low), ranged(*first)) for (low, _), first in rows.ranges().items()])
+
+
+def greatest():
+    return constant("GREATEST", "i64", [(str(high), ranged(*first)) for (_, high), first in rows.ranges().items()])
+
+
+def group_title(group):
+    part = "" if group.place.item.form != "extended" else ", first part" if group.part == 0 else ", extent %d" % group.part
+    return rows.titled(group.place) + part
+
+
+def groups():
+    out, first = [], 0
+    for group in rows.groups():
+        values = sum(field.kind != SPARE for field in group.fields)
+        word = "%d_%03d_%02d_%02d_%d" % (group.place.item.octets, first, len(group.fields), values, not rows.rules_of(group))
+        out.append((word, group_title(group)))
+        first += len(group.fields)
+    return constant("GROUPS", "u32", out)
+
+
+def layouts():
+    out, first = [("0", "no item")], 0
+    for place in rows.with_item():
+        item = place.item
+        word = "%d_%d_%03d_%03d_%d" % (KINDS[item.form], item.least, item.greatest, first, len(item.parts))
+        out.append((word, rows.titled(place)))
+        first += len(item.parts)
+    return constant("LAYOUTS", "u32", out)
+
+
+def places():
+    at = {(place.profile, place.frn): n for n, place in enumerate(rows.with_item(), 1)}
+    return constant("PLACES", "u8", [(str(at.get((p.profile, p.frn), 0)), rows.at_frn(p)) for p in rows.places()])
+
+
+def references():
+    return constant("REFERENCES", "u16", [(str(int(p.item.reference)) if p.item else "0", rows.at_frn(p)) for p in rows.places()])
+
+
+# ---- crates/tables/src/field_rules.rt
+
+def rules(name, kind, word):
+    return constant(name, kind, [(word(rule), rows.named(group, rule.field)) for group in rows.groups() for rule in rows.rules_of(group)])
+
+
+def field_rules():
+    return rules("RULES", "u16", lambda rule: "%d_%02d" % (rule.shift, rule.width))
+
+
+def added():
+    return rules("ADDED", "u32", lambda rule: str(rule.added))
+
+
+def limits():
+    return rules("LIMITS", "u32", lambda rule: str(rule.limit))
+
+
+def group_sizes():
+    return constant("SIZES", "u8", [(str(group.place.item.octets), group_title(group)) for group in rows.groups()])
+
+
+def first_rules():
+    out, first = [], 0
+    for group in rows.groups():
+        out.append((str(first), group_title(group)))
+        first += len(rows.rules_of(group))
+    return constant("FIRST_RULES", "u8", out + [(str(first), "the end")])
+
+
+def single():
+    group_at = {(group.place.profile, group.place.frn): n for n, group in reversed(list(enumerate(rows.groups())))}
+    out = []
+    for place in rows.places():
+        word = 0
+        if place.item and place.item.form == "fixed":
+            word = place.item.octets if rows.all_free(place) else 8 + group_at[place.profile, place.frn]
+        out.append((str(word), rows.at_frn(place)))
+    return constant("SINGLE", "u8", out)

@@ -1,0 +1,320 @@
+"""The tables of the accept-only path, crates/quick_items and crates/quick_records, and of crates/measuring,
+each made from tables.py: a function for each region of make.py, which gives its lines.
+
+In order: rules and words of items; message types and their sets; shapes.
+
+A row of these tables may say less than the rules have, never more: the proofs' computed tests see to
+that. What has no word here, or no shape, is only slow.
+"""
+
+import functools
+import itertools
+import pathlib
+import re
+from collections import namedtuple
+
+import rows
+from code_tables import aligned
+from rows import PROFILES
+
+CRATES = pathlib.Path(__file__).resolve().parents[1] / "crates"
+
+# ---- rules and words, `steps` of crates/quick_items/src/lib.rt
+
+RULES = 16  # as many as a digit of a word can name
+RULED, COUNTED, EXTENDED, TWICE = 1, 2, 3, 4
+ANY_BITS = (0x00_000000, 0x28_FFFFFF)
+
+
+def rule_words(rule, octets, step=0):
+    """The two words of a rule, of a part of so many octets with some bits below that are no field's; none
+    where it asks for more than the first three octets."""
+    down = rule.shift + step + 24 - 8 * octets
+    if down < 0 or max(rule.added, rule.limit) >= 1 << 24:
+        return None
+    return down << 24 | rule.added, (64 - rule.width) << 24 | rule.limit
+
+
+def asked(place):
+    """How the parts of an item lie and the rules that its octets are asked, each as its two words and what
+    stands beside it; none where they are not told."""
+    item, groups = place.item, rows.groups_of(place)
+    own = [rows.rules_of(group) for group in groups]
+    if item.form == "extended" and item.octets == 1 and len(groups) == 2 and max(map(len, own)) < 2:
+        kind = EXTENDED
+    elif item.form == "fixed" and item.octets < 16 and 0 < len(own[0]) < 3:
+        kind = RULED if len(own[0]) == 1 else TWICE
+    else:
+        return None
+    out = []
+    for group, some in zip(groups, own):
+        out += [(rule_words(rule, item.octets, kind == EXTENDED), rows.named(group, rule.field)) for rule in some]
+        out += [(ANY_BITS, "%s  any bits" % rows.cited(place))] * (not some)
+    return (kind, out) if all(words for words, _ in out) else None
+
+
+def counted(item):
+    """The word of a list of free parts or of a led item: its least count or length, how its parts lie, the
+    octets of a part, those before the parts."""
+    if item.form == "led" and item.least < 15:
+        return item.least + 1, COUNTED, 1, 0
+    if item.form == "list" and max(item.least, item.octets) < 16 and item.greatest == 255:
+        return item.least, COUNTED, item.octets, 1
+    return None
+
+
+def free_octets(place):
+    """The octets of an item that is one part of free bits, 7 at most; else 0."""
+    item = place.item
+    return item.octets if item and item.form == "fixed" and item.octets < 8 and rows.all_free(place) else 0
+
+
+def list_word(place):
+    """The word of an item of free parts whose first octet tells how many; none for any other."""
+    return counted(place.item) if place.item and rows.all_free(place) else None
+
+
+def ruled_octets(place):
+    """The octets of an item that is one part with one rule, 7 at most; else 0."""
+    return place.item.octets if place.item and place.item.octets < 8 and asked(place) and asked(place)[0] == RULED else 0
+
+
+def digits(word):
+    return "0x" + "_".join("%X" % digit for digit in word)
+
+
+class Rules:
+    """The rules that words name: each stands once, unless two have to stand one after the other."""
+
+    def __init__(self):
+        self.words, self.says = [], []
+
+    def row_of(self, rules):
+        """The row of the first of some rules, which the others follow; none where there is no room."""
+        words = [pair for pair, _ in rules]
+        spans = range(len(self.words) - len(words) + 1)
+        row = next((n for n in spans if self.words[n:n + len(words)] == words), len(self.words))
+        if row == len(self.words):
+            if row + len(words) > RULES:
+                return None
+            self.words += words
+            self.says += [[] for _ in words]
+        for n, (_, says) in enumerate(rules):
+            self.says[row + n].append(says)
+        return row
+
+    def rows(self, which):
+        """The first or the second words of all."""
+        out = [(words[which], "; ".join(says)) for words, says in zip(self.words, self.says)]
+        out += [(ANY_BITS[which], "none: any bits")] * (RULES - len(out))
+        return [("0x%02X_%06X" % (word >> 24, word & 0xFFFFFF), "rule %X   %s" % (n, says)) for n, (word, says) in enumerate(out)]
+
+
+def steps_size():
+    return ["pub type Steps = [u32; %d];" % len(steps())]
+
+
+def steps():
+    out, rules = [], Rules()
+    for place in rows.places():
+        word = str(free_octets(place))
+        if list_word(place):
+            word = digits(list_word(place))
+        elif word == "0" and place.item and asked(place):
+            kind, some = asked(place)
+            row = rules.row_of(some)
+            word = "0" if row is None else digits((row, kind, 0, 0 if kind == EXTENDED else place.item.octets))
+        out.append((word, rows.at_frn(place)))
+    return aligned(out + rules.rows(0) + rules.rows(1), 8)
+
+
+# ---- message types and their sets, crates/quick_records/src/lent.rt
+
+KINDS = 1 + max(message.number for category in PROFILES for message in category.messages)
+FIRST_ITEMS = range(4, 8)  # FRNs of the first FSPEC octet that may be missing
+
+
+def numbered():
+    """Every message type, with its profile; the first is number 1."""
+    return [(profile, message) for profile, category in enumerate(PROFILES) for message in category.messages]
+
+
+def type_rows():
+    """By profile and number of the message type, its row, 0 where it is unknown."""
+    row_of = {(profile, message.number): (n, message) for n, (profile, message) in enumerate(numbered(), 1)}
+    for profile, category in enumerate(PROFILES):
+        cited = rows.cited(rows.places_of(profile)[rows.type_frn(profile) - 1]).rstrip()
+        for number in range(KINDS):
+            n, message = row_of.get((profile, number), (0, None))
+            yield "    %d," % n + (" // %s  %s  %s" % (cited, rows.kind(category, number), rows.message_name(message)) if n else "")
+
+
+def first_octets():
+    """By profile and the presence bits of FRN 4 to 7, the octets of FRN 1 to 7 where all are free; else 0."""
+    for profile, category in enumerate(PROFILES):
+        sizes = [0] + [free_octets(place) for place in rows.places_of(profile)]
+        for presence in range(1 << len(FIRST_ITEMS)):
+            there = [frn for frn in FIRST_ITEMS if presence >> FIRST_ITEMS[-1] - frn & 1]
+            some = [sizes[frn] for frn in [1, 2, 3] + there]
+            yield "    %d, // category %03d, FRN %s" % (sum(some) if all(some) else 0, category.number, ", ".join(["1 to 3"] + list(map(str, there))))
+
+
+def lent_sizes():
+    types, sets = len(types_rows()), len(set_rows())
+    return ["pub type Types = [u8; %d];" % types, "", "pub type Sets = [u64; %d];" % sets]
+
+
+def types_rows():
+    return list(type_rows()) + list(first_octets())
+
+
+def types():
+    return ["const TYPES: Types = ["] + types_rows() + ["];"]
+
+
+def set_rows():
+    out = ["    0,", "    0,"]
+    for profile, message in numbered():
+        category = PROFILES[profile]
+        must, may = map(rows.quads, rows.must_and_may(profile, message))
+        out += ["    %s, // I%03d/000 type %s  %s" % (must, category.number, rows.kind(category, message.number), rows.message_name(message)), "    %s," % may]
+    return out + shape_lines(checked)
+
+
+def sets():
+    return ["const SETS: Sets = ["] + set_rows() + ["];"]
+
+
+# ---- shapes: FSPECs that are legal for some message type of at most six optional items; each stands where
+# `slot_of` of crates/quick_records/src/shape.rt looks for it
+
+SLOTS = 64
+MOST_OPTIONAL = 6
+
+# One shape: its FRNs, and the message types that have it, by number and as their document prints them.
+Shape = namedtuple("Shape", "profile frns types")
+
+
+def shapes():
+    out = {}
+    for number, (profile, message) in enumerate(numbered(), 1):
+        optional = rows.frns_of(profile, message.optional)
+        if len(optional) > MOST_OPTIONAL:
+            continue
+        must = rows.frns_of(profile, message.compulsory)
+        for count in range(len(optional) + 1):
+            for some in itertools.combinations(optional, count):
+                frns = tuple(sorted(must + list(some)))
+                out.setdefault((profile, frns), []).append((number, rows.kind(PROFILES[profile], message.number)))
+    return [Shape(profile, frns, some) for (profile, frns), some in out.items()]
+
+
+def said(shape):
+    """Its category and its FSPEC."""
+    raw, used = rows.fspec(shape.frns)
+    return "category %03d, FSPEC %s" % (PROFILES[shape.profile].number, " ".join("%02X" % (raw >> 8 * k & 255) for k in range(used)))
+
+
+@functools.cache
+def factor():
+    """By what an FSPEC is multiplied to find its place, and how far the product is moved down, as the code has it."""
+    code = (CRATES / "quick_records" / "src" / "shape.rt").read_text()
+    return tuple(map(int, re.search(r"\* (\d+) >> (\d+)\) %% %d" % SLOTS, code).groups()))
+
+
+def slot_of(shape):
+    """Where a shape is looked for."""
+    times, down = factor()
+    return ((rows.fspec(shape.frns)[0] + shape.profile % 2) * times >> down) % SLOTS
+
+
+def slotted(some):
+    """Shapes by their places; of two with the same place, the first."""
+    return {slot_of(shape): shape for shape in reversed(some)}
+
+
+def left_out():
+    """What shapes stand in no table since their place is another's, as sentences."""
+    kept = slotted(shapes()).values()
+    return ["the shape %s is left out: its place is taken; another factor in slot_of may give it one" % said(shape)
+            for shape in shapes() if shape not in kept]
+
+
+def shape_lines(words_of):
+    """The rows of a table of shapes. The shape that most message types have fills the places of no shape."""
+    some = [shape for shape in shapes() if words_of(shape)]
+    filler = max(some, key=lambda shape: len(shape.types))
+    placed = slotted(some)
+    out = []
+    for slot in range(SLOTS):
+        shape = placed.get(slot)
+        says = "%s: type %s" % (said(shape), ", ".join(name for _, name in shape.types)) if shape else "no shape: %s again" % said(filler)
+        first, *others = words_of(shape or filler)
+        out += ["    %s, // %s" % (first, says)] + ["    %s," % word for word in others]
+    return out
+
+
+def looked_into(place):
+    """The word and the rule of an item that a shape can tell, or nothing."""
+    if list_word(place):
+        return list_word(place), ANY_BITS
+    if ruled_octets(place):
+        return (0, RULED, 0, place.item.octets), asked(place)[1][0][0]
+    return None
+
+
+def checked(shape):
+    """The four words of a shape in crates/quick_records."""
+    place_at = dict(enumerate(rows.places_of(shape.profile), 1))
+    raw, used = rows.fspec(shape.frns)
+    left = list(shape.frns)
+
+    def run():
+        octets = 0
+        while left and free_octets(place_at[left[0]]):
+            octets += free_octets(place_at[left.pop(0)])
+        return octets
+
+    before = run()
+    told = looked_into(place_at[left[0]]) if left else None
+    if told:
+        left.pop(0)
+        at, (word, (low, high)), tail = used + before, told, run()
+    else:
+        at, word, (low, high), tail = used, (0, 0, 0, 0), ANY_BITS, before
+    return (
+        "0x%X_%02X_%02X_%X_%010X" % (shape.profile, tail, at, used, raw),
+        "0x%X%X%X%X_%010X" % (*word, sum(1 << number for number, _ in shape.types)),
+        "0x%02X_%06X_%02X_%06X" % (high >> 24, high & 0xFFFFFF, low >> 24, low & 0xFFFFFF),
+        quads_of_set(left),
+    )
+
+
+def quads_of_set(frns):
+    return "0x" + "_".join(re.findall("....", "%016X" % rows.bits(frns))) if frns else "0"
+
+
+# ---- crates/measuring
+
+def measured(shape):
+    """The two words of a shape in crates/measuring, or nothing where one octet does not tell its size."""
+    raw, used = rows.fspec(shape.frns)
+    base, time, parts = used, 0, []
+    for frn in shape.frns:
+        item = rows.places_of(shape.profile)[frn - 1].item
+        is_time = item.reference == PROFILES[shape.profile].time
+        if item.form == "extended" or is_time and parts:
+            return None
+        if is_time:
+            time = base
+        if item.form != "fixed":
+            parts.append((base, item.octets))
+        base += {"fixed": item.octets, "list": 1, "led": 0}[item.form]
+    if len(parts) > 1:
+        return None
+    place, part = parts[0] if parts else (0, 0)
+    return "0x%X_0000_%X_%010X" % (shape.profile, used, raw), "0x%02X_%02X_%02X_%X" % (time, base, place, part)
+
+
+def measured_shapes():
+    return ["const SHAPES: Shapes = ["] + shape_lines(measured) + ["];"]
