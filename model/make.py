@@ -34,6 +34,7 @@ Region = namedtuple("Region", "file name lines")
 
 TABLES = "crates/tables/src/tables.rt"
 FIELD_RULES = "crates/tables/src/field_rules.rt"
+QUICK_ITEMS = "crates/quick_items/src/lib.rt"
 LENT = "crates/quick_records/src/lent.rt"
 SHAPES = "crates/measuring/src/shape.rt"
 
@@ -52,6 +53,8 @@ REGIONS = [
     Region(FIELD_RULES, "SIZES", code.group_sizes),
     Region(FIELD_RULES, "FIRST_RULES", code.first_rules),
     Region(FIELD_RULES, "SINGLE", code.single),
+    Region(QUICK_ITEMS, "Steps", quick.steps_size),
+    Region(QUICK_ITEMS, "steps", quick.steps),
     Region(LENT, "Types, Sets", quick.lent_sizes),
     Region(LENT, "TYPES", quick.types),
     Region(LENT, "SETS", quick.sets),
