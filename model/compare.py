@@ -186,7 +186,8 @@ def compare(category):
                 same("%s, message %d, %s" % (name, number, what), ["%03d" % cell for cell in cells], listed.split())
 
     same("%s, CAT" % name, re.search(r"\bcat = (\d+);", body).group(1), str(category.number))
-    same("%s, the item that is a record's time" % name, re.search(r"\btime = (\d+);", body).group(1), category.time)
+    time = re.search(r"\btime = (\d+);", body).group(1)
+    same("%s, the item that is a record's time" % name, time if time in known else None, category.time)
     same("%s, the untimed message types" % name, parsed(re.search(r"\buntimed = (.*);", bare(body)).group(1)), category.untimed)
     fields = sum(len([f for f in part if f.kind != FX]) for item in category.items for part in item.parts)
     print("%s: %d items with %d fields and spare groups, %d FRNs, %d message types compared" % (

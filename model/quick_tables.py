@@ -134,6 +134,12 @@ KINDS = 1 + max(message.number for category in PROFILES for message in category.
 FIRST_ITEMS = range(4, 8)  # FRNs of the first FSPEC octet that may be missing
 
 
+def has_front(profile):
+    """Whether FRN 1 to 3 have five free octets, the last one being the message type: what this path starts from."""
+    sizes = [free_octets(place) for place in rows.places_of(profile)[:3]]
+    return all(sizes) and sum(sizes) == 5 and sizes[2] == 1 and rows.type_frn(profile) == 3
+
+
 def numbered():
     """Every message type, with its profile; the first is number 1."""
     return [(profile, message) for profile, category in enumerate(PROFILES) for message in category.messages]
@@ -156,7 +162,8 @@ def first_octets():
         for presence in range(1 << len(FIRST_ITEMS)):
             there = [frn for frn in FIRST_ITEMS if presence >> FIRST_ITEMS[-1] - frn & 1]
             some = [sizes[frn] for frn in [1, 2, 3] + there]
-            yield "    %d, // category %03d, FRN %s" % (sum(some) if all(some) else 0, category.number, ", ".join(["1 to 3"] + list(map(str, there))))
+            octets = sum(some) if all(some) and has_front(profile) else 0
+            yield "    %d, // category %03d, FRN %s" % (octets, category.number, ", ".join(["1 to 3"] + list(map(str, there))))
 
 
 def lent_sizes():
@@ -234,10 +241,10 @@ def slotted(some):
 
 
 def left_out():
-    """What shapes stand in no table since their place is another's, as sentences."""
-    kept = slotted(shapes()).values()
+    """Which shapes stand in no table since their place is another's, as sentences."""
+    some = [shape for shape in shapes() if checked(shape)]
     return ["the shape %s is left out: its place is taken; another factor in slot_of may give it one" % said(shape)
-            for shape in shapes() if shape not in kept]
+            for shape in some if shape not in slotted(some).values()]
 
 
 def shape_lines(words_of):
@@ -264,7 +271,9 @@ def looked_into(place):
 
 
 def checked(shape):
-    """The four words of a shape in crates/quick_records."""
+    """The four words of a shape in crates/quick_records, or nothing where it has no front."""
+    if shape.frns[:3] != (1, 2, 3) or not has_front(shape.profile):
+        return None
     place_at = dict(enumerate(rows.places_of(shape.profile), 1))
     raw, used = rows.fspec(shape.frns)
     left = list(shape.frns)

@@ -53,8 +53,8 @@ def type_frn(profile):
 
 
 def time_frn(profile):
-    """The FRN of the item that is a record's time."""
-    return next(place.frn for place in places_of(profile) if place.item and place.item.reference == PROFILES[profile].time)
+    """The FRN of the item that is a record's time; 0 where there is none."""
+    return next((place.frn for place in places_of(profile) if place.item and place.item.reference == PROFILES[profile].time), 0)
 
 
 def cited(place):

@@ -39,8 +39,8 @@ Message = namedtuple("Message", "number name compulsory optional also", defaults
 Cell = namedtuple("Cell", "number reference printed ground")
 
 # A category: octets is the most that an FSPEC has; base is that in which its document prints the numbers
-# of message types; time is the item that is a record's time, and untimed has the message types in which
-# it is not (document 02, W-201).
+# of message types; time is the item that is a record's time, None where there is none, and untimed has the
+# message types in which it is not (document 02, W-201).
 Category = namedtuple("Category", "number document edition octets base items profile messages cells time untimed note")
 
 
@@ -494,7 +494,7 @@ def faults():
         if optional != {(cell.number, cell.reference) for cell in category.cells}:
             said.append("%d: optional items and listed cells differ" % category.number)
         clock = known.get(category.time)
-        if not clock or [(f.width, f.least, f.greatest) for part in clock.parts for f in part] != [(24, 0, DAY)]:
+        if category.time and (not clock or [(f.width, f.least, f.greatest) for part in clock.parts for f in part] != [(24, 0, DAY)]):
             said.append("%d: %s is no time of day" % (category.number, category.time))
         for number in category.untimed:
             row = message(category, number)
