@@ -133,6 +133,8 @@ def named(item):
 
 def compare(category):
     name = "Category%03d" % category.number
+    if not (SPECS / (name + ".antt")).exists():
+        return differ("%s: the specs have no such file" % name)
     text = (SPECS / (name + ".antt")).read_text(encoding="utf-8")
     prefix = "I%03d/" % category.number
 

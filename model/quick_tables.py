@@ -242,9 +242,11 @@ def slotted(some):
 
 def left_out():
     """Which shapes stand in no table since their place is another's, as sentences."""
-    some = [shape for shape in shapes() if checked(shape)]
-    return ["the shape %s is left out: its place is taken; another factor in slot_of may give it one" % said(shape)
-            for shape in some if shape not in slotted(some).values()]
+    out = []
+    for words_of in (checked, measured):
+        some = [shape for shape in shapes() if words_of(shape)]
+        out += [said(shape) for shape in some if shape not in slotted(some).values()]
+    return ["the shape of %s is left out: its place is taken; another factor in slot_of may give it one" % shape for shape in dict.fromkeys(out)]
 
 
 def shape_lines(words_of):
