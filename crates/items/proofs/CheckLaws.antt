@@ -19,7 +19,7 @@ use Rattle.rules.specs.Entry.{categories, profileAt}
 use Rattle.rules.proofs.AnswerLaws.{Octets, none-some}
 use Rattle.tables.specs.declared.tables.LayoutRow.{LayoutRow}
 use Rattle.tables.specs.declared.tables.PlaceRow.{PlaceRow}
-use Rattle.tables.specs.Tables.{groups, groupIs, groupRows, groupAt, layoutBy, layoutIs, layoutAt, nowhere, profileRows, placeRowAt, placeIs}
+use Rattle.tables.specs.Tables.{groupCount, profileCount, frnCount, groups, groupIs, groupRows, groupAt, layoutBy, layoutIs, layoutAt, nowhere, profileRows, placeRowAt, placeIs}
 use Rattle.tables.specs.FieldRules.{singleOf, singles}
 use Rattle.tables.proofs.TableLaws.{place-is, place-row, place-none}
 use Rattle.layouts.specs.Read.{rowsAt, partAt, legal, partSound, partsSound, partsLegal, Shaped, headOf, stepOf, shapeBy, shapeOf, wholeOf, wholeSize, readBy, rowSound, singleSize}
@@ -146,11 +146,11 @@ single-size l g bs s =
     (le-or-lt (groupAt (l .first) .octets) (length bs))
 
 -- what the check of one part asks, and its answers
-pub single-sound : (l : LayoutRow) (g : ℕ) → rowSound l ≡ true → Single l g → (g < 52) × (partSound 0 (groupAt g) ≡ true)
+pub single-sound : (l : LayoutRow) (g : ℕ) → rowSound l ≡ true → Single l g → (g < groupCount) × (partSound 0 (groupAt g) ≡ true)
 single-sound l g s h =
     let r : Rowed l = rowed l s in
     let f : First 0 (l .first) 1 [] 0 = first-part 0 (l .first) 1 [] 0 (lit< tt) (subst (λ x. partsSound 0 (l .first) x ≡ true) (fixed-one l r (h .kind)) (subst (λ x. partsSound (stepOf x) (l .first) (l .most) ≡ true) (h .kind) (r .parts))) in
-    subst (λ x. (x < 52) × (partSound 0 (groupAt x) ≡ true)) (h .group) (f .inside, f .sound)
+    subst (λ x. (x < groupCount) × (partSound 0 (groupAt x) ≡ true)) (h .group) (f .inside, f .sound)
 
 module _ (g : ℕ) (bs : List ℕ) {m : ℕ} (em : m ≡ groupAt g .octets) where
   pub single-cut : length bs < m → refused 9 0 ≡ singleSize g bs
@@ -168,9 +168,9 @@ module _ (g : ℕ) (bs : List ℕ) {m : ℕ} (em : m ≡ groupAt g .octets) wher
 
 -- ---- the place of an item
 
-pub check-place : (profile frn : ℕ) (bs : List ℕ) → profile < 2 → frn < 36 → Octets bs → wholeSize (layoutAt (placeRowAt (profile * 36 + frn) .layout)) bs ≡ checkAt profile frn bs
+pub check-place : (profile frn : ℕ) (bs : List ℕ) → profile < profileCount → frn < frnCount → Octets bs → wholeSize (layoutAt (placeRowAt (profile * frnCount + frn) .layout)) bs ≡ checkAt profile frn bs
 check-place profile frn bs h k o =
-    sym (check-is (placeRowAt (profile * 36 + frn)) profile frn bs (place-is profile frn h k) (layout-sound (placeRowAt (profile * 36 + frn) .layout) (place-row (profile * 36 + frn))) o)
+    sym (check-is (placeRowAt (profile * frnCount + frn)) profile frn bs (place-is profile frn h k) (layout-sound (placeRowAt (profile * frnCount + frn) .layout) (place-row (profile * frnCount + frn))) o)
 
 pub no-place : (profile frn : ℕ) (bs : List ℕ) → placeIs nowhere ≡ placeAt (profileAt categories profile) frn → refused 21 0 ≡ checkAt profile frn bs
 unfolding checkAt expect_or_ _>>=_

@@ -19,7 +19,7 @@ use Rattle.rules.specs.Presence.{present, placeAt}
 use Rattle.rules.specs.Record.{Place}
 use Rattle.rules.specs.Entry.{categories, profileAt, layoutAs, isItem}
 use Rattle.tables.specs.declared.tables.PlaceRow.{PlaceRow}
-use Rattle.tables.specs.Tables.{layoutIs, layoutAt, nowhere, placeRowAt, with, placeIs}
+use Rattle.tables.specs.Tables.{layoutCount, profileCount, frnCount, layoutIs, layoutAt, nowhere, placeRowAt, with, placeIs}
 use Rattle.tables.proofs.TableLaws.{place-is, place-none, profile-few, place-row, layout-none, layout-some}
 use Rattle.tables.specs.Places.{isNamed, frnAs}
 use Rattle.items.specs.Answers.{referenceIn}
@@ -30,18 +30,18 @@ present-with : (n : ℕ) (x : Option Layout) → present (with n x) ≡ present 
 present-with n none = refl
 present-with n (some l) = refl
 
-present-layout : (j : ℕ) → j < 51 → present (layoutIs (layoutAt j)) ≡ not (eqb j 0)
+present-layout : (j : ℕ) → j < layoutCount → present (layoutIs (layoutAt j)) ≡ not (eqb j 0)
 present-layout zero h = ap present layout-none
-present-layout (suc j) h = layout-some j (le-of-suc-le-suc h) ∙ ap not (sym (ne-eqb (suc j) 0 (λ e. absurd (omega arith))))
+present-layout (suc j) h = layout-some j h ∙ ap not (sym (ne-eqb (suc j) 0 (λ e. absurd (omega arith))))
 
-pub place-present : (r : PlaceRow) → r .layout < 51 → present (placeIs r) ≡ not (eqb (r .layout) 0)
+pub place-present : (r : PlaceRow) → r .layout < layoutCount → present (placeIs r) ≡ not (eqb (r .layout) 0)
 unfolding placeIs
 place-present r h = present-with (r .reference) (layoutIs (layoutAt (r .layout))) ∙ present-layout (r .layout) h
 
 -- of an FRN of a profile
-pub usable-at : (p f : ℕ) {j : ℕ} → p < 2 → f < 36 → j ≡ placeRowAt (p * 36 + f) .layout → not (eqb j 0) ≡ present (placeAt (profileAt categories p) f)
+pub usable-at : (p f : ℕ) {j : ℕ} → p < profileCount → f < frnCount → j ≡ placeRowAt (p * frnCount + f) .layout → not (eqb j 0) ≡ present (placeAt (profileAt categories p) f)
 usable-at p f h k e =
-    rw e (sym (place-present (placeRowAt (p * 36 + f)) (place-row (p * 36 + f))) ∙ ap present (place-is p f h k))
+    rw e (sym (place-present (placeRowAt (p * frnCount + f)) (place-row (p * frnCount + f))) ∙ ap present (place-is p f h k))
 
 pub not-usable : (p f : ℕ) → placeIs nowhere ≡ placeAt (profileAt categories p) f → false ≡ present (placeAt (profileAt categories p) f)
 not-usable p f e = rw (← e, place-none)
@@ -50,7 +50,7 @@ named-with : (ref n : ℕ) (x : Option Layout) → isNamed ref (with n x) ≡ (p
 named-with ref n none = refl
 named-with ref n (some l) = refl
 
-pub place-named : (ref : ℕ) (r : PlaceRow) → r .layout < 51 → isNamed ref (placeIs r) ≡ (not (eqb (r .layout) 0) && eqb ref (r .reference))
+pub place-named : (ref : ℕ) (r : PlaceRow) → r .layout < layoutCount → isNamed ref (placeIs r) ≡ (not (eqb (r .layout) 0) && eqb ref (r .reference))
 unfolding placeIs
 place-named ref r h = named-with ref (r .reference) (layoutIs (layoutAt (r .layout))) ∙ ap (λ t. t && eqb ref (r .reference)) (present-layout (r .layout) h)
 
@@ -59,7 +59,7 @@ unfolding if_then_else_
 reference-with n none = refl
 reference-with n (some l) = refl
 
-pub place-reference : (r : PlaceRow) → r .layout < 51 → referenceIn (placeIs r) ≡ (if not (eqb (r .layout) 0) then r .reference else 0)
+pub place-reference : (r : PlaceRow) → r .layout < layoutCount → referenceIn (placeIs r) ≡ (if not (eqb (r .layout) 0) then r .reference else 0)
 unfolding placeIs
 place-reference r h = reference-with (r .reference) (layoutIs (layoutAt (r .layout))) ∙ ap (λ t. if t then r .reference else 0) (present-layout (r .layout) h)
 
@@ -76,7 +76,7 @@ frn-step ref k (p ∷ ps) (suc j) = frn-step ref k ps j
 -- the search from FRN f on says what the whole search says
 pub record Seeking (ref p f : ℕ) : Type 0 where
   pub some : 1 ≤ f
-  pub few : f ≤ 36
+  pub few : f ≤ frnCount
   pub same : frnAs ref f (drop (f - 1) (flatten (profileAt categories p))) ≡ frnAs ref 1 (flatten (profileAt categories p))
 
 pub seek-first : (ref p : ℕ) → Seeking ref p 1
@@ -94,11 +94,11 @@ pub seek-found : (ref p f : ℕ) → Seeking ref p f → isNamed ref (placeAt (p
 unfolding if_then_else_
 seek-found ref p f s e = sym (seek-at ref p f s ∙ rw e)
 
-pub seek-next : (ref p f : ℕ) → Seeking ref p f → f < 36 → isNamed ref (placeAt (profileAt categories p) f) ≡ false → Seeking ref p (f + 1)
+pub seek-next : (ref p f : ℕ) → Seeking ref p f → f < frnCount → isNamed ref (placeAt (profileAt categories p) f) ≡ false → Seeking ref p (f + 1)
 unfolding if_then_else_
 seek-next ref p f s h e = record { some = omega arith; few = omega arith; same = sym (seek-at ref p f s ∙ rw e) }
 
-pub seek-end : (ref p f : ℕ) → Seeking ref p f → 36 ≤ f → none ≡ frnAs ref 1 (flatten (profileAt categories p))
+pub seek-end : (ref p f : ℕ) → Seeking ref p f → frnCount ≤ f → none ≡ frnAs ref 1 (flatten (profileAt categories p))
 unfolding frnAs
 seek-end ref p f s h =
     let k : length (flatten (profileAt categories p)) ≤ f - 1 = omega (arith, profile-few p) in

@@ -19,7 +19,7 @@ use mir.Val.{toZ, ofZ, SFits}
 use mir.ValLaws.{toZ-ofZ}
 use Rattle.rules.specs.Answer.{Answer, ok, refused, _>>=_, need_or_then_}
 use Rattle.rules.specs.Field.{Kind, unsigned, signed, Field, spare, value, half, put}
-use Rattle.tables.specs.Tables.{fieldRow, fieldAt, minus}
+use Rattle.tables.specs.Tables.{fieldCount, fieldRow, fieldAt, minus}
 use Rattle.tables.specs.declared.tables.FieldRow.{FieldRow}
 use Rattle.layouts.proofs.FieldCodes.{twice}
 use Rattle.items.specs.Write.{fieldIn, widthOf, kindOf, codeFor}
@@ -176,7 +176,7 @@ module _ {i : ℕ} {vs : List ℤ} {at : ℕ} {r : FieldRow} (t : Taken i vs at 
   pub code-high : SFits w64 (r .greatest) → ltZ (again (r .greatest)) (again (getD vs at (pos 0))) ≡ true → refused 11 0 ≡ codeFor (fieldIn i) (drop at vs)
   code-high fh e = sym (code-is ∙ code-above _ _ _ (high-test fh ∙ e))
 
-  module _ (s : i < 113) (fl : SFits w64 (r .least)) (l : ltZ (again (getD vs at (pos 0))) (again (r .least)) ≡ false) where
+  module _ (s : i < fieldCount) (fl : SFits w64 (r .least)) (l : ltZ (again (getD vs at (pos 0))) (again (r .least)) ≡ false) where
     pub bits-few : r .bits < 64
     bits-few = rw width-is (width-few (fieldIn i) (field-in-sound i s))
 

@@ -23,7 +23,7 @@ use Rattle.rules.specs.Entry.{categories, layoutOf, writeOne, over, leaves}
 use Rattle.rules.proofs.AnswerLaws.{refused-ok, ok-inj, bind-elim, bind-in, bind-cong, octetsOf-ok}
 use Rattle.rules.proofs.LayoutLaws.{octets-length}
 use Rattle.tables.specs.declared.tables.LayoutRow.{LayoutRow}
-use Rattle.tables.specs.Tables.{fields, groups, layouts, groupRows, groupAt, groupIs, layoutRows, noLayoutRow, layoutAt, layoutBy, layoutIs}
+use Rattle.tables.specs.Tables.{layoutCount, fields, groups, layouts, groupRows, groupAt, groupIs, layoutRows, noLayoutRow, layoutAt, layoutBy, layoutIs}
 use Rattle.tables.proofs.TableLaws.{layout-none, layout-some}
 use Rattle.layouts.proofs.Stores.{sets-append, sets-over}
 use Rattle.items.specs.Answers.{countOf}
@@ -154,9 +154,9 @@ item out e d o = rw e (ap ok d, o)
 
 -- ---- the tests
 
-some-layout : (i : ℕ) → (i ≡ 0 → ⊥) → i < 51 → present (layoutIs (layoutAt i)) ≡ true
+some-layout : (i : ℕ) → (i ≡ 0 → ⊥) → i < layoutCount → present (layoutIs (layoutAt i)) ≡ true
 some-layout zero z h = absurd (z refl)
-some-layout (suc i) z h = layout-some i (omega arith)
+some-layout (suc i) z h = layout-some i h
 
 present-elim : {A C : Type 0} (m : Option A) → present m ≡ true → ((a : A) → m ≡ some a → C) → C
 present-elim none e k = absurd (false≢true e)
@@ -223,7 +223,7 @@ module _ (i : ℕ) (vs : List ℤ) (k s : ℕ) (e : ok (parts k s) ≡ countPart
   pub room-is : (n : ℕ) (out : List ℕ) {out₁ : List ℕ} → n + s ≤ length out → out₁ ≡ sets out 0 (headAt i k) → n + length (octetsOf (layParts (chainedAt i) (partsAt i) vs)) ≤ length out₁
   room-is n out h e₁ = omega (arith, counted (chainedAt i) (partsAt i) vs k s e .size, ap length e₁, length-sets out 0 (headAt i k))
 
-module _ (cat ref i : ℕ) (vs : List ℤ) (out : List ℕ) (h : (i < 51) × ((expect layoutIs (layoutAt i) or 21) ≡ layoutOf cat ref)) where
+module _ (cat ref i : ℕ) (vs : List ℤ) (out : List ℕ) (h : (i < layoutCount) × ((expect layoutIs (layoutAt i) or 21) ≡ layoutOf cat ref)) where
   pub no-layout : i ≡ 0 → Answers (refused 21 0) out (writeOne cat ref vs (length out)) out
   unfolding writeOne _>>=_ expect_or_
   no-layout z =

@@ -19,12 +19,12 @@ use Rattle.rules.specs.Answer.{Answer, ok, refused, _>>=_}
 use Rattle.rules.specs.Field.{Kind, unsigned, signed, Field, spare, value, bits, arity, put, pack}
 use Rattle.rules.specs.Layout.{octets}
 use Rattle.rules.proofs.AnswerLaws.{refused-ok, ok-inj, bind-elim, need-elim, bind-cong, bind-assoc, need-bind}
-use Rattle.tables.specs.Tables.{fields, fieldRow, fieldAt, groupAt}
+use Rattle.tables.specs.Tables.{fieldCount, fields, fieldRow, fieldAt, groupAt}
 use Rattle.tables.specs.declared.tables.FieldRow.{FieldRow}
 use Rattle.tables.specs.declared.tables.GroupRow.{GroupRow}
 use Rattle.items.specs.Write.{marked, packFirst, codeFor, widthOf, kindOf, fieldIn, groupIn, part, packFrom}
 use Rattle.items.proofs.WriteSound.{width-few}
-use Rattle.items.proofs.WriteTables.{fields-length, field-row, field-in-sound, group-end, group-in-sound}
+use Rattle.items.proofs.WriteTables.{field-row, field-in-sound, group-end, group-in-sound}
 use Rattle.items.proofs.WriteLaid.{pow-256}
 
 -- ---- the FX bit
@@ -140,7 +140,7 @@ code-fits f (v ∷ vs) h =
 
 -- the loop's invariant: the fields that are left, added to the number so far, make what all fields make
 pub record Packing (fs : List Field) (vs : List ℤ) (at e i n k : ℕ) : Type 0 where
-  pub in-table : e ≤ 113
+  pub in-table : e ≤ fieldCount
   pub few : bits fs ≤ 64
   pub place : k + arity (slice i e fields) ≡ at + arity fs
   pub used : ℕ
@@ -162,9 +162,9 @@ packing j vs at er =
       same = join-zero (groupIn j .fields) (packFirst (groupIn j .fields) (drop at vs));
     })
 
-field-cons : (i e : ℕ) → i < e → e ≤ 113 → slice i e fields ≡ fieldIn i ∷ slice (i + 1) e fields
+field-cons : (i e : ℕ) → i < e → e ≤ fieldCount → slice i e fields ≡ fieldIn i ∷ slice (i + 1) e fields
 unfolding fieldIn
-field-cons i e h t = rw add-one (slice-cons i e fields (value 0 (unsigned 0 0)) h (rw fields-length t))
+field-cons i e h t = rw add-one (slice-cons i e fields (value 0 (unsigned 0 0)) h t)
 
 spare-is : (f : Field) → fieldRow f .holds ≡ 2 → f ≡ spare (fieldRow f .bits)
 spare-is (spare w) h = refl
@@ -185,7 +185,7 @@ pub record Added (fs : List Field) (vs : List ℤ) (at e i n k w c k′ : ℕ) :
   pub next : {m : ℕ} → m ≡ n * 2 ^ w + c → Packing fs vs at e (i + 1) m k′
 
 module _ (fs : List Field) (vs : List ℤ) (at e i n k : ℕ) (p : Packing fs vs at e i n k) (h : i < e) where
-  pub in-place : i < 113
+  pub in-place : i < fieldCount
   in-place = omega (arith, p .in-table)
 
   cons : slice i e fields ≡ fieldIn i ∷ slice (i + 1) e fields
@@ -259,8 +259,8 @@ module _ (fs : List Field) (vs : List ℤ) (at e i n k : ℕ) (p : Packing fs vs
     pub turn-no : (r .holds ≡ 2 → ⊥) → refused 11 0 ≡ codeFor (fieldIn i) (drop k vs) → refused 11 0 ≡ packFrom fs vs at
     turn-no y ec = sym (pack-no (λ z. y (sym (ap (λ x. x .holds) row-is) ∙ z)) (sym ec))
 
-field-nil : (i e : ℕ) → e ≤ i → e ≤ 113 → slice i e fields ≡ []
-field-nil i e h t = drop-of-length-le (take e fields) (subst (λ x. x ≤ i) (sym (length-take-le e fields (rw fields-length t))) h)
+field-nil : (i e : ℕ) → e ≤ i → e ≤ fieldCount → slice i e fields ≡ []
+field-nil i e h t = drop-of-length-le (take e fields) (subst (λ x. x ≤ i) (sym (length-take-le e fields t)) h)
 
 -- all fields are packed
 pub packed-all : (fs : List Field) (vs : List ℤ) (at e i n k : ℕ) → Packing fs vs at e i n k → e ≤ i → ok (part n k) ≡ packFrom fs vs at

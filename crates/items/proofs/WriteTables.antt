@@ -16,7 +16,8 @@ use Rattle.rules.specs.Layout.{Group}
 use Rattle.rules.specs.Category017.{category017}
 use Rattle.rules.specs.Category018.{category018}
 use Rattle.rules.specs.Entry.{categories}
-use Rattle.tables.specs.Tables.{fields, groups, layouts, fieldRow, fieldAt, groupRows, noGroupRow, groupAt, layoutRows, noLayoutRow, layoutAt, groupIs}
+use Rattle.tables.specs.Tables.{fieldCount, groupCount, fields, groups, layouts, fieldRow, fieldAt, groupRows, noGroupRow, groupAt, layoutRows, noLayoutRow, layoutAt, groupIs}
+use Rattle.tables.proofs.TableLaws.{groups-long}
 use Rattle.tables.specs.declared.tables.GroupRow.{GroupRow}
 use Rattle.tables.specs.declared.tables.LayoutRow.{LayoutRow}
 use Rattle.items.specs.Write.{fieldIn, noGroup, groupIn, partsAt, chainedAt}
@@ -28,37 +29,33 @@ pub field-row : (i : ℕ) → fieldAt i ≡ fieldRow (fieldIn i)
 unfolding fieldAt fieldIn
 field-row i = List·getD-map fieldRow fields i (value 0 (unsigned 0 0))
 
-pub fields-length : length fields ≡ 113
-unfolding fields groups layouts categories category017 category018
-fields-length = refl
-
 fields-sound : T (every fieldTest fields)
 unfolding fields groups layouts categories category017 category018
 fields-sound = tt
 
-pub field-in-sound : (i : ℕ) → i < 113 → SoundField (fieldIn i)
+pub field-in-sound : (i : ℕ) → i < fieldCount → SoundField (fieldIn i)
 unfolding fieldIn
-field-in-sound i h = field-sound (fieldIn i) (every-in fieldTest fields (value 0 (unsigned 0 0)) fields-sound i (rw fields-length h))
+field-in-sound i h = field-sound (fieldIn i) (every-in fieldTest fields (value 0 (unsigned 0 0)) fields-sound i h)
 
 -- ---- groups
 
 abbrev groupRowTest : GroupRow → Bool
-groupRowTest r = leb (r .end) 113 && groupTest false (groupIs r)
+groupRowTest r = leb (r .end) fieldCount && groupTest false (groupIs r)
 
 group-rows : T (every groupRowTest (groupRows 0 groups))
 unfolding fields groups layouts categories category017 category018
 group-rows = tt
 
 group-row : (j : ℕ) → T (groupRowTest (groupAt j))
-unfolding groupAt
+unfolding groupAt fields groups layouts categories category017 category018
 group-row j = every-at groupRowTest (groupRows 0 groups) noGroupRow group-rows tt j
 
-pub group-end : (j : ℕ) → groupAt j .end ≤ 113
-group-end j = leb→le _ _ (both (leb (groupAt j .end) 113) (groupTest false (groupIs (groupAt j))) (group-row j) .0)
+pub group-end : (j : ℕ) → groupAt j .end ≤ fieldCount
+group-end j = leb→le _ _ (both (leb (groupAt j .end) fieldCount) (groupTest false (groupIs (groupAt j))) (group-row j) .0)
 
 pub group-in-sound : (j : ℕ) → SoundGroup false (groupIn j)
 unfolding groupIn
-group-in-sound j = group-sound false (groupIn j) (both (leb (groupAt j .end) 113) (groupTest false (groupIs (groupAt j))) (group-row j) .1)
+group-in-sound j = group-sound false (groupIn j) (both (leb (groupAt j .end) fieldCount) (groupTest false (groupIs (groupAt j))) (group-row j) .1)
 
 -- ---- layouts
 
@@ -67,22 +64,22 @@ rowParts r = cond (eqb (r .kind) 4) (slice (r .first) (r .end) (map groupIs (gro
 
 -- so many parts, and one fewer after a length octet; its groups are in the table
 abbrev layoutRowTest : LayoutRow → Bool
-layoutRowTest r = (eqb (length (rowParts r)) (r .most) && cond (eqb (r .kind) 3) (leb (r .most) 254) true) && ((leb (suc (r .first)) 52 && leb (r .end) 52) && partsTest (eqb (r .kind) 4) (rowParts r))
+layoutRowTest r = (eqb (length (rowParts r)) (r .most) && cond (eqb (r .kind) 3) (leb (r .most) 254) true) && ((leb (suc (r .first)) groupCount && leb (r .end) groupCount) && partsTest (eqb (r .kind) 4) (rowParts r))
 
 layout-rows : T (every layoutRowTest (noLayoutRow ∷ layoutRows 0 layouts))
 unfolding groupAt fields groups layouts categories category017 category018
 layout-rows = tt
 
 layout-row : (i : ℕ) → T (layoutRowTest (layoutAt i))
-unfolding layoutAt
+unfolding layoutAt groups layouts categories category017 category018
 layout-row i = every-at layoutRowTest (noLayoutRow ∷ layoutRows 0 layouts) noLayoutRow layout-rows tt i
 
 -- what the test says of a row
 pub record LayoutRowIs (i : ℕ) : Type 0 where
   pub most : length (partsAt i) ≡ layoutAt i .most
   pub led-few : eqb (layoutAt i .kind) 3 ≡ true → layoutAt i .most ≤ 254
-  pub first : layoutAt i .first < 52
-  pub last : layoutAt i .end ≤ 52
+  pub first : layoutAt i .first < groupCount
+  pub last : layoutAt i .end ≤ groupCount
   pub sound : Sound (chainedAt i) (partsAt i)
 
 cond-test : (a b : Bool) → T (cond a b true) → a ≡ true → T b
@@ -93,10 +90,10 @@ pub layout-row-is : (i : ℕ) → LayoutRowIs i
 unfolding partsAt chainedAt groupIn
 layout-row-is i =
     let r = layoutAt i in
-    let (p, q) = both (eqb (length (rowParts r)) (r .most) && cond (eqb (r .kind) 3) (leb (r .most) 254) true) ((leb (suc (r .first)) 52 && leb (r .end) 52) && partsTest (eqb (r .kind) 4) (rowParts r)) (layout-row i) in
+    let (p, q) = both (eqb (length (rowParts r)) (r .most) && cond (eqb (r .kind) 3) (leb (r .most) 254) true) ((leb (suc (r .first)) groupCount && leb (r .end) groupCount) && partsTest (eqb (r .kind) 4) (rowParts r)) (layout-row i) in
     let (p₁, p₂) = both (eqb (length (rowParts r)) (r .most)) (cond (eqb (r .kind) 3) (leb (r .most) 254) true) p in
-    let (q₁, q₂) = both (leb (suc (r .first)) 52 && leb (r .end) 52) (partsTest (eqb (r .kind) 4) (rowParts r)) q in
-    let (f, l) = both (leb (suc (r .first)) 52) (leb (r .end) 52) q₁ in
+    let (q₁, q₂) = both (leb (suc (r .first)) groupCount && leb (r .end) groupCount) (partsTest (eqb (r .kind) 4) (rowParts r)) q in
+    let (f, l) = both (leb (suc (r .first)) groupCount) (leb (r .end) groupCount) q₁ in
     record {
       most = eqb→eq _ _ p₁;
       led-few = λ e. leb→le _ _ (cond-test (eqb (r .kind) 3) (leb (r .most) 254) p₂ e);
@@ -105,18 +102,14 @@ layout-row-is i =
       sound = parts-sound (eqb (r .kind) 4) (rowParts r) q₂;
     }
 
-groups-length : length (groupRows 0 groups) ≡ 52
-unfolding groups layouts categories category017 category018
-groups-length = refl
-
 -- the group of a part
-own : (i k : ℕ) → layoutAt i .kind ≡ 4 → k < length (partsAt i) → (layoutAt i .first + k < 52) × (groupIn (layoutAt i .first + k) ≡ getD (partsAt i) k noGroup)
+own : (i k : ℕ) → layoutAt i .kind ≡ 4 → k < length (partsAt i) → (layoutAt i .first + k < groupCount) × (groupIn (layoutAt i .first + k) ≡ getD (partsAt i) k noGroup)
 unfolding partsAt groupIn groupAt
 own i k e h =
     let a = layoutAt i .first in
     let t = layoutAt i .end in
     let gs : List Group = map groupIs (groupRows 0 groups) in
-    let n : t ≤ length gs = subst (λ x. t ≤ x) (sym (length-map (groupRows 0 groups) groupIs ∙ groups-length)) (layout-row-is i .last) in
+    let n : t ≤ length gs = subst (λ x. t ≤ x) (sym (length-map (groupRows 0 groups) groupIs ∙ groups-long)) (layout-row-is i .last) in
     let p : partsAt i ≡ slice a t gs = ap (λ b. cond b (slice a t gs) (replicate (layoutAt i .most) (groupIn a))) (eq-eqb (layoutAt i .kind) 4 e) in
     let m : length (slice a t gs) ≡ t - a = length-slice a t gs n in
     let k′ : k < length (slice a t gs) = subst (λ l. k < length l) p h in
@@ -125,7 +118,7 @@ own i k e h =
       sym (ap (λ l. getD l k noGroup) p ∙ getD-drop a (take t gs) k noGroup ∙ getD-take t gs (a + k) noGroup s ∙ List·getD-map groupIs (groupRows 0 groups) (a + k) noGroupRow),
     )
 
-shared : (i k : ℕ) → (layoutAt i .kind ≡ 4 → ⊥) → k < length (partsAt i) → (layoutAt i .first < 52) × (groupIn (layoutAt i .first) ≡ getD (partsAt i) k noGroup)
+shared : (i k : ℕ) → (layoutAt i .kind ≡ 4 → ⊥) → k < length (partsAt i) → (layoutAt i .first < groupCount) × (groupIn (layoutAt i .first) ≡ getD (partsAt i) k noGroup)
 unfolding partsAt
 shared i k e h =
     let a = layoutAt i .first in
@@ -134,8 +127,8 @@ shared i k e h =
     let k′ : k < layoutAt i .most = subst (λ n. k < n) (layout-row-is i .most) h in
     (layout-row-is i .first, sym (ap (λ l. getD l k noGroup) p ∙ getD-replicate (layoutAt i .most) k g noGroup k′))
 
-pub part-own : (i k : ℕ) {r : LayoutRow} → r ≡ layoutAt i → r .kind ≡ 4 → k < length (partsAt i) → (r .first + k < 52) × (groupIn (r .first + k) ≡ getD (partsAt i) k noGroup)
-part-own i k d e h = subst (λ r. (r .first + k < 52) × (groupIn (r .first + k) ≡ getD (partsAt i) k noGroup)) (sym d) (own i k (sym (ap (λ r. r .kind) d) ∙ e) h)
+pub part-own : (i k : ℕ) {r : LayoutRow} → r ≡ layoutAt i → r .kind ≡ 4 → k < length (partsAt i) → (r .first + k < groupCount) × (groupIn (r .first + k) ≡ getD (partsAt i) k noGroup)
+part-own i k d e h = subst (λ r. (r .first + k < groupCount) × (groupIn (r .first + k) ≡ getD (partsAt i) k noGroup)) (sym d) (own i k (sym (ap (λ r. r .kind) d) ∙ e) h)
 
-pub part-shared : (i k : ℕ) {r : LayoutRow} → r ≡ layoutAt i → (r .kind ≡ 4 → ⊥) → k < length (partsAt i) → (r .first < 52) × (groupIn (r .first) ≡ getD (partsAt i) k noGroup)
-part-shared i k d e h = subst (λ r. (r .first < 52) × (groupIn (r .first) ≡ getD (partsAt i) k noGroup)) (sym d) (shared i k (λ z. e (ap (λ r. r .kind) d ∙ z)) h)
+pub part-shared : (i k : ℕ) {r : LayoutRow} → r ≡ layoutAt i → (r .kind ≡ 4 → ⊥) → k < length (partsAt i) → (r .first < groupCount) × (groupIn (r .first) ≡ getD (partsAt i) k noGroup)
+part-shared i k d e h = subst (λ r. (r .first < groupCount) × (groupIn (r .first) ≡ getD (partsAt i) k noGroup)) (sym d) (shared i k (λ z. e (ap (λ r. r .kind) d ∙ z)) h)

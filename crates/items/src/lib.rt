@@ -22,7 +22,7 @@ ghost use Rattle.rules.specs.Layout.{flatten};
 ghost use Rattle.rules.specs.Presence.{present, placeAt};
 ghost use Rattle.rules.specs.Answer.{expect_or_};
 ghost use Rattle.rules.specs.Entry.{categories, profileAt, layoutOf, readOne, leaves};
-ghost use Rattle.tables.specs.Tables.{placeIs, layoutIs, layoutAt, groupAt, placeRowAt};
+ghost use Rattle.tables.specs.Tables.{groupCount, layoutCount, placeCount, placeIs, layoutIs, layoutAt, groupAt, placeRowAt};
 ghost use Rattle.tables.specs.Places.{isNamed, frnAs};
 ghost use Rattle.layouts.specs.Read.{partSound, wholeSize, singleSize};
 ghost use Rattle.items.specs.Answers.{referenceIn, frnOf, checkedOf, checkAt, profileIn, readOf, countOf};
@@ -31,7 +31,7 @@ ghost use Rattle.items.specs.Answers.{referenceIn, frnOf, checkedOf, che
 
 // What a profile has at an FRN.
 fn place_of(profile: usize, frn: usize) -> PlaceRow
-    ensures { λ r. ⌜ (placeIs r ≡ placeAt (profileAt categories profile) frn) × (r .layout < 51) ⌝ }
+    ensures { λ r. ⌜ (placeIs r ≡ placeAt (profileAt categories profile) frn) × (r .layout < layoutCount) ⌝ }
 {
     if profile < PROFILES {
         if frn < FRNS {
@@ -111,7 +111,7 @@ pub enum ItemCheck {
 
 // How many octets an item with one part takes, by the group of the part, which has a rule.
 fn check_single(group: usize, part: &[u8]) -> ItemCheck
-    requires { ⌜ (group < 52) × (partSound 0 (groupAt group) ≡ true) ⌝ }
+    requires { ⌜ (group < groupCount) × (partSound 0 (groupAt group) ≡ true) ⌝ }
     ensures { λ r. ⌜ checkedOf r ≡ singleSize group (now (part .entry)) ⌝ }
 {
     let size = size_at(group);
@@ -132,7 +132,7 @@ fn check_single(group: usize, part: &[u8]) -> ItemCheck
 
 // How many octets the item at a place of the tables takes: most items have one part, and most of these are free.
 fn check_at(place: usize, part: &[u8]) -> ItemCheck
-    requires { ⌜ place < 72 ⌝ }
+    requires { ⌜ place < placeCount ⌝ }
     ensures { λ r. ⌜ checkedOf r ≡ wholeSize (layoutAt (placeRowAt place .layout)) (now (part .entry)) ⌝ }
 {
     let single = single_at(place);
@@ -186,7 +186,7 @@ pub fn profile_of(category: u8) -> usize
 
 // The place of the layout of an item, by its category and reference: that of no item where there is none.
 fn layout_of(category: u8, reference: u16) -> usize
-    ensures { λ r. ⌜ (r < 51) × ((expect layoutIs (layoutAt r) or 21) ≡ layoutOf category reference) ⌝ }
+    ensures { λ r. ⌜ (r < layoutCount) × ((expect layoutIs (layoutAt r) or 21) ≡ layoutOf category reference) ⌝ }
 {
     let profile = profile_of(category);
     match frn_of(profile, reference) {

@@ -16,6 +16,7 @@ ghost use lib.Seq.{sets};
 ghost use Rattle.rules.specs.Answer.{ok, octetsOf};
 ghost use Rattle.rules.specs.Layout.{octets};
 ghost use Rattle.rules.specs.Entry.{writeOne, leaves};
+ghost use Rattle.tables.specs.Tables.{fieldCount, groupCount, layoutCount};
 ghost use Rattle.items.specs.Write.{fieldIn, groupIn, noGroup, partsAt, chainedAt, codeFor, packFrom, countParts, parts, layParts, headAt, marked, codedAs, packedAs, countedAs, writtenAs};
 ghost use Rattle.items.specs.Answers.{countOf};
 
@@ -49,7 +50,7 @@ pub enum Coded {
 
 // The bits of the value at a place of a list, in the field at a place of the table.
 fn code_at(field: usize, values: &[i64], at: usize) -> Coded
-    requires { ⌜ field < 113 ⌝ }
+    requires { ⌜ field < fieldCount ⌝ }
     ensures { λ r. ⌜ codedAs r ≡ codeFor (fieldIn field) (drop at (now (values .entry))) ⌝ }
 {
     let f = field_at(field);
@@ -82,7 +83,7 @@ pub enum Packed {
 
 // The number of the part whose values start at a place of a list, by the group at a place of the table.
 fn pack_part(group: usize, values: &[i64], at: usize) -> Packed
-    requires { ⌜ group < 52 ⌝ }
+    requires { ⌜ group < groupCount ⌝ }
     ensures { λ r. ⌜ packedAs r ≡ packFrom (groupIn group .fields) (now (values .entry)) at ⌝ }
 {
     let g = group_at(group);
@@ -140,8 +141,8 @@ fn lay_number(n: u64, size: usize, out: &mut [u8], at: usize)
 
 // The group of a part, counted from 0, of the layout at a place of the table.
 fn part_group(layout: usize, part: usize) -> usize
-    requires { ⌜ (layout < 51) × (part < length (partsAt layout)) ⌝ }
-    ensures { λ r. ⌜ (r < 52) × (groupIn r ≡ getD (partsAt layout) part noGroup) ⌝ }
+    requires { ⌜ (layout < layoutCount) × (part < length (partsAt layout)) ⌝ }
+    ensures { λ r. ⌜ (r < groupCount) × (groupIn r ≡ getD (partsAt layout) part noGroup) ⌝ }
 {
     let l = layout_at(layout);
     if l.kind == EXTENDED {
@@ -160,7 +161,7 @@ pub enum Counted {
 
 // The parts that a list of values makes, by the layout at a place of the table.
 fn count_parts(layout: usize, values: &[i64]) -> Counted
-    requires { ⌜ layout < 51 ⌝ }
+    requires { ⌜ layout < layoutCount ⌝ }
     ensures { λ r. ⌜ countedAs r ≡ countParts (chainedAt layout) (partsAt layout) (now (values .entry)) ⌝ }
 {
     let l = layout_at(layout);
@@ -189,7 +190,7 @@ fn count_parts(layout: usize, values: &[i64]) -> Counted
 
 // The octets of the parts, at a place of the output.
 fn lay_parts(layout: usize, values: &[i64], count: usize, out: &mut [u8], start: usize)
-    requires { ⌜ layout < 51 ⌝ }
+    requires { ⌜ layout < layoutCount ⌝ }
     requires { ⌜ countParts (chainedAt layout) (partsAt layout) (now values) ≡ ok (parts count (length (octetsOf (layParts (chainedAt layout) (partsAt layout) (now values))))) ⌝ }
     requires { ⌜ start + length (octetsOf (layParts (chainedAt layout) (partsAt layout) (now values))) ≤ length (now out) ⌝ }
     ensures { λ _. ⌜ now (out .exit) ≡ sets (now (out .entry)) start (octetsOf (layParts (chainedAt layout) (partsAt layout) (now (values .entry)))) ⌝ }
@@ -216,7 +217,7 @@ fn lay_parts(layout: usize, values: &[i64], count: usize, out: &mut [u8], start:
 
 // How many octets stand before the parts.
 fn head_size(layout: usize) -> usize
-    requires { ⌜ layout < 51 ⌝ }
+    requires { ⌜ layout < layoutCount ⌝ }
     ensures { λ r. ⌜ (r ≤ 1) × ((k : ℕ) → length (headAt layout k) ≡ r) ⌝ }
 {
     let l = layout_at(layout);
@@ -239,7 +240,7 @@ fn count_octet(parts: usize, own: usize) -> u8
 
 // The count or length octet before so many parts, at the start of the output.
 fn lay_head(layout: usize, count: usize, out: &mut [u8])
-    requires { ⌜ (layout < 51) × (count ≤ length (partsAt layout)) ⌝ }
+    requires { ⌜ (layout < layoutCount) × (count ≤ length (partsAt layout)) ⌝ }
     requires { ⌜ length (headAt layout count) ≤ length (now out) ⌝ }
     ensures { λ _. ⌜ now (out .exit) ≡ sets (now (out .entry)) 0 (headAt layout count) ⌝ }
 {

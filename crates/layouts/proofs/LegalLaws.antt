@@ -18,7 +18,7 @@ use borrow.Author.Tests.{le-leb, lt-leb, lt-ltb, le-ltb, leb-true, ltb-true, eqb
 use Rattle.rules.specs.Field.{Field, spare, value, unsigned, signed, bits, half}
 use Rattle.rules.specs.Layout.{joined}
 use Rattle.rules.proofs.AnswerLaws.{Octets, both-left, both-right}
-use Rattle.tables.specs.Tables.{fieldRow, minus, isFree, groupAt}
+use Rattle.tables.specs.Tables.{groupCount, fieldRow, minus, isFree, groupAt}
 use Rattle.tables.specs.FieldRules.{ruleOf, rulesOf, obeys, allObeyed, rules, firstRule}
 use Rattle.tables.proofs.TableLaws.{every, fieldsAt}
 use Rattle.tables.proofs.RuleLaws.{no-rules, sane, group-rules, group-sane, first-few}
@@ -121,7 +121,7 @@ obeyed-legal (f ∷ fs) n s =
 -- ---- the groups of the tables
 
 -- a number of a group's bits obeys its rules where its fields are legal
-pub group-obeyed : (g n : ℕ) → g < 52 → n < 2 ^ width (rowsAt g) → allObeyed (slice (firstRule g) (firstRule (g + 1)) rules) n ≡ legal (rowsAt g) n
+pub group-obeyed : (g n : ℕ) → g < groupCount → n < 2 ^ width (rowsAt g) → allObeyed (slice (firstRule g) (firstRule (g + 1)) rules) n ≡ legal (rowsAt g) n
 group-obeyed g n h k =
     let e : rowsAt g ≡ map fieldRow (fieldsAt g) = rows-map (groupAt g .first) (groupAt g .end) in
     let b : n < 2 ^ bits (fieldsAt g) = subst (λ x. n < 2 ^ x) (ap width e ∙ width-bits (fieldsAt g)) k in
@@ -129,7 +129,7 @@ group-obeyed g n h k =
     (obeyed-legal (fieldsAt g) n (group-sane g h) ∙ ap (legal (map fieldRow (fieldsAt g))) (mod-eq-of-lt b) ∙ ap (λ rs. legal rs n) (sym e))
 
 -- a group without a rule is free
-pub group-none : (g n : ℕ) → g < 52 → n < 2 ^ width (rowsAt g) → firstRule (g + 1) ≤ firstRule g → legal (rowsAt g) n ≡ true
+pub group-none : (g n : ℕ) → g < groupCount → n < 2 ^ width (rowsAt g) → firstRule (g + 1) ≤ firstRule g → legal (rowsAt g) n ≡ true
 group-none g n h k l =
     let z : slice (firstRule g) (firstRule (g + 1)) rules ≡ [] = no-rules (firstRule g) (firstRule (g + 1)) l (first-few (g + 1) (omega arith)) in
     sym (group-obeyed g n h k) ∙ ap (λ rs. allObeyed rs n) z
@@ -145,7 +145,7 @@ part-below step g p m n em k =
     let q : 8 * m ≤ 56 = omega (arith, part-sound step (groupAt g) p .short) in
     omega (arith, pow-mono q)
 
-module _ (step g at : ℕ) (s : List ℕ) (o : Octets s) (h : g < 52) (p : partSound step (groupAt g) ≡ true) (l : at + groupAt g .octets ≤ length s) where
+module _ (step g at : ℕ) (s : List ℕ) (o : Octets s) (h : g < groupCount) (p : partSound step (groupAt g) ≡ true) (l : at + groupAt g .octets ≤ length s) where
   part-fits : partAt step g (drop at s) < 2 ^ width (rowsAt g)
   part-fits =
       let e : width (rowsAt g) ≡ bits (fieldsAt g) = ap width (rows-map (groupAt g .first) (groupAt g .end)) ∙ width-bits (fieldsAt g) in

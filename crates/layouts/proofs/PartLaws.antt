@@ -14,21 +14,21 @@ use lib.Pow.{shr-lt}
 use borrow.Author.Tests.{ltb-true, leb-true, eqb-true}
 use Rattle.rules.proofs.AnswerLaws.{both-left, both-right}
 use Rattle.tables.specs.declared.tables.GroupRow.{GroupRow}
-use Rattle.tables.specs.Tables.{groupAt}
+use Rattle.tables.specs.Tables.{fieldCount, groupCount, groupAt}
 use Rattle.tables.proofs.RuleLaws.{and-true, and-false}
 use Rattle.layouts.specs.Read.{rows, rowsAt, partAt, width, legal, span, partSound, partsSound, partsLegal}
 
 -- ---- a sound group
 
 pub record PartSound (step : ℕ) (r : GroupRow) : Type 0 where
-  pub inside : r .end ≤ 113
+  pub inside : r .end ≤ fieldCount
   pub some : 1 ≤ r .octets
   pub short : r .octets ≤ 7
   pub whole : width (rows (r .first) (r .end)) + step ≡ 8 * r .octets
 
 pub part-sound : (step : ℕ) (r : GroupRow) → partSound step r ≡ true → PartSound step r
 part-sound step r e =
-    let a = leb (r .end) 113 in
+    let a = leb (r .end) fieldCount in
     let b = leb 1 (r .octets) in
     let c = leb (r .octets) 7 in
     let d = eqb (width (rows (r .first) (r .end)) + step) (8 * r .octets) in
@@ -62,7 +62,7 @@ one-part step r n s h =
 
 -- the first of the parts, and the others
 pub record First (step g k : ℕ) (s : List ℕ) (p : ℕ) : Type 0 where
-  pub inside : g < 52
+  pub inside : g < groupCount
   pub sound : partSound step (groupAt g) ≡ true
   pub rest : partsSound step (g + step) (k - 1) ≡ true
   pub spans : span step g k ≡ groupAt g .octets + span step (g + step) (k - 1)
@@ -72,13 +72,13 @@ pub first-part : (step g k : ℕ) (s : List ℕ) (p : ℕ) → 0 < k → partsSo
 unfolding partsSound span partsLegal
 first-part step g zero s p h e = absurd (not-suc-le-zero h)
 first-part step g (suc k) s p h e =
-    let a = ltb g 52 in
+    let a = ltb g groupCount in
     let b = partSound step (groupAt g) in
     let c = partsSound step (g + step) k in
     let j : suc k - 1 ≡ k = omega arith in
     let u : a && b ≡ true = both-left (a && b) c e in
     record {
-      inside = ltb-true g 52 (both-left a b u);
+      inside = ltb-true g groupCount (both-left a b u);
       sound = both-right a b u;
       rest = rw j (both-right (a && b) c e);
       spans = rw j refl;

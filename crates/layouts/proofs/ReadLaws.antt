@@ -13,7 +13,7 @@ use native.Mathlib.Numerals.{add-one}
 use native.Mathlib.Nat.{not-suc-le-zero, le-of-suc-le-suc, le-trans, add-zero, zero-mul, mul-one, div-one}
 use lib.Dec.{leb, ltb, eqb, leb·zero, lit≤, lit<, T, leb→le, ltb→lt}
 use lib.IntN.{ℤ, pos, negsuc}
-use lib.ListN.{length, getD, take, drop, replicate, length-drop, length-replicate, List·getD-map}
+use lib.ListN.{length, getD, take, drop, replicate, length-drop, length-map, length-replicate, List·getD-map}
 use lib.Seq.{slice, slice-cons, slice-empty, drop-drop, length-take-le}
 use lib.Pow.{shr-lt}
 use borrow.Author.Tests.{le-leb, lt-leb, lt-ltb, le-ltb, leb-true, leb-false, eqb-true}
@@ -27,8 +27,8 @@ use Rattle.rules.specs.Category018.{category018}
 use Rattle.rules.specs.Entry.{categories}
 use Rattle.tables.specs.declared.tables.LayoutRow.{LayoutRow}
 use Rattle.tables.specs.Tables as t
-use Rattle.tables.specs.Tables.{fields, fieldRow, groupIs, groupRows, noGroupRow, groupAt, layoutIs, layoutBy}
-use Rattle.tables.proofs.TableLaws.{fieldsAt}
+use Rattle.tables.specs.Tables.{groupCount, fields, fieldRow, groupIs, groupRows, noGroupRow, groupAt, layoutIs, layoutBy}
+use Rattle.tables.proofs.TableLaws.{fieldsAt, groups-long}
 use Rattle.layouts.specs.Read.{rows, rowsAt, partAt, width, legal, values, span, holds, partSound, partsSound, partsLegal, partValues, Shaped, chain, headOf, stepOf, listShape, shapeBy, shapeOf, readKind, readBy, isOctet, rowSound}
 use Rattle.layouts.proofs.FieldCodes.{Wide, width-bits, unpack-is}
 use Rattle.layouts.proofs.OctetLaws.{joined-lt}
@@ -132,7 +132,7 @@ unfolding unpackAll partNumbers Grouping partsSound span partsLegal partValues n
 unpacked step g zero gs bs o s h e = refl
 unpacked step g (suc c) [] bs o s h e = absurd e
 unpacked step g (suc c) (fs ∷ gs) bs o s h e =
-    let a = ltb g 52 in
+    let a = ltb g groupCount in
     let b = partSound step (groupAt g) in
     let d = partsSound step (g + step) c in
     let p : PartSound step (groupAt g) = part-sound step (groupAt g) (both-right a b (both-left (a && b) d s)) in
@@ -266,7 +266,7 @@ unfolding partsSound
 parts-fewer step g zero d h e = refl
 parts-fewer step g (suc c) zero h e = absurd (not-suc-le-zero h)
 parts-fewer step g (suc c) (suc d) h e =
-    let a = ltb g 52 && partSound step (groupAt g) in
+    let a = ltb g groupCount && partSound step (groupAt g) in
     rw (both-left a (partsSound step (g + step) d) e) (parts-fewer step (g + step) c d (le-of-suc-le-suc h) (both-right a (partsSound step (g + step) d) e))
 
 -- the octet before the parts
@@ -302,15 +302,14 @@ octet-is (value w (signed lo hi) ∷ fs) e = absurd (false≢true e)
 abbrev allGroups : List Group
 allGroups = map groupIs (groupRows 0 t.groups)
 
-groups-long : length allGroups ≡ 52
-unfolding t.groups t.layouts categories category017 category018
-groups-long = refl
+all-groups : length allGroups ≡ groupCount
+all-groups = length-map (groupRows 0 t.groups) groupIs ∙ groups-long
 
-groups-cons : (g e : ℕ) → g < e → e ≤ 52 → slice g e allGroups ≡ groupIs (groupAt g) ∷ slice (g + 1) e allGroups
+groups-cons : (g e : ℕ) → g < e → e ≤ groupCount → slice g e allGroups ≡ groupIs (groupAt g) ∷ slice (g + 1) e allGroups
 unfolding groupAt
 groups-cons g e h k =
     rw (add-one g)
-    (slice-cons g e allGroups (groupIs noGroupRow) h (subst (λ n. e ≤ n) (sym groups-long) k)
+    (slice-cons g e allGroups (groupIs noGroupRow) h (subst (λ n. e ≤ n) (sym all-groups) k)
     ∙ ap (λ x. x ∷ slice (suc g) e allGroups) (List·getD-map groupIs (groupRows 0 t.groups) g noGroupRow))
 
 -- what a chain's shape says of its parts
@@ -326,7 +325,7 @@ chain-next g bs (ok s) =
     rw (add-one (s .0), drop-drop (s .1) (groupAt g .octets) bs, c)
 chain-next g bs (refused n p) = refl
 
-chain-is : (n g e : ℕ) (bs : List ℕ) → g + n ≡ e → e ≤ 52 → readChain 9 11 (map (λ x. x .size) (slice g e allGroups)) bs ≡ (chain g n bs >>= chainParts g bs)
+chain-is : (n g e : ℕ) (bs : List ℕ) → g + n ≡ e → e ≤ groupCount → readChain 9 11 (map (λ x. x .size) (slice g e allGroups)) bs ≡ (chain g n bs >>= chainParts g bs)
 unfolding chain readChain readNum chainParts partNumbers _>>=_ need_or_then_ if_then_else_
 chain-is zero g e bs h k =
     let j : g ≡ e = omega arith in
@@ -378,7 +377,7 @@ chained (suc n) g bs s h =
           there = omega (arith, d .there, length-drop (groupAt g .octets) bs);
         })
 
-grouping-chain : (c g e : ℕ) → g + c ≤ e → e ≤ 52 → Grouping 1 g c (map (λ x. x .fields) (slice g e allGroups))
+grouping-chain : (c g e : ℕ) → g + c ≤ e → e ≤ groupCount → Grouping 1 g c (map (λ x. x .fields) (slice g e allGroups))
 unfolding Grouping
 grouping-chain zero g e h k = tt
 grouping-chain (suc c) g e h k = rw (groups-cons g e (omega arith) k) (refl, grouping-chain c (g + 1) e (omega arith) k)
@@ -472,7 +471,7 @@ module _ (lo hi a e : ℕ) (bs : List ℕ) (o : Octets bs) where
       (le-or-lt 1 (length bs))
 
   -- parts as far as the FX bits say
-  chain-reads : partsSound 1 a hi ≡ true → a + hi ≡ e → e ≤ 52 → readItem (extended (slice a e allGroups)) bs ≡ readKind 4 lo hi a e bs
+  chain-reads : partsSound 1 a hi ≡ true → a + hi ≡ e → e ≤ groupCount → readItem (extended (slice a e allGroups)) bs ≡ readKind 4 lo hi a e bs
   unfolding shapeBy readParts chainParts _>>=_
   chain-reads s h k = go (chain a (e - a) bs) refl
     where

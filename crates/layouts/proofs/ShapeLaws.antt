@@ -15,7 +15,7 @@ use Rattle.rules.specs.Answer.{Answer, ok, refused, _>>=_, need_or_then_, if_th
 use Rattle.rules.specs.Layout.{joined}
 use Rattle.rules.proofs.AnswerLaws.{both-left, both-right}
 use Rattle.tables.specs.declared.tables.LayoutRow.{LayoutRow}
-use Rattle.tables.specs.Tables.{fields, groupAt}
+use Rattle.tables.specs.Tables.{groupCount, fields, groupAt}
 use Rattle.layouts.specs.Read.{holds, partsSound, Shaped, chain, stepOf, listShape, shapeBy, shapeOf, isOctet, rowSoundBy, rowSound}
 use Rattle.layouts.proofs.OctetLaws.{joined-suc}
 use Rattle.layouts.proofs.PartLaws.{PartSound, part-sound, First, first-part}
@@ -136,7 +136,7 @@ rowed l e =
     record { parts = both-left a b u; room = leb-true _ _ (both-right a b u); by = both-right (a && b) c e }
 
 pub record Grouped (l : LayoutRow) : Type 0 where
-  pub inside : l .first < 52
+  pub inside : l .first < groupCount
   pub sound : PartSound 0 (groupAt (l .first))
 
 module _ (l : LayoutRow) (r : Rowed l) where
@@ -178,7 +178,7 @@ module _ (l : LayoutRow) (r : Rowed l) where
   chain-many : l .kind ≡ 4 → l .most ≡ l .end - l .first
   chain-many e = omega (arith, chain-ends e)
 
-  pub chain-inside : l .kind ≡ 4 → l .end ≤ 52
+  pub chain-inside : l .kind ≡ 4 → l .end ≤ groupCount
   chain-inside e = let t = by-kind 4 e in leb-true _ _ (both-right (eqb 0 0 && eqb (l .first + l .most) (l .end)) _ t)
 
   pub chain-parts : l .kind ≡ 4 → partsSound 1 (l .first) (l .end - l .first) ≡ true

@@ -6,15 +6,15 @@ use native.Mathlib.Nat.{le-of-suc-le-suc}
 use Rattle.rules.specs.Category017.{category017}
 use Rattle.rules.specs.Category018.{category018}
 use Rattle.rules.specs.Entry.{categories}
-use Rattle.tables.specs.Tables.{fields, groups, layouts, groupAt, layoutRows, noLayoutRow, layoutAt}
+use Rattle.tables.specs.Tables.{layoutCount, fields, groups, layouts, groupAt, layoutRows, noLayoutRow, layoutAt}
 use Rattle.tables.proofs.TableLaws.{each}
 use Rattle.layouts.specs.Read.{rows, isSpare, holds, partsSound, rowSound}
 
-layout-sound-suc : (j : ℕ) → j < 50 → rowSound (layoutAt (suc j)) ≡ true
+layout-sound-suc : (j : ℕ) → suc j < layoutCount → rowSound (layoutAt (suc j)) ≡ true
 unfolding partsSound holds rows rowSound isSpare layoutAt groupAt fields groups layouts categories category017 category018
-layout-sound-suc j h = each rowSound (layoutRows 0 layouts) noLayoutRow refl j h
+layout-sound-suc j h = each rowSound (layoutRows 0 layouts) noLayoutRow refl j (le-of-suc-le-suc h)
 
-pub layout-sound : (j : ℕ) → j < 51 → rowSound (layoutAt j) ≡ true
+pub layout-sound : (j : ℕ) → j < layoutCount → rowSound (layoutAt j) ≡ true
 unfolding partsSound holds rowSound layoutAt
 layout-sound zero h = refl
-layout-sound (suc j) h = layout-sound-suc j (le-of-suc-le-suc h)
+layout-sound (suc j) h = layout-sound-suc j h

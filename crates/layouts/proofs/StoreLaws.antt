@@ -18,7 +18,7 @@ use mir.ValLaws.{toZ-ofZ}
 use Rattle.rules.specs.Layout.{flatten}
 use Rattle.tables.specs.declared.tables.FieldRow.{FieldRow}
 use Rattle.tables.specs.declared.tables.GroupRow.{GroupRow}
-use Rattle.tables.specs.Tables.{groupAt}
+use Rattle.tables.specs.Tables.{fieldCount, groupAt}
 use Rattle.layouts.specs.Read.{rows, rowsAt, partAt, valueOf, isSpare, width, shown, takes, values, count, span, holds, partsSound, partValues}
 use Rattle.layouts.proofs.FieldCodes.{again}
 use Rattle.layouts.proofs.PartLaws.{First, first-part}
@@ -84,7 +84,7 @@ stored a e n at out₀ i rest left k p k' f out out' {z} s c ez eo ep =
           ∙ s .same;
     }
 
-pub stored-all : (a e n at : ℕ) (out₀ : List ℤ) (i rest left k : ℕ) (out : List ℤ) → Storing a e n at out₀ i rest left k out → e ≤ i → e ≤ 113
+pub stored-all : (a e n at : ℕ) (out₀ : List ℤ) (i rest left k : ℕ) (out : List ℤ) → Storing a e n at out₀ i rest left k out → e ≤ i → e ≤ fieldCount
     → (k ≡ at + count (rows a e)) × (out ≡ sets out₀ at (values (rows a e) n))
 stored-all a e n at out₀ i rest left k out s h t =
     let r : rows i e ≡ [] = rows-nil i e h t in

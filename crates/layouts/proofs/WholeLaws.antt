@@ -17,7 +17,7 @@ use Rattle.rules.specs.Answer.{ok, refused, _>>=_, need_or_then_}
 use Rattle.rules.specs.Field.{Field, spare, value, unsigned, signed, bits, half}
 use Rattle.rules.proofs.AnswerLaws.{Octets, both-left, both-right, refused-ok}
 use Rattle.tables.specs.declared.tables.LayoutRow.{LayoutRow}
-use Rattle.tables.specs.Tables.{fieldRow, minus, isFree, groupAt}
+use Rattle.tables.specs.Tables.{groupCount, fieldRow, minus, isFree, groupAt}
 use Rattle.tables.proofs.TableLaws.{fieldsAt, group-free}
 use Rattle.layouts.specs.Read.{rowsAt, partAt, twosOf, valueOf, within, legal, span, partSound, partsSound, partsLegal, headOf, stepOf, shapeOf, wholeOf, rowSound}
 use Rattle.layouts.proofs.FieldCodes.{Wide, width-bits, low-minus, low-neg, twice}
@@ -62,7 +62,7 @@ free-parts : (g c : ℕ) (bs : List ℕ) → Octets bs → partsSound 0 g c ≡ 
 unfolding partsSound span partsLegal
 free-parts g zero bs o s h f = refl
 free-parts g (suc c) bs o s h f =
-    let a = ltb g 52 in
+    let a = ltb g groupCount in
     let b = partSound 0 (groupAt g) in
     let d = partsSound 0 (g + 0) c in
     let p : PartSound 0 (groupAt g) = part-sound 0 (groupAt g) (both-right a b (both-left (a && b) d s)) in

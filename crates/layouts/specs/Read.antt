@@ -14,7 +14,7 @@ use Rattle.rules.specs.Layout.{Values, joined}
 use Rattle.tables.specs.declared.tables.FieldRow.{FieldRow}
 use Rattle.tables.specs.declared.tables.GroupRow.{GroupRow}
 use Rattle.tables.specs.declared.tables.LayoutRow.{LayoutRow}
-use Rattle.tables.specs.Tables.{fields, fieldRow, groupAt}
+use Rattle.tables.specs.Tables.{fieldCount, groupCount, fields, fieldRow, groupAt}
 use Rattle.layouts.specs.declared.parts.Shape.{Shape}
 use Rattle.layouts.specs.declared.parts.Shape.the-variants.{Parts, Refused}
 
@@ -82,11 +82,11 @@ holds step g (suc c) = count (rowsAt g) + holds step (g + step) c
 
 -- the tables have a row for each part, and its fields fill its octets, but for the FX bit
 abbrev pub partSound : ℕ → GroupRow → Bool
-partSound step r = leb (r .end) 113 && leb 1 (r .octets) && leb (r .octets) 7 && eqb (width (rows (r .first) (r .end)) + step) (8 * r .octets)
+partSound step r = leb (r .end) fieldCount && leb 1 (r .octets) && leb (r .octets) 7 && eqb (width (rows (r .first) (r .end)) + step) (8 * r .octets)
 
 unfoldable pub partsSound : ℕ → ℕ → ℕ → Bool
 partsSound step g zero = true
-partsSound step g (suc c) = ltb g 52 && partSound step (groupAt g) && partsSound step (g + step) c
+partsSound step g (suc c) = ltb g groupCount && partSound step (groupAt g) && partsSound step (g + step) c
 
 unfoldable pub partsLegal : ℕ → ℕ → ℕ → List ℕ → Bool
 partsLegal step g zero bs = true
@@ -187,7 +187,7 @@ rowSoundBy zero hi a e = true
 rowSoundBy (suc zero) hi a e = eqb hi 1
 rowSoundBy (suc (suc zero)) hi a e = leb 1 hi
 rowSoundBy (suc (suc (suc zero))) hi a e = eqb hi 254 && eqb (groupAt a .octets) 1 && isOctet (slice (groupAt a .first) (groupAt a .end) fields)
-rowSoundBy (suc (suc (suc (suc k)))) hi a e = eqb k 0 && eqb (a + hi) e && leb e 52
+rowSoundBy (suc (suc (suc (suc k)))) hi a e = eqb k 0 && eqb (a + hi) e && leb e groupCount
 
 -- there is a sound group for each part that an item may have, and room for all their values
 unfoldable pub rowSound : LayoutRow → Bool

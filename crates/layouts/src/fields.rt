@@ -9,6 +9,7 @@ ghost use Prim.Native.Nat.{_+_, _≤_, _<_, _^_};
 ghost use mathlib.Core.List.{[]};
 ghost use lib.Seq.{sets};
 ghost use lib.IntN.{pos, negsuc};
+ghost use Rattle.tables.specs.Tables.{fieldCount};
 ghost use Rattle.layouts.specs.Read.{rows, valueOf, width, shown, takes, values, count};
 
 // n and -(n + 1): the only places where a signed number is made.
@@ -58,7 +59,7 @@ fn put(f: FieldRow, v: i64, out: &mut [i64; 8192], at: usize) -> usize
 
 // The values of the fields of a number of w bits, from a place of the output on; the place after them.
 pub fn fields_store(n: u64, w: u64, a: usize, e: usize, out: &mut [i64; 8192], at: usize) -> usize
-    requires { ⌜ (e ≤ 113) × (w ≡ width (rows a e)) ⌝ }
+    requires { ⌜ (e ≤ fieldCount) × (w ≡ width (rows a e)) ⌝ }
     requires { ⌜ (w ≤ 64) × (n < 2 ^ w) ⌝ }
     requires { ⌜ at + count (rows a e) ≤ 8_192 ⌝ }
     ensures { λ r. ⌜ (r ≡ at + count (rows a e)) × (now (out .exit) ≡ sets (now (out .entry)) at (values (rows a e) n)) ⌝ }

@@ -19,7 +19,7 @@ ghost use lib.Seq.{sets};
 ghost use Rattle.rules.specs.Layout.{joined, flatten};
 ghost use Rattle.layouts.specs.Read.{rowsAt, partAt, legal, span, partSound, partsSound, partsLegal, values, count, holds, partValues, shapeIs, chain, listShape, headOf, stepOf, shapeOf, wholeOf, rowSound};
 ghost use lib.Dec.{eqb};
-ghost use Rattle.tables.specs.Tables.{groupAt};
+ghost use Rattle.tables.specs.Tables.{groupCount, groupAt};
 
 fn wide(x: u8) -> u64
     ensures { λ r. ⌜ (r ≡ x) × (r < 256) ⌝ }
@@ -43,7 +43,7 @@ fn number_at(s: &[u8], at: usize, size: usize) -> u64
 
 // Whether the fields of the part at a place, by a group, are legal: those that have a rule obey it.
 pub fn part_legal(s: &[u8], at: usize, group: usize, step: usize) -> bool
-    requires { ⌜ (step ≤ 1) × (group < 52) × (partSound step (groupAt group) ≡ true) × (at + groupAt group .octets ≤ length (now s)) ⌝ }
+    requires { ⌜ (step ≤ 1) × (group < groupCount) × (partSound step (groupAt group) ≡ true) × (at + groupAt group .octets ≤ length (now s)) ⌝ }
     ensures { λ r. ⌜ r ≡ legal (rowsAt group) (partAt step group (drop at (now (s .entry)))) ⌝ }
 {
     let a = first_rule(group);
@@ -98,7 +98,7 @@ fn is_last(x: u8) -> bool
 
 // The shape of an item whose parts follow each other as far as the FX bits say, at most those of the groups from first to before last.
 fn chain_of(s: &[u8], first: usize, last: usize) -> Shape
-    requires { ⌜ (last ≤ 52) × (partsSound 1 first (last - first) ≡ true) ⌝ }
+    requires { ⌜ (last ≤ groupCount) × (partsSound 1 first (last - first) ≡ true) ⌝ }
     ensures { λ r. ⌜ shapeIs r ≡ chain first (last - first) (now (s .entry)) ⌝ }
 {
     let mut g = first;
@@ -228,7 +228,7 @@ fn part_store(
     out: &mut [i64; 8192],
     q: usize,
 ) -> usize
-    requires { ⌜ (step ≤ 1) × (group < 52) × (partSound step (groupAt group) ≡ true) × (at + groupAt group .octets ≤ length (now s)) ⌝ }
+    requires { ⌜ (step ≤ 1) × (group < groupCount) × (partSound step (groupAt group) ≡ true) × (at + groupAt group .octets ≤ length (now s)) ⌝ }
     requires { ⌜ q + count (rowsAt group) ≤ 8_192 ⌝ }
     ensures { λ r. ⌜ (r ≡ q + count (rowsAt group)) × (now (out .exit) ≡ sets (now (out .entry)) q (values (rowsAt group) (partAt step group (drop at (now (s .entry)))))) ⌝ }
 {

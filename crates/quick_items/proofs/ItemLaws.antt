@@ -26,7 +26,7 @@ use Rattle.items.specs.Answers.{checkAt}
 use Rattle.tables.specs.FieldRules.{Rule, obeys, allObeyed, rules, firstRule, singleOf, singles}
 use Rattle.quick_items.specs.Item.{Plainly, firstThree, downOf, addedOf, upOf, limitOf, asks, sameRule, sameRules, soundRule, lowAt, highAt, asked, soundRow, soundFree, soundSingle, soundCounted, soundExtended, samePair, soundTwice, soundBy, soundWord, soundWords, soundSteps}
 use Rattle.layouts.specs.Read.{rowsAt, partAt, legal, partSound, partsLegal, chain, listShape, shapeOf, wholeSize, rowSound}
-use Rattle.tables.specs.Tables.{groupAt, layoutAt, nowhere, profileRows, placeRowAt}
+use Rattle.tables.specs.Tables.{groupCount, groupAt, layoutAt, nowhere, profileRows, placeRowAt}
 use Rattle.items.proofs.CheckLaws.{Single, single-is, single-size, single-sound, single-legal, free-of, free-there, check-whole, check-place}
 use Rattle.layouts.proofs.WholeLaws.{equal-free, chain-legal}
 use Rattle.layouts.proofs.OctetLaws.{joined-suc, joined-nil}
@@ -203,11 +203,11 @@ asked-pair t i j size bs o l (r ∷ (q ∷ [])) s h k =
 asked-pair t i j size bs o l (r ∷ (q ∷ (p ∷ rs))) s h k = absurd (false≢true s)
 
 -- a part by its group, whose rules it obeys
-obeyed-legal : (step g : ℕ) (bs : List ℕ) → Octets bs → g < 52 → partSound step (groupAt g) ≡ true → groupAt g .octets ≤ length bs
+obeyed-legal : (step g : ℕ) (bs : List ℕ) → Octets bs → g < groupCount → partSound step (groupAt g) ≡ true → groupAt g .octets ≤ length bs
     → allObeyed (slice (firstRule g) (firstRule (g + 1)) rules) (joined (take (groupAt g .octets) bs) / 2 ^ step) ≡ true → legal (rowsAt g) (partAt step g bs) ≡ true
 obeyed-legal step g bs o h p l e = sym (part-ruled step g 0 bs o h p (omega arith) refl refl refl refl (sym e))
 
-asked-legal : (low high step g : ℕ) (bs : List ℕ) → Octets bs → g < 52 → partSound step (groupAt g) ≡ true → groupAt g .octets ≤ length bs
+asked-legal : (low high step g : ℕ) (bs : List ℕ) → Octets bs → g < groupCount → partSound step (groupAt g) ≡ true → groupAt g .octets ≤ length bs
     → soundRule low high step g ≡ true → asks low high (firstThree bs) ≡ true → legal (rowsAt g) (partAt step g bs) ≡ true
 unfolding soundRule
 asked-legal low high step g bs o h p l s e = obeyed-legal step g bs o h p l (asked-rules low high step (groupAt g .octets) bs o l (slice (firstRule g) (firstRule (g + 1)) rules) s e)
@@ -217,7 +217,7 @@ asked-legal low high step g bs o h p l s e = obeyed-legal step g bs o h p l (ask
 module _ (l : LayoutRow) (w : ℕ) (bs : List ℕ) (r : rowSound l ≡ true) (o : Octets bs) (h : w % 16 ≤ length bs) where
   -- it obeys its rules
   single-told : (c : Bool) → eqb (l .kind) 1 && eqb (groupAt (l .first) .octets) (w % 16) && c ≡ true
-      → (l .first < 52 → partSound 0 (groupAt (l .first)) ≡ true → groupAt (l .first) .octets ≤ length bs → c ≡ true → legal (rowsAt (l .first)) (partAt 0 (l .first) bs) ≡ true) → Plainly (w % 16) (wholeSize l bs)
+      → (l .first < groupCount → partSound 0 (groupAt (l .first)) ≡ true → groupAt (l .first) .octets ≤ length bs → c ≡ true → legal (rowsAt (l .first)) (partAt 0 (l .first) bs) ≡ true) → Plainly (w % 16) (wholeSize l bs)
   single-told c s f =
       let a = eqb (l .kind) 1 in
       let b = eqb (groupAt (l .first) .octets) (w % 16) in

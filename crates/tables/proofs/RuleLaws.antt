@@ -17,8 +17,8 @@ use Rattle.rules.specs.Field.{Field, spare, value, unsigned, signed, half}
 use Rattle.rules.specs.Category017.{category017}
 use Rattle.rules.specs.Category018.{category018}
 use Rattle.rules.specs.Entry.{categories}
-use Rattle.tables.specs.Tables.{fields, groups, layouts, groupRows, noGroupRow, groupAt}
-use Rattle.tables.specs.FieldRules.{Rule, rulesOf, obeys, allObeyed, rules, firstRule, ruleAt, ruleWords, addedTo, limits, sizes}
+use Rattle.tables.specs.Tables.{groupCount, fields, groups, layouts, groupRows, noGroupRow, groupAt}
+use Rattle.tables.specs.FieldRules.{ruleCount, Rule, rulesOf, obeys, allObeyed, rules, firstRule, ruleAt, ruleWords, addedTo, limits, sizes}
 use Rattle.tables.proofs.TableLaws.{in-row, each, every, fieldsAt, getD-map-in}
 
 -- ---- the tables
@@ -27,7 +27,7 @@ pub size-of : (g : ℕ) → getD sizes g 0 ≡ groupAt g .octets
 unfolding sizes groupAt
 size-of g = List·getD-map (λ r. r .octets) (groupRows 0 groups) g noGroupRow
 
-rules-long : length rules ≡ 17
+rules-long : length rules ≡ ruleCount
 unfolding rules groups layouts categories category017 category018
 rules-long = refl
 
@@ -44,7 +44,7 @@ pub record Columns (i : ℕ) : Type 0 where
   pub width-few : ruleAt i .width < 64
   pub added-small : ruleAt i .added < 2 ^ 32
 
-pub columns : (i : ℕ) → i < 17 → Columns i
+pub columns : (i : ℕ) → i < ruleCount → Columns i
 unfolding ruleWords addedTo limits ruleAt rules groups layouts categories category017 category018 no-rule
 columns i h =
     let word : ℕ → ℕ → ℕ = λ s w. s * 100 + w in
@@ -59,19 +59,19 @@ columns i h =
     }
 
 -- the sum fits
-pub sum-fits : (i n w a : ℕ) → i < 17 → n < 2 ^ 56 → w ≡ getD ruleWords i 0 → a ≡ getD addedTo i 0 → n / 2 ^ (w / 100) + a < 2 ^ 64
+pub sum-fits : (i n w a : ℕ) → i < ruleCount → n < 2 ^ 56 → w ≡ getD ruleWords i 0 → a ≡ getD addedTo i 0 → n / 2 ^ (w / 100) + a < 2 ^ 64
 sum-fits i n w a h k ew ea =
     let c : Columns i = columns i h in
     let s : n / 2 ^ (w / 100) ≤ n = shr-le n (w / 100) in
     omega (arith, c .added, c .added-small)
 
-pub shift-fits : (i w : ℕ) → i < 17 → w ≡ getD ruleWords i 0 → w / 100 < 64
+pub shift-fits : (i w : ℕ) → i < ruleCount → w ≡ getD ruleWords i 0 → w / 100 < 64
 shift-fits i w h e = subst (λ x. x / 100 < 64) (sym e) (subst (λ x. x < 64) (sym (columns i h .shift)) (columns i h .shift-few))
 
-pub width-fits : (i w : ℕ) → i < 17 → w ≡ getD ruleWords i 0 → w % 100 < 64
+pub width-fits : (i w : ℕ) → i < ruleCount → w ≡ getD ruleWords i 0 → w % 100 < 64
 width-fits i w h e = subst (λ x. x % 100 < 64) (sym e) (subst (λ x. x < 64) (sym (columns i h .width)) (columns i h .width-few))
 
-pub obeyed : (i n w a m p : ℕ) → i < 17 → w ≡ getD ruleWords i 0 → a ≡ getD addedTo i 0 → m ≡ getD limits i 0 → p ≡ 2 ^ (w % 100)
+pub obeyed : (i n w a m p : ℕ) → i < ruleCount → w ≡ getD ruleWords i 0 → a ≡ getD addedTo i 0 → m ≡ getD limits i 0 → p ≡ 2 ^ (w % 100)
     → leb ((n / 2 ^ (w / 100) + a) % p) m ≡ obeys (ruleAt i) n
 unfolding obeys
 obeyed i n w a m p h ew ea em ep =
@@ -93,22 +93,22 @@ and-false b e = ap (λ (x : Bool). x && b) e
 pub record Asking (a e n i : ℕ) : Type 0 where
   pub same : allObeyed (slice i e rules) n ≡ allObeyed (slice a e rules) n
 
-asked : (a e n i : ℕ) {t : Bool} → Asking a e n i → i < e → e ≤ 17 → t ≡ obeys (ruleAt i) n → allObeyed (slice a e rules) n ≡ (t && allObeyed (slice (i + 1) e rules) n)
+asked : (a e n i : ℕ) {t : Bool} → Asking a e n i → i < e → e ≤ ruleCount → t ≡ obeys (ruleAt i) n → allObeyed (slice a e rules) n ≡ (t && allObeyed (slice (i + 1) e rules) n)
 unfolding ruleAt no-rule
 asked a e n i c h k et =
     sym (c .same) ∙ ap (λ rs. allObeyed rs n) (slice-cons i e rules no-rule h (subst (λ x. e ≤ x) (sym rules-long) k))
     ∙ rw (← et, add-one i)
 
-pub asked-bad : (a e n i : ℕ) {t : Bool} → Asking a e n i → i < e → e ≤ 17 → t ≡ obeys (ruleAt i) n → t ≡ false → false ≡ allObeyed (slice a e rules) n
+pub asked-bad : (a e n i : ℕ) {t : Bool} → Asking a e n i → i < e → e ≤ ruleCount → t ≡ obeys (ruleAt i) n → t ≡ false → false ≡ allObeyed (slice a e rules) n
 asked-bad a e n i c h k et z = sym (asked a e n i c h k et ∙ and-false (allObeyed (slice (i + 1) e rules) n) z)
 
-pub asked-good : (a e n i : ℕ) {t : Bool} → Asking a e n i → i < e → e ≤ 17 → t ≡ obeys (ruleAt i) n → t ≡ true → Asking a e n (i + 1)
+pub asked-good : (a e n i : ℕ) {t : Bool} → Asking a e n i → i < e → e ≤ ruleCount → t ≡ obeys (ruleAt i) n → t ≡ true → Asking a e n (i + 1)
 asked-good a e n i c h k et z = record { same = sym (asked a e n i c h k et ∙ and-true (allObeyed (slice (i + 1) e rules) n) z) }
 
-pub no-rules : (a e : ℕ) → e ≤ a → e ≤ 17 → slice a e rules ≡ []
+pub no-rules : (a e : ℕ) → e ≤ a → e ≤ ruleCount → slice a e rules ≡ []
 no-rules a e h k = drop-of-length-le (take e rules) (subst (λ x. x ≤ a) (sym (length-take-le e rules (subst (λ x. e ≤ x) (sym rules-long) k))) h)
 
-pub asked-none : (a e n i : ℕ) → Asking a e n i → e ≤ i → e ≤ 17 → true ≡ allObeyed (slice a e rules) n
+pub asked-none : (a e n i : ℕ) → Asking a e n i → e ≤ i → e ≤ ruleCount → true ≡ allObeyed (slice a e rules) n
 asked-none a e n i c h k = sym (ap (λ rs. allObeyed rs n) (no-rules i e h k)) ∙ c .same
 
 -- ---- the groups of the tables
@@ -133,9 +133,9 @@ below f g n e i h =
     let j : getD (from 0 n) i 0 ≡ i = getD-from 0 n i h ∙ zero-add i in
     ap f (sym j) ∙ in-row f g (from 0 n) i 0 (subst (λ x. i < x) (sym (length-from 0 n)) h) e ∙ ap g j
 
-pub group-rules : (g : ℕ) → g < 52 → slice (firstRule g) (firstRule (suc g)) rules ≡ rulesOf (fieldsAt g)
+pub group-rules : (g : ℕ) → g < groupCount → slice (firstRule g) (firstRule (suc g)) rules ≡ rulesOf (fieldsAt g)
 unfolding firstRule rules groupAt fields groups layouts categories category017 category018
-group-rules g h = below (λ i. slice (firstRule i) (firstRule (suc i)) rules) (λ i. rulesOf (fieldsAt i)) 52 refl g h
+group-rules g h = below (λ i. slice (firstRule i) (firstRule (suc i)) rules) (λ i. rulesOf (fieldsAt i)) groupCount refl g h
 
 -- the range is one that the bits hold
 abbrev pub sane : Field → Bool
@@ -143,18 +143,18 @@ sane (spare w) = leb 1 w
 sane (value w (unsigned lo hi)) = leb lo hi && ltb hi (2 ^ w)
 sane (value w (signed lo hi)) = leb 1 w && leb lo (half w) && ltb hi (half w)
 
-pub group-sane : (g : ℕ) → g < 52 → every sane (fieldsAt g) ≡ true
+pub group-sane : (g : ℕ) → g < groupCount → every sane (fieldsAt g) ≡ true
 unfolding groupAt fields groups layouts categories category017 category018
-group-sane g h = below (λ i. every sane (fieldsAt i)) (λ i. true) 52 refl g h
+group-sane g h = below (λ i. every sane (fieldsAt i)) (λ i. true) groupCount refl g h
 
-pub first-few : (g : ℕ) → g < 53 → firstRule g ≤ 17
-unfolding firstRule groups layouts categories category017 category018
-first-few g h = leb-true _ _ (below (λ i. leb (firstRule i) 17) (λ i. true) 53 refl g h)
+pub first-few : (g : ℕ) → g ≤ groupCount → firstRule g ≤ ruleCount
+unfolding firstRule rules groups layouts categories category017 category018
+first-few g h = leb-true _ _ (below (λ i. leb (firstRule i) ruleCount) (λ i. true) (suc groupCount) refl g (omega arith))
 
 -- a group without a rule says that it is free
-pub group-said : (g : ℕ) → g < 52 → leb (firstRule (g + 1)) (firstRule g) ≡ groupAt g .free
+pub group-said : (g : ℕ) → g < groupCount → leb (firstRule (g + 1)) (firstRule g) ≡ groupAt g .free
 unfolding firstRule groupAt fields groups layouts categories category017 category018
-group-said g h = rw (add-one g) (below (λ i. leb (firstRule (suc i)) (firstRule i)) (λ i. groupAt i .free) 52 refl g h)
+group-said g h = rw (add-one g) (below (λ i. leb (firstRule (suc i)) (firstRule i)) (λ i. groupAt i .free) groupCount refl g h)
 
-pub rules-few : (g : ℕ) → g < 52 → {e : ℕ} → e ≡ firstRule (g + 1) → e ≤ 17
-rules-few g h ee = subst (λ x. x ≤ 17) (sym ee) (first-few (g + 1) (omega arith))
+pub rules-few : (g : ℕ) → g < groupCount → {e : ℕ} → e ≡ firstRule (g + 1) → e ≤ ruleCount
+rules-few g h ee = subst (λ x. x ≤ ruleCount) (sym ee) (first-few (g + 1) (omega arith))

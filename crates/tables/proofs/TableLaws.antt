@@ -10,11 +10,11 @@ use native.Mathlib.Omega.{arith}
 use native.Mathlib.Nat.{le-of-suc-le-suc, not-suc-le-zero, le-trans}
 use lib.Dec.{leb, ltb, eqb, lit≤}
 use lib.IntN.{pos}
-use lib.ListN.{length, getD, drop, replicate, List·getD-map, List·getD-append, List·getD-eq-default}
+use lib.ListN.{length, getD, drop, replicate, length-map, List·getD-map, List·getD-append, List·getD-eq-default}
 use lib.Seq.{slice, getD-append-add}
 use borrow.Author.Tests.{ltb-true, leb-true}
 use Rattle.rules.specs.Field.{Field}
-use Rattle.rules.specs.Layout.{flatten}
+use Rattle.rules.specs.Layout.{Group, flatten}
 use Rattle.rules.proofs.AnswerLaws.{both-left, both-right}
 use Rattle.rules.specs.Presence.{present, placeAt}
 use Rattle.rules.specs.Record.{Place, Category, places}
@@ -24,13 +24,13 @@ use Rattle.rules.specs.Entry.{categories, profileAt, over}
 use Rattle.tables.specs.declared.tables.GroupRow.{GroupRow}
 use Rattle.tables.specs.declared.tables.LayoutRow.{LayoutRow}
 use Rattle.tables.specs.declared.tables.FieldRow.{FieldRow}
-use Rattle.tables.specs.Tables.{fields, fieldRow, noFieldRow, noGroupRow, noLayoutRow, fieldAt, ranges, least, greatest, fieldWord, fieldWords, groupWord, groupWords, layoutWord, layoutWords, layoutsIn, referencesIn, isFree, groups, layouts, groupRows, groupAt, layoutRows, layoutBy, layoutIs, layoutAt, nowhere, profileRows, placeRowAt, placeIs}
+use Rattle.tables.specs.Tables.{fieldCount, groupCount, layoutCount, profileCount, frnCount, rangeCount, fields, fieldRow, noFieldRow, noGroupRow, noLayoutRow, fieldAt, ranges, least, greatest, fieldWord, fieldWords, groupWord, groupWords, layoutWord, layoutWords, layoutsIn, referencesIn, isFree, groups, layouts, groupRows, groupAt, layoutRows, layoutBy, layoutIs, layoutAt, nowhere, profileRows, placeRowAt, placeIs}
 
 -- ---- places
 
 -- the places of a profile as the table has them, FRN 0 first
 abbrev padded : Category → List (Option Place)
-padded c = over (none ∷ places c) (replicate 36 none)
+padded c = over (none ∷ places c) (replicate frnCount none)
 
 places-tied : map placeIs (profileRows 1 categories) ≡ padded category017 ++ padded category018
 unfolding placeIs layoutIs layoutBy layoutAt groupAt fields groups layouts categories category017 category018
@@ -65,57 +65,61 @@ unfolding placeRowAt
 place-getD i = sym (List·getD-map placeIs (profileRows 1 categories) i nowhere) ∙ ap (getD (map placeIs (profileRows 1 categories)) i) place-none ∙ ap (λ l. getD l i none) places-tied
 
 -- FRN f of a profile's places
-first : (c : Category) (f : ℕ) → length (none ∷ places c) ≤ 36 → getD (padded c) f none ≡ placeAt (c .profile) f
-first c zero h = getD-over (none ∷ places c) 36 zero none h
-first c (suc f) h = getD-over (none ∷ places c) 36 (suc f) none h
+first : (c : Category) (f : ℕ) → length (none ∷ places c) ≤ frnCount → getD (padded c) f none ≡ placeAt (c .profile) f
+first c zero h = getD-over (none ∷ places c) frnCount zero none h
+first c (suc f) h = getD-over (none ∷ places c) frnCount (suc f) none h
 
-long017 : length (padded category017) ≡ 36
+long017 : length (padded category017) ≡ frnCount
 unfolding category017
 long017 = refl
 
-few017 : length (none ∷ places category017) ≤ 36
+few017 : length (none ∷ places category017) ≤ frnCount
 unfolding category017
 few017 = lit≤ tt
 
-few018 : length (none ∷ places category018) ≤ 36
+few018 : length (none ∷ places category018) ≤ frnCount
 unfolding category018
 few018 = lit≤ tt
 
 -- the row at an FRN of a profile stands for what the profile has there
-pub place-is : (p f : ℕ) → p < 2 → f < 36 → placeIs (placeRowAt (p * 36 + f)) ≡ placeAt (profileAt categories p) f
+pub place-is : (p f : ℕ) → p < profileCount → f < frnCount → placeIs (placeRowAt (p * frnCount + f)) ≡ placeAt (profileAt categories p) f
 unfolding categories
 place-is zero f h k =
-    let i : zero * 36 + f ≡ f = omega arith in
+    let i : zero * frnCount + f ≡ f = omega arith in
     rw i (place-getD f ∙ List·getD-append (padded category017) (padded category018) none f (rw long017 k) ∙ first category017 f few017)
 place-is (suc zero) f h k =
-    let i : suc zero * 36 + f ≡ length (padded category017) + f = omega (arith, long017) in
+    let i : suc zero * frnCount + f ≡ length (padded category017) + f = omega (arith, long017) in
     rw i (place-getD (length (padded category017) + f) ∙ getD-append-add (padded category017) (padded category018) f none ∙ first category018 f few018)
 place-is (suc (suc p)) f h k = absurd (not-suc-le-zero (le-of-suc-le-suc (le-of-suc-le-suc h)))
 
 -- there is nothing past the last FRN, nor in another profile
-pub place-past : (p f : ℕ) → 36 ≤ f → placeAt (profileAt categories p) f ≡ none
+pub place-past : (p f : ℕ) → frnCount ≤ f → placeAt (profileAt categories p) f ≡ none
 unfolding categories
 place-past p zero h = absurd (not-suc-le-zero h)
 place-past zero (suc f) h = List·getD-eq-default (places category017) none (le-trans (le-of-suc-le-suc few017) (le-of-suc-le-suc h))
 place-past (suc zero) (suc f) h = List·getD-eq-default (places category018) none (le-trans (le-of-suc-le-suc few018) (le-of-suc-le-suc h))
 place-past (suc (suc p)) (suc f) h = refl
 
-pub profile-past : (p : ℕ) → 2 ≤ p → profileAt categories p ≡ []
+pub profile-past : (p : ℕ) → profileCount ≤ p → profileAt categories p ≡ []
 unfolding categories
 profile-past zero h = absurd (not-suc-le-zero h)
 profile-past (suc zero) h = absurd (not-suc-le-zero (le-of-suc-le-suc h))
 profile-past (suc (suc p)) h = refl
 
-pub profile-few : (p : ℕ) → length (flatten (profileAt categories p)) ≤ 35
+pub profiles-long : length categories ≡ profileCount
 unfolding categories
-profile-few zero = le-of-suc-le-suc few017
-profile-few (suc zero) = le-of-suc-le-suc few018
+profiles-long = refl
+
+pub profile-few : (p : ℕ) → length (flatten (profileAt categories p)) < frnCount
+unfolding categories
+profile-few zero = few017
+profile-few (suc zero) = few018
 profile-few (suc (suc p)) = lit≤ tt
 
-pub none-past : (p f : ℕ) → 36 ≤ f → placeIs nowhere ≡ placeAt (profileAt categories p) f
+pub none-past : (p f : ℕ) → frnCount ≤ f → placeIs nowhere ≡ placeAt (profileAt categories p) f
 none-past p f h = place-none ∙ sym (place-past p f h)
 
-pub none-other : (p f : ℕ) → 2 ≤ p → placeIs nowhere ≡ placeAt (profileAt categories p) f
+pub none-other : (p f : ℕ) → profileCount ≤ p → placeIs nowhere ≡ placeAt (profileAt categories p) f
 none-other p f h = place-none ∙ sym (ap (λ ps. placeAt ps f) (profile-past p h) ∙ nothing f)
   where
     nothing : (f : ℕ) → _≡_ {A = Option Place} (placeAt [] f) none
@@ -123,9 +127,9 @@ none-other p f h = place-none ∙ sym (ap (λ ps. placeAt ps f) (profile-past p 
     nothing (suc f) = refl
 
 -- a row has a layout of the table
-pub place-row : (i : ℕ) → placeRowAt i .layout < 51
-unfolding placeRowAt categories category017 category018
-place-row i = ltb-true (placeRowAt i .layout) 51 (at-row (λ r. ltb (r .layout) 51) (λ r. true) (profileRows 1 categories) i nowhere refl refl)
+pub place-row : (i : ℕ) → placeRowAt i .layout < layoutCount
+unfolding placeRowAt layouts categories category017 category018
+place-row i = ltb-true (placeRowAt i .layout) layoutCount (at-row (λ r. ltb (r .layout) layoutCount) (λ r. true) (profileRows 1 categories) i nowhere refl refl)
 
 -- ---- what holds of each row of a table, by one test
 
@@ -140,15 +144,14 @@ each t (a ∷ l) d h (suc i) k = each t l d (both-right (t a) (every t l) h) i (
 
 -- ---- fields
 
-pub fields-long : length (map fieldRow fields) ≡ 113
-unfolding fields groups layouts categories category017 category018
-fields-long = refl
+pub fields-long : length (map fieldRow fields) ≡ fieldCount
+fields-long = length-map fields fieldRow
 
-pub field-wide : (i : ℕ) → i < 113 → 1 ≤ fieldAt i .bits
+pub field-wide : (i : ℕ) → i < fieldCount → 1 ≤ fieldAt i .bits
 unfolding fieldAt fields groups layouts categories category017 category018
 field-wide i h = leb-true 1 (fieldAt i .bits) (each (λ f. leb 1 (f .bits)) (map fieldRow fields) noFieldRow refl i h)
 
-pub field-few : (i : ℕ) → i < 113 → fieldAt i .bits ≤ 62
+pub field-few : (i : ℕ) → i < fieldCount → fieldAt i .bits ≤ 62
 unfolding fieldAt fields groups layouts categories category017 category018
 field-few i h = leb-true (fieldAt i .bits) 62 (each (λ f. leb (f .bits) 62) (map fieldRow fields) noFieldRow refl i h)
 
@@ -157,8 +160,20 @@ field-few i h = leb-true (fieldAt i .bits) 62 (each (λ f. leb (f .bits) 62) (ma
 abbrev pub fieldsAt : ℕ → List Field
 fieldsAt g = slice (groupAt g .first) (groupAt g .end) fields
 
+pub groups-long : length (groupRows 0 groups) ≡ groupCount
+groups-long = rows 0 groups
+  where
+    rows : (k : ℕ) (gs : List Group) → length (groupRows k gs) ≡ length gs
+    rows k [] = refl
+    rows k (g ∷ gs) = ap suc (rows (k + length (g .fields)) gs)
+
+-- three digits are enough for the place of a group
+pub groups-few : groupCount ≤ 1_000
+unfolding groups layouts categories category017 category018
+groups-few = lit≤ tt
+
 -- a row says that its group is free where it is
-pub group-free : (g : ℕ) → g < 52 → groupAt g .free ≡ isFree (slice (groupAt g .first) (groupAt g .end) fields)
+pub group-free : (g : ℕ) → g < groupCount → groupAt g .free ≡ isFree (slice (groupAt g .first) (groupAt g .end) fields)
 unfolding groupAt fields groups layouts categories category017 category018
 group-free g h =
     in-row (λ r. r .free) (λ r. isFree (slice (r .first) (r .end) fields)) (groupRows 0 groups) g noGroupRow h refl
@@ -180,23 +195,23 @@ groupDigits w = record { octets = w / 100_000_000; first = w / 100_000 % 1_000; 
 abbrev pub layoutDigits : ℕ → LayoutRow
 layoutDigits w = record { kind = w / 100_000_000; least = w / 10_000_000 % 10; most = w / 10_000 % 1_000; first = w / 10 % 1_000; end = w / 10 % 1_000 + w % 10 }
 
-pub field-digits : (i : ℕ) → i < 113 → fieldDigits (getD fieldWords i 0) ≡ fieldAt i
+pub field-digits : (i : ℕ) → i < fieldCount → fieldDigits (getD fieldWords i 0) ≡ fieldAt i
 unfolding fieldWords fieldAt least greatest ranges fields groups layouts categories category017 category018
 field-digits i h =
     ap fieldDigits (getD-map-in fieldWord (map fieldRow fields) i noFieldRow 0 h)
     ∙ in-row (λ r. fieldDigits (fieldWord r)) (λ r. r) (map fieldRow fields) i noFieldRow h refl
 
-pub field-range : (i : ℕ) → i < 113 → getD fieldWords i 0 % 100 < 21
+pub field-range : (i : ℕ) → i < fieldCount → getD fieldWords i 0 % 100 < rangeCount
 unfolding fieldWords ranges fields groups layouts categories category017 category018
-field-range i h = ltb-true _ 21 (each (λ w. ltb (w % 100) 21) fieldWords 0 refl i h)
+field-range i h = ltb-true _ rangeCount (each (λ w. ltb (w % 100) rangeCount) fieldWords 0 refl i h)
 
-pub group-digits : (i : ℕ) → i < 52 → groupDigits (getD groupWords i 0) ≡ groupAt i
+pub group-digits : (i : ℕ) → i < groupCount → groupDigits (getD groupWords i 0) ≡ groupAt i
 unfolding groupWords groupAt fields groups layouts categories category017 category018
 group-digits i h =
     ap groupDigits (getD-map-in groupWord (groupRows 0 groups) i noGroupRow 0 h)
     ∙ in-row (λ r. groupDigits (groupWord r)) (λ r. r) (groupRows 0 groups) i noGroupRow h refl
 
-pub layout-digits : (i : ℕ) → i < 51 → layoutDigits (getD layoutWords i 0) ≡ layoutAt i
+pub layout-digits : (i : ℕ) → i < layoutCount → layoutDigits (getD layoutWords i 0) ≡ layoutAt i
 unfolding layoutWords layoutAt layouts categories category017 category018
 layout-digits zero h = refl
 layout-digits (suc i) h =
@@ -218,6 +233,6 @@ pub layout-none : layoutIs (layoutAt 0) ≡ none
 unfolding layoutIs layoutBy layoutAt
 layout-none = refl
 
-pub layout-some : (j : ℕ) → j < 50 → present (layoutIs (layoutAt (suc j))) ≡ true
+pub layout-some : (j : ℕ) → suc j < layoutCount → present (layoutIs (layoutAt (suc j))) ≡ true
 unfolding layoutIs layoutBy layoutAt groupAt fields groups layouts categories category017 category018
-layout-some j h = each (λ l. present (layoutIs l)) (layoutRows 0 layouts) noLayoutRow refl j h
+layout-some j h = each (λ l. present (layoutIs l)) (layoutRows 0 layouts) noLayoutRow refl j (le-of-suc-le-suc h)

@@ -40,6 +40,9 @@ allObeyed (r ∷ rs) n = obeys r n && allObeyed rs n
 unfoldable pub rules : List Rule
 rules = flatten (map (λ g. rulesOf (g .fields)) groups)
 
+abbrev pub ruleCount : ℕ
+ruleCount = length rules
+
 -- the place of each group's first rule, and of the end
 abbrev pub firstRules : ℕ → List Group → List ℕ
 firstRules k [] = k ∷ []

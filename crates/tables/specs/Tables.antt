@@ -40,6 +40,28 @@ groups = flatten (map groupsOf layouts)
 unfoldable pub fields : List Field
 fields = flatten (map (λ g. g .fields) groups)
 
+-- ---- how many of each there are
+
+abbrev pub fieldCount : ℕ
+fieldCount = length fields
+
+abbrev pub groupCount : ℕ
+groupCount = length groups
+
+-- the first row is that of no item
+abbrev pub layoutCount : ℕ
+layoutCount = suc (length layouts)
+
+-- the code counts with these two numbers: `profiles-long` has that they are the profiles, `profile-few` that each has room for its FRNs, 0 among them
+abbrev pub profileCount : ℕ
+profileCount = 2
+
+abbrev pub frnCount : ℕ
+frnCount = 36
+
+abbrev pub placeCount : ℕ
+placeCount = profileCount * frnCount
+
 -- ---- the rows of the code
 
 -- minus a number
@@ -86,10 +108,10 @@ placeRows k [] = []
 placeRows k (none ∷ ps) = nowhere ∷ placeRows k ps
 placeRows k (some p ∷ ps) = record { layout = k; reference = p .reference } ∷ placeRows (k + 1) ps
 
--- 36 places for each profile, FRN 0 first
+-- as many places for each profile, FRN 0 first
 abbrev pub profileRows : ℕ → List Category → List PlaceRow
 profileRows k [] = []
-profileRows k (c ∷ cs) = over (nowhere ∷ placeRows k (places c)) (replicate 36 nowhere) ++ profileRows (k + length (layoutsOf (places c))) cs
+profileRows k (c ∷ cs) = over (nowhere ∷ placeRows k (places c)) (replicate frnCount nowhere) ++ profileRows (k + length (layoutsOf (places c))) cs
 
 -- what a table has past its end: no bits, no octets, no parts
 abbrev pub noFieldRow : FieldRow
@@ -134,6 +156,9 @@ rangesOf rs (f ∷ fs) = rangesOf (cond (eqb (rangeIn rs (f .least) (f .greatest
 
 unfoldable pub ranges : List (ℤ × ℤ)
 ranges = rangesOf [] (map fieldRow fields)
+
+abbrev pub rangeCount : ℕ
+rangeCount = length ranges
 
 unfoldable pub least : List ℤ
 least = map (λ r. r .0) ranges

@@ -4,8 +4,8 @@ ghost use mathlib.Core.Path.{_≡_};
 ghost use Prim.Native.Nat.{_≤_, _<_, _^_};
 ghost use lib.ListN.{getD};
 ghost use lib.Seq.{slice};
-ghost use Rattle.tables.specs.Tables.{groupAt};
-ghost use Rattle.tables.specs.FieldRules.{obeys, allObeyed, rules, ruleAt, firstRule, ruleWords, addedTo, limits, sizes, singles};
+ghost use Rattle.tables.specs.Tables.{groupCount, placeCount, groupAt};
+ghost use Rattle.tables.specs.FieldRules.{ruleCount, obeys, allObeyed, rules, ruleAt, firstRule, ruleWords, addedTo, limits, sizes, singles};
 
 // Rules, group after group: how many bits stand below the field _ how many it has.
 // ---- made by model/make.py: RULES
@@ -272,42 +272,42 @@ const SINGLE: [u8; 72] = [
 // ---- end of what is made
 
 fn rule_word(place: usize) -> u16
-    requires { ⌜ place < 17 ⌝ }
+    requires { ⌜ place < ruleCount ⌝ }
     ensures { λ r. ⌜ r ≡ getD ruleWords place 0 ⌝ }
 {
     RULES[place]
 }
 
 fn added_at(place: usize) -> u32
-    requires { ⌜ place < 17 ⌝ }
+    requires { ⌜ place < ruleCount ⌝ }
     ensures { λ r. ⌜ r ≡ getD addedTo place 0 ⌝ }
 {
     ADDED[place]
 }
 
 fn limit_at(place: usize) -> u32
-    requires { ⌜ place < 17 ⌝ }
+    requires { ⌜ place < ruleCount ⌝ }
     ensures { λ r. ⌜ r ≡ getD limits place 0 ⌝ }
 {
     LIMITS[place]
 }
 
 fn size_in(group: usize) -> u8
-    requires { ⌜ group < 52 ⌝ }
+    requires { ⌜ group < groupCount ⌝ }
     ensures { λ r. ⌜ r ≡ getD sizes group 0 ⌝ }
 {
     SIZES[group]
 }
 
 fn first_in(group: usize) -> u8
-    requires { ⌜ group < 53 ⌝ }
+    requires { ⌜ group ≤ groupCount ⌝ }
     ensures { λ r. ⌜ r ≡ firstRule group ⌝ }
 {
     FIRST_RULES[group]
 }
 
 fn single_in(place: usize) -> u8
-    requires { ⌜ place < 72 ⌝ }
+    requires { ⌜ place < placeCount ⌝ }
     ensures { λ r. ⌜ r ≡ getD singles place 0 ⌝ }
 {
     SINGLE[place]
@@ -315,7 +315,7 @@ fn single_in(place: usize) -> u8
 
 // How many octets a part of a group has.
 pub fn size_at(group: usize) -> usize
-    requires { ⌜ group < 52 ⌝ }
+    requires { ⌜ group < groupCount ⌝ }
     ensures { λ r. ⌜ r ≡ groupAt group .octets ⌝ }
 {
     size_in(group) as usize
@@ -323,7 +323,7 @@ pub fn size_at(group: usize) -> usize
 
 // The place of a group's first rule; of the last group's next, the end.
 pub fn first_rule(group: usize) -> usize
-    requires { ⌜ group < 53 ⌝ }
+    requires { ⌜ group ≤ groupCount ⌝ }
     ensures { λ r. ⌜ r ≡ firstRule group ⌝ }
 {
     first_in(group) as usize
@@ -331,7 +331,7 @@ pub fn first_rule(group: usize) -> usize
 
 // Whether a group is free: it has no rule.
 pub fn is_free(group: usize) -> bool
-    requires { ⌜ group < 52 ⌝ }
+    requires { ⌜ group < groupCount ⌝ }
     ensures { λ r. ⌜ r ≡ groupAt group .free ⌝ }
 {
     first_rule(group + 1) <= first_rule(group)
@@ -339,7 +339,7 @@ pub fn is_free(group: usize) -> bool
 
 // Of an item with one part, its octets, at most 7, where it is free, or 8 more than its group; else 0.
 pub fn single_at(place: usize) -> usize
-    requires { ⌜ place < 72 ⌝ }
+    requires { ⌜ place < placeCount ⌝ }
     ensures { λ r. ⌜ r ≡ getD singles place 0 ⌝ }
 {
     single_in(place) as usize
@@ -355,7 +355,7 @@ pub fn pow2(k: u64) -> u64
 
 // Whether a number obeys a rule.
 fn is_obeyed(rule: usize, n: u64) -> bool
-    requires { ⌜ (rule < 17) × (n < 2 ^ 56) ⌝ }
+    requires { ⌜ (rule < ruleCount) × (n < 2 ^ 56) ⌝ }
     ensures { λ r. ⌜ r ≡ obeys (ruleAt rule) n ⌝ }
 {
     let w = rule_word(rule);
@@ -365,7 +365,7 @@ fn is_obeyed(rule: usize, n: u64) -> bool
 
 // Whether a number obeys each rule from a place to before a place.
 pub fn are_obeyed(n: u64, first: usize, end: usize) -> bool
-    requires { ⌜ (end ≤ 17) × (n < 2 ^ 56) ⌝ }
+    requires { ⌜ (end ≤ ruleCount) × (n < 2 ^ 56) ⌝ }
     ensures { λ r. ⌜ r ≡ allObeyed (slice first end rules) n ⌝ }
 {
     let mut i = first;

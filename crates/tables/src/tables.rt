@@ -5,7 +5,7 @@ ghost use mathlib.Core.Path.{_≡_};
 ghost use Prim.Native.Nat.{_<_};
 ghost use lib.ListN.{getD};
 ghost use lib.IntN.{pos};
-ghost use Rattle.tables.specs.Tables.{fieldAt, groupAt, layoutAt, placeRowAt, least, greatest, fieldWords, groupWords, layoutWords, layoutsIn, referencesIn};
+ghost use Rattle.tables.specs.Tables.{fieldCount, rangeCount, groupCount, layoutCount, placeCount, fieldAt, groupAt, layoutAt, placeRowAt, least, greatest, fieldWords, groupWords, layoutWords, layoutsIn, referencesIn};
 
 // What a field holds: a number, a number in two's complement, or zero.
 pub const UNSIGNED: u8 = 0;
@@ -515,56 +515,56 @@ const REFERENCES: [u16; 72] = [
 // ---- the rows
 
 fn field_word(place: usize) -> u16
-    requires { ⌜ place < 113 ⌝ }
+    requires { ⌜ place < fieldCount ⌝ }
     ensures { λ r. ⌜ r ≡ getD fieldWords place 0 ⌝ }
 {
     FIELDS[place]
 }
 
 fn least_at(place: usize) -> i64
-    requires { ⌜ place < 21 ⌝ }
+    requires { ⌜ place < rangeCount ⌝ }
     ensures { λ r. ⌜ r ≡ getD least place (pos 0) ⌝ }
 {
     LEAST[place]
 }
 
 fn greatest_at(place: usize) -> i64
-    requires { ⌜ place < 21 ⌝ }
+    requires { ⌜ place < rangeCount ⌝ }
     ensures { λ r. ⌜ r ≡ getD greatest place (pos 0) ⌝ }
 {
     GREATEST[place]
 }
 
 fn group_word(place: usize) -> u32
-    requires { ⌜ place < 52 ⌝ }
+    requires { ⌜ place < groupCount ⌝ }
     ensures { λ r. ⌜ r ≡ getD groupWords place 0 ⌝ }
 {
     GROUPS[place]
 }
 
 fn layout_word(place: usize) -> u32
-    requires { ⌜ place < 51 ⌝ }
+    requires { ⌜ place < layoutCount ⌝ }
     ensures { λ r. ⌜ r ≡ getD layoutWords place 0 ⌝ }
 {
     LAYOUTS[place]
 }
 
 fn layout_in(place: usize) -> u8
-    requires { ⌜ place < 72 ⌝ }
+    requires { ⌜ place < placeCount ⌝ }
     ensures { λ r. ⌜ r ≡ getD layoutsIn place 0 ⌝ }
 {
     PLACES[place]
 }
 
 fn reference_in(place: usize) -> u16
-    requires { ⌜ place < 72 ⌝ }
+    requires { ⌜ place < placeCount ⌝ }
     ensures { λ r. ⌜ r ≡ getD referencesIn place 0 ⌝ }
 {
     REFERENCES[place]
 }
 
 pub fn field_at(place: usize) -> FieldRow
-    requires { ⌜ place < 113 ⌝ }
+    requires { ⌜ place < fieldCount ⌝ }
     ensures { λ r. ⌜ r ≡ fieldAt place ⌝ }
 {
     let w = field_word(place);
@@ -578,7 +578,7 @@ pub fn field_at(place: usize) -> FieldRow
 }
 
 pub fn group_at(place: usize) -> GroupRow
-    requires { ⌜ place < 52 ⌝ }
+    requires { ⌜ place < groupCount ⌝ }
     ensures { λ r. ⌜ r ≡ groupAt place ⌝ }
 {
     let w = group_word(place);
@@ -593,7 +593,7 @@ pub fn group_at(place: usize) -> GroupRow
 }
 
 pub fn layout_at(place: usize) -> LayoutRow
-    requires { ⌜ place < 51 ⌝ }
+    requires { ⌜ place < layoutCount ⌝ }
     ensures { λ r. ⌜ r ≡ layoutAt place ⌝ }
 {
     let w = layout_word(place);
@@ -609,14 +609,14 @@ pub fn layout_at(place: usize) -> LayoutRow
 
 // The place of the layout alone.
 pub fn layout_row(place: usize) -> usize
-    requires { ⌜ place < 72 ⌝ }
+    requires { ⌜ place < placeCount ⌝ }
     ensures { λ r. ⌜ r ≡ placeRowAt place .layout ⌝ }
 {
     layout_in(place) as usize
 }
 
 pub fn place_at(place: usize) -> PlaceRow
-    requires { ⌜ place < 72 ⌝ }
+    requires { ⌜ place < placeCount ⌝ }
     ensures { λ r. ⌜ r ≡ placeRowAt place ⌝ }
 {
     PlaceRow {

@@ -6,7 +6,7 @@ use native.Mathlib.Omega.{arith}
 use Rattle.rules.proofs.AnswerLaws.{Octets}
 use Rattle.tables.specs.declared.tables.LayoutRow.{LayoutRow}
 use Rattle.tables.specs.FieldRules.{singleOf}
-use Rattle.tables.specs.Tables.{layoutAt, placeRowAt}
+use Rattle.tables.specs.Tables.{layoutCount, layoutAt, placeRowAt}
 use Rattle.tables.proofs.TableLaws.{place-row}
 use Rattle.layouts.specs.Read.{shapeIs, wholeOf, rowSound}
 use Rattle.layouts.proofs.OctetLaws.{octets-known}
@@ -59,7 +59,7 @@ layout-row-requires : tie.Need-layout-row-requires
 layout-row-requires c κs = search needs
 
 layout-at-requires : tie.Need-layout-at-requires
-layout-at-requires c κs = subst (λ j. j < 51) (sym (c .layout-row .ensures)) (place-row _)
+layout-at-requires c κs = subst (λ j. j < layoutCount) (sym (c .layout-row .ensures)) (place-row _)
 
 whole-of-requires : tie.Need-whole-of-requires
 whole-of-requires c κs = subst (λ (l : LayoutRow). rowSound l ≡ true) (sym (row-at c)) (layout-sound _ (place-row _))

@@ -2,6 +2,7 @@
 use Prim.Native.Nat.{_-_}
 use mathlib.Core.Path.{sym, _∙_}
 use native.Mathlib.Omega.{arith}
+use Rattle.tables.specs.Tables.{frnCount}
 use borrow.Author.Needs.{needs}
 use Rattle.items.proofs.PlaceLaws.{Seeking, seek-first, seek-found, seek-next, seek-end}
 use Rattle.items.proofs.frn_of.Statement.{statement}
@@ -11,7 +12,7 @@ abbrev Inv-loop : tie.InvT-loop
 Inv-loop profile reference frn₀ frn = Seeking reference profile frn
 
 abbrev μ-loop : tie.MeasureT-loop
-μ-loop profile reference frn₀ frn = 36 - frn
+μ-loop profile reference frn₀ frn = frnCount - frn
 
 loop-holds : tie.Need-loop-holds Inv-loop μ-loop
 loop-holds c = seek-first _ _

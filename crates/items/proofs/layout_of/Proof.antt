@@ -1,6 +1,6 @@
 -- `items::layout_of` meets its contract: the search finds what the rules find. Assumes nothing.
 use mathlib.Core.Path.{sym, ap, _∙_}
-use lib.Dec.{lit<}
+use native.Mathlib.Omega.{arith}
 use Rattle.items.specs.Answers.{frnOf}
 use Rattle.items.proofs.OneLaws.{layout-found, layout-missed}
 use borrow.Author.Needs.{needs}
@@ -26,7 +26,7 @@ returns : tie.Need-returns
 returns c = (c .place-of .ensures .1, layout-found _ _ _ (c .before .before .before .before .before .profile-of .ensures) _ _ (sym (ap frnOf (c .before .before .frn .given .1)) ∙ c .before .before .before .before .frn-of .ensures) (c .place-of .ensures .0))
 
 returns-2 : tie.Need-returns-2
-returns-2 c = (lit< tt, layout-missed _ _ _ (c .before .before .before .profile-of .ensures) (sym (ap frnOf (c .enum-told .given .1)) ∙ c .before .before .frn-of .ensures))
+returns-2 c = (omega arith, layout-missed _ _ _ (c .before .before .before .profile-of .ensures) (sym (ap frnOf (c .enum-told .given .1)) ∙ c .before .before .frn-of .ensures))
 
 pub layout-of-spec : {M : Type 1} → statement M
 layout-of-spec =

@@ -1,8 +1,8 @@
 -- `items::place_of` meets its contract: the row of the table stands for what the profile has there. Assumes nothing.
 use Prim.Native.Nat.{_<_, _*_, _+_}
 use mathlib.Core.Path.{ap, _∙_, sym, subst}
-use lib.Dec.{lit<}
-use Rattle.tables.specs.Tables.{placeIs}
+use native.Mathlib.Omega.{arith}
+use Rattle.tables.specs.Tables.{layoutCount, frnCount, placeIs}
 use Rattle.tables.proofs.TableLaws.{place-is, place-row, none-past, none-other}
 use borrow.Author.Needs.{needs}
 use Rattle.items.proofs.place_of.Statement.{statement}
@@ -21,14 +21,14 @@ returns : tie.Need-returns
 returns c =
     let s = c .before .before .before in (
       ap placeIs (c .place-at .ensures) ∙ place-is (s .args .profile) (s .args .frn) (c .before .before .if1 .taken) (c .before .if2 .taken),
-      subst (λ r. r .layout < 51) (sym (c .place-at .ensures)) (place-row (s .args .profile * 36 + s .args .frn)),
+      subst (λ r. r .layout < layoutCount) (sym (c .place-at .ensures)) (place-row (s .args .profile * frnCount + s .args .frn)),
     )
 
 returns-2 : tie.Need-returns-2
-returns-2 c = (none-past (c .before .before .args .profile) (c .before .before .args .frn) (c .if2 .left), lit< tt)
+returns-2 c = (none-past (c .before .before .args .profile) (c .before .before .args .frn) (c .if2 .left), omega arith)
 
 returns-3 : tie.Need-returns-3
-returns-3 c = (none-other (c .before .args .profile) (c .before .args .frn) (c .if1 .left), lit< tt)
+returns-3 c = (none-other (c .before .args .profile) (c .before .args .frn) (c .if1 .left), omega arith)
 
 pub place-of-spec : {M : Type 1} → statement M
 place-of-spec =

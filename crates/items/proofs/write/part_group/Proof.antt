@@ -1,6 +1,7 @@
 -- `items::write::part_group` meets its contract: each part of an extended item has a group of its own, those of any other item share one. Assumes nothing.
 use native.Mathlib.Omega.{arith}
 use borrow.Author.Needs.{needs}
+use Rattle.tables.proofs.TableLaws.{groups-few}
 use Rattle.items.proofs.WriteTables.{part-own, part-shared}
 use Rattle.items.proofs.write.part_group.Statement.{statement}
 use Rattle.items.proofs.write.part_group.Tie as tie
@@ -11,7 +12,7 @@ layout-at-requires c κs = search needs
 add-result : tie.Need-add-result
 add-result c =
     let s = c .before .before .before .before in
-    omega (arith, part-own (s .args .layout) (s .args .part) (c .before .before .before .layout-at .ensures) (c .before .if1 .taken) (s .pre .1) .0)
+    omega (arith, groups-few, part-own (s .args .layout) (s .args .part) (c .before .before .before .layout-at .ensures) (c .before .if1 .taken) (s .pre .1) .0)
 
 -- its own group
 returns : tie.Need-returns

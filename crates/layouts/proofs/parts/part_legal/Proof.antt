@@ -4,6 +4,7 @@ use lib.ListN.{length}
 use Prim.Native.Nat.{_+_, _≤_}
 use mathlib.Core.Path.{sym, subst}
 use Rattle.rules.proofs.AnswerLaws.{Octets}
+use Rattle.tables.proofs.TableLaws.{groups-few}
 use Rattle.tables.proofs.RuleLaws.{rules-few}
 use Rattle.layouts.proofs.OctetLaws.{octets-known}
 use Rattle.layouts.proofs.LegalLaws.{size-few, part-below, part-free, part-ruled}
@@ -19,7 +20,7 @@ first-rule-requires : tie.Need-first-rule-requires
 first-rule-requires c κs = search needs
 
 add-first-rule : tie.Need-add-first-rule
-add-first-rule c = search needs
+add-first-rule c = record { fits = omega (arith, groups-few, c .before .before .pre .1) }
 
 first-rule-requires-2 : tie.Need-first-rule-requires-2
 first-rule-requires-2 c κs = search needs

@@ -2,6 +2,7 @@
 use mathlib.Core.Path.{refl}
 use native.Mathlib.Omega.{arith}
 use borrow.Author.Tests.{not-true, not-false}
+use Rattle.tables.proofs.TableLaws.{groups-few}
 use Rattle.layouts.proofs.PartLaws.{CheckParts, First, first-part, part-bad, part-good, parts-good}
 use Rattle.layouts.proofs.parts.parts_legal.Statement.{statement}
 use Rattle.layouts.proofs.parts.parts_legal.Tie as tie
@@ -36,7 +37,7 @@ add-p c =
     omega (arith, c .size-at .ensures, first-of (c .before .before .before) .spans, c .before .before .before .before .loop .inv .place, s .pre .2, s .good .0 .0)
 
 add-g : tie.Need-add-g Inv-loop μ-loop
-add-g c = omega (arith, first-of (c .before .before .before) .inside, c .before .before .before .before .before .before .pre .0)
+add-g c = omega (arith, groups-few, first-of (c .before .before .before) .inside, c .before .before .before .before .before .before .pre .0)
 
 sub-k : tie.Need-sub-k Inv-loop μ-loop
 sub-k c = omega arith

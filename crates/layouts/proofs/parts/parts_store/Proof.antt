@@ -3,6 +3,7 @@ use mathlib.Core.Path.{_≡_, ap}
 use native.Mathlib.Omega.{arith}
 use Rattle.tables.specs.declared.tables.GroupRow.{GroupRow}
 use Rattle.tables.specs.Tables.{groupAt}
+use Rattle.tables.proofs.TableLaws.{groups-few}
 use Rattle.layouts.proofs.PartLaws.{First, first-part}
 use Rattle.layouts.proofs.StoreLaws.{StoreParts, store-begun, holds-cons, part-stored, parts-stored}
 use Rattle.layouts.proofs.parts.parts_store.Statement.{statement}
@@ -40,7 +41,7 @@ add-p c =
     omega (arith, first-of (c .before .before .before .before) .spans, c .before .before .before .before .before .loop .inv .place, s .pre .0 .2, s .good .0 .0)
 
 add-g : tie.Need-add-g Inv-loop μ-loop
-add-g c = omega (arith, first-of (c .before .before .before .before) .inside, c .before .before .before .before .before .before .before .pre .0 .0)
+add-g c = omega (arith, groups-few, first-of (c .before .before .before .before) .inside, c .before .before .before .before .before .before .before .pre .0 .0)
 
 sub-k : tie.Need-sub-k Inv-loop μ-loop
 sub-k c = omega arith

@@ -1,11 +1,13 @@
 -- `tables::field_rules::is_free` meets its contract. Assumes nothing.
+use native.Mathlib.Omega.{arith}
+use Rattle.tables.proofs.TableLaws.{groups-few}
 use Rattle.tables.proofs.RuleLaws.{group-said}
 use borrow.Author.Needs.{needs}
 use Rattle.tables.proofs.field_rules.is_free.Statement.{statement}
 use Rattle.tables.proofs.field_rules.is_free.Tie as tie
 
 add-first-rule : tie.Need-add-first-rule
-add-first-rule c = search needs
+add-first-rule c = record { fits = omega (arith, groups-few) }
 
 first-rule-requires : tie.Need-first-rule-requires
 first-rule-requires c κs = search needs

@@ -10,9 +10,11 @@ use Rattle.tables.proofs.field_rules.rule_word.Statement.{statement}
 use Rattle.tables.proofs.field_rules.rule_word.Tie as tie
 
 mul-result : tie.Need-mul-result
+unfolding rules groups layouts categories category017 category018
 mul-result c = search needs
 
 array-read-result : tie.Need-array-read-result
+unfolding rules groups layouts categories category017 category018
 array-read-result c = search needs
 
 returns : tie.Need-returns

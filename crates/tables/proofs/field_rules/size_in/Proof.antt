@@ -10,6 +10,7 @@ use Rattle.tables.proofs.field_rules.size_in.Statement.{statement}
 use Rattle.tables.proofs.field_rules.size_in.Tie as tie
 
 array-read-result : tie.Need-array-read-result
+unfolding groups layouts categories category017 category018
 array-read-result c = search needs
 
 returns : tie.Need-returns

@@ -9,9 +9,11 @@ use Rattle.tables.proofs.tables.field_word.Statement.{statement}
 use Rattle.tables.proofs.tables.field_word.Tie as tie
 
 mul-result : tie.Need-mul-result
+unfolding ranges fields groups layouts categories category017 category018
 mul-result c = search needs
 
 array-read-result : tie.Need-array-read-result
+unfolding ranges fields groups layouts categories category017 category018
 array-read-result c = search needs
 
 returns : tie.Need-returns

@@ -10,9 +10,11 @@ use Rattle.tables.proofs.tables.greatest_at.Statement.{statement}
 use Rattle.tables.proofs.tables.greatest_at.Tie as tie
 
 mul-result : tie.Need-mul-result
+unfolding ranges fields groups layouts categories category017 category018
 mul-result c = search needs
 
 array-copy-out-result : tie.Need-array-copy-out-result
+unfolding ranges fields groups layouts categories category017 category018
 array-copy-out-result c = search needs
 
 returns : tie.Need-returns
