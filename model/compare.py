@@ -4,13 +4,10 @@
 
 From Category017.antt and Category018.antt it takes every layout, every row of the profile, every
 message type, the item that is a record's time and the types without one, and the section, title, FRN
-and name of a field in the comment beside each (so that two fields of one width, exchanged, show);
-from Entry.antt the list of categories. Then reading.py answers every question of tests/vectors, and of the pairs of files named,
-and its answers are held to those written there. Each difference is a line; with one or more the
-message type, and the section, title, FRN and name of a field in the comment beside each (so that two
-fields of one width, exchanged, show); from Entry.antt the list of categories. Then reading.py answers every question of tests/vectors but those about two logs, and of the pairs of
-files named, and its answers are held to those written there. Each difference is a line; with one or more the
-exit status is 1.
+and name of a field in the comment beside each (so that two fields of one width, exchanged, show); from
+Catalogue.antt the list of categories. Then reading.py answers every question of tests/vectors but those
+about two logs, and of the pairs of files named, and its answers are held to those written there. Each
+difference is a line; with one or more the exit status is 1.
 """
 
 import pathlib
@@ -219,9 +216,9 @@ def main(arguments):
         differ("tables.py: " + sentence)
     for category in tables.CATEGORIES.values():
         compare(category)
-    entry = (SPECS / "Entry.antt").read_text(encoding="utf-8")
-    listed = parsed(re.search(r"^categories = (.*)$", bare(entry), re.M).group(1))
-    same("Entry, the categories", listed, ["category%03d" % number for number in tables.CATEGORIES])
+    catalogue = (SPECS / "Catalogue.antt").read_text(encoding="utf-8")
+    listed = parsed(re.search(r"^categories = (.*)$", bare(catalogue), re.M).group(1))
+    same("Catalogue, the categories", listed, ["category%03d" % number for number in tables.CATEGORIES])
     for questions in sorted(VECTORS.glob("*-questions.txt")):
         if questions.name.replace("-questions.txt", "") in MERGING:
             continue

@@ -14,6 +14,7 @@ use lib.Dec.{eqb, le→leb, eqb→eq}
 use borrow.Author.Tests.{lt-leb}
 use Rattle.rules.specs.Answer.{Answer, ok, refused, _>>=_}
 use Rattle.rules.specs.Layout.{octets}
+use Rattle.rules.specs.Catalogue.{categories}
 use Rattle.rules.specs.Entry.{over, newRecord, joinRecord, added, refusedOld, refusedNew, inNew, inOld, Added, addRecord, leavesAdded}
 use Rattle.rules.proofs.AnswerLaws.{refused-ok, ok-inj, bind-in, bind-out, bind-elim, need-in, need-out, Octets}
 use Rattle.rules.proofs.EntryLaws.{over-is}
@@ -121,21 +122,21 @@ module _ (out : List ℕ) (used : ℕ) (three : 3 ≤ used) (room : used ≤ len
 -- ---- the answers of adding
 
 module _ (out : List ℕ) (used : ℕ) (fs items : List ℕ) where
-  pub add-none : length out < used → addRecord out used fs items ≡ refusedOld 16 0
+  pub add-none : length out < used → addRecord categories out used fs items ≡ refusedOld 16 0
   unfolding addRecord
   add-none l = ap (λ z. inOld z (λ c. inNew (newRecord c fs items >>= joinRecord (length out) (take used out)))) (old-none out used l)
 
   module _ (room : used ≤ length out) where
-    pub add-old : (n p : ℕ) → openFrom 3 (take used out) ≡ refused n p → addRecord out used fs items ≡ refusedOld n p
+    pub add-old : (n p : ℕ) → openFrom 3 (take used out) ≡ refused n p → addRecord categories out used fs items ≡ refusedOld n p
     unfolding addRecord
     add-old n p h = ap (λ z. inOld z (λ c. inNew (newRecord c fs items >>= joinRecord (length out) (take used out)))) (old-is out used room ∙ bind-out _ h)
 
     add-in : (o : Opening) → openFrom 3 (take used out) ≡ ok o
-        → addRecord out used fs items ≡ inNew (newRecord (o .category) fs items >>= joinRecord (length out) (take used out))
+        → addRecord categories out used fs items ≡ inNew (newRecord (o .category) fs items >>= joinRecord (length out) (take used out))
     unfolding addRecord
     add-in o h = ap (λ z. inOld z (λ c. inNew (newRecord c fs items >>= joinRecord (length out) (take used out)))) (old-is out used room ∙ bind-in _ h refl)
 
-    pub add-new : (o : Opening) (n p : ℕ) → openFrom 3 (take used out) ≡ ok o → newRecord (o .category) fs items ≡ refused n p → addRecord out used fs items ≡ refusedNew n p
+    pub add-new : (o : Opening) (n p : ℕ) → openFrom 3 (take used out) ≡ ok o → newRecord (o .category) fs items ≡ refused n p → addRecord categories out used fs items ≡ refusedNew n p
     add-new o n p h q = add-in o h ∙ ap inNew (bind-out _ q)
 
     -- how long the block becomes
@@ -143,14 +144,14 @@ module _ (out : List ℕ) (used : ℕ) (fs items : List ℕ) where
     both-length new = ap (λ k. k + length new) (length-take-le used out room)
 
     pub add-long : (o : Opening) (new : List ℕ) → openFrom 3 (take used out) ≡ ok o → newRecord (o .category) fs items ≡ ok new → 65_535 < used + length new
-        → addRecord out used fs items ≡ refusedNew 17 0
+        → addRecord categories out used fs items ≡ refusedNew 17 0
     unfolding joinRecord
     add-long o new h q l =
         let m : 65_535 < length (take used out) + length new = rw (both-length new) l in
         add-in o h ∙ ap inNew (bind-in _ q (need-out 17 _ (lt-leb _ _ m)))
 
     pub add-full : (o : Opening) (new : List ℕ) → openFrom 3 (take used out) ≡ ok o → newRecord (o .category) fs items ≡ ok new → used + length new ≤ 65_535
-        → length out < used + length new → addRecord out used fs items ≡ refusedNew 16 0
+        → length out < used + length new → addRecord categories out used fs items ≡ refusedNew 16 0
     unfolding joinRecord
     add-full o new h q l k =
         let m : length (take used out) + length new ≤ 65_535 = rw (both-length new) l in
@@ -158,7 +159,7 @@ module _ (out : List ℕ) (used : ℕ) (fs items : List ℕ) where
         add-in o h ∙ ap inNew (bind-in _ q (need-in _ 17 (le→leb _ _ m) (need-out 16 _ (lt-leb _ _ j))))
 
     pub add-all : (o : Opening) (new : List ℕ) → openFrom 3 (take used out) ≡ ok o → newRecord (o .category) fs items ≡ ok new → used + length new ≤ 65_535
-        → used + length new ≤ length out → addRecord out used fs items ≡ added (withRecord (take used out) (used + length new) new)
+        → used + length new ≤ length out → addRecord categories out used fs items ≡ added (withRecord (take used out) (used + length new) new)
     unfolding joinRecord
     add-all o new h q l k =
         let m : length (take used out) + length new ≤ 65_535 = rw (both-length new) l in
@@ -203,18 +204,18 @@ module _ (out : List ℕ) (used i bits n : ℕ) (items : List ℕ) (o : Opening)
   pub whole-length : used + length (fspecAt i bits ++ items) ≡ used + n
   whole-length = ap (λ k. used + k) (length-append (fspecAt i bits) items ∙ sym (new-whole i bits items n is-new .1))
 
-  pub long-both : 65_535 < used + n → (addedOf (recordAdded.RefusedNew 17 0) ≡ addedAs (addRecord out used (frnsOf bits) items)) × (out ≡ leavesAdded (addRecord out used (frnsOf bits) items) out)
+  pub long-both : 65_535 < used + n → (addedOf (recordAdded.RefusedNew 17 0) ≡ addedAs (addRecord categories out used (frnsOf bits) items)) × (out ≡ leavesAdded (addRecord categories out used (frnsOf bits) items) out)
   long-both l = new-both out (add-long out used (frnsOf bits) items room o (fspecAt i bits ++ items) is-open new-record (rw whole-length l))
 
   pub full-both : used + n ≤ 65_535 → length out < used + n
-      → (addedOf (recordAdded.RefusedNew 16 0) ≡ addedAs (addRecord out used (frnsOf bits) items)) × (out ≡ leavesAdded (addRecord out used (frnsOf bits) items) out)
+      → (addedOf (recordAdded.RefusedNew 16 0) ≡ addedAs (addRecord categories out used (frnsOf bits) items)) × (out ≡ leavesAdded (addRecord categories out used (frnsOf bits) items) out)
   full-both l m = new-both out (add-full out used (frnsOf bits) items room o (fspecAt i bits ++ items) is-open new-record (rw whole-length l) (rw whole-length m))
 
   -- the block with the record, and the output then
   pub added-both : (left : List ℕ) → 3 ≤ used → used + n ≤ 65_535 → used + n ≤ length out → left ≡ laid out used (used + n) (fspecAt i bits) items
-      → (addedOf (recordAdded.Length (used + n)) ≡ addedAs (addRecord out used (frnsOf bits) items)) × (left ≡ leavesAdded (addRecord out used (frnsOf bits) items) out)
+      → (addedOf (recordAdded.Length (used + n)) ≡ addedAs (addRecord categories out used (frnsOf bits) items)) × (left ≡ leavesAdded (addRecord categories out used (frnsOf bits) items) out)
   added-both left three l m z =
-      let a : addRecord out used (frnsOf bits) items ≡ added (withRecord (take used out) (used + length (fspecAt i bits ++ items)) (fspecAt i bits ++ items)) =
+      let a : addRecord categories out used (frnsOf bits) items ≡ added (withRecord (take used out) (used + length (fspecAt i bits ++ items)) (fspecAt i bits ++ items)) =
       add-all out used (frnsOf bits) items room o (fspecAt i bits ++ items) is-open new-record (rw whole-length l) (rw whole-length m) in (
         sym (ap addedAs a ∙ ap (λ k. (ok k, false)) (with-length out used three room (used + length (fspecAt i bits ++ items)) (fspecAt i bits ++ items) ∙ whole-length)),
         z

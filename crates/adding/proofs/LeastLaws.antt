@@ -19,7 +19,8 @@ use Rattle.rules.specs.Presence.{flags}
 use Rattle.rules.specs.Record.{Place}
 use Rattle.rules.specs.Category017.{category017}
 use Rattle.rules.specs.Category018.{category018}
-use Rattle.rules.specs.Entry.{categories, profileAt, sumLeast, leastLength}
+use Rattle.rules.specs.Catalogue.{categories}
+use Rattle.rules.specs.Entry.{profileAt, sumLeast, leastLength}
 use Rattle.rules.proofs.AnswerLaws.{both-left, both-right}
 use Rattle.adding.specs.Least.{leastIn, leasts, firstOf}
 
@@ -74,7 +75,7 @@ size-is i k j q r =
     (below-or i 2)
 
 -- an octet past the profile's FSPEC
-pub no-octet : (i k octet : ℕ) → length (profileAt categories i) ≤ k → leastLength i k octet ≡ 0
+pub no-octet : (i k octet : ℕ) → length (profileAt categories i) ≤ k → leastLength categories i k octet ≡ 0
 unfolding leastLength
 no-octet i k octet l = ap (λ r. sumLeast r (flags 7 (octet / 2))) (List·getD-eq-default (profileAt categories i) [] l)
 

@@ -20,6 +20,7 @@ use Rattle.rules.specs.Presence.{present, number, usable, house, numbers, write
 use Rattle.rules.specs.Record.{Place}
 use Rattle.rules.proofs.AnswerLaws.{bind-in, need-in, T-true, both-left, both-right}
 use Rattle.rules.proofs.PresenceLaws.{number-lt}
+use Rattle.rules.proofs.Tables.{sevens}
 
 -- ---- numbers of the set: each has a usable place
 
@@ -42,11 +43,6 @@ nil-cons e = absurd (omega (arith, ap length e))
 abbrev Small : List ℕ → Type 0
 Small [] = Unit {0}
 Small (n ∷ ns) = (n < 128) × Small ns
-
--- rows of seven places at most
-abbrev pub sevens : {P : Type 0} → List (List P) → Bool
-sevens [] = true
-sevens (p ∷ ps) = leb (length p) 7 && sevens ps
 
 num-writes : (n : ℕ) → n < 256 → writeNum 1 n ≡ ok (octets 1 n)
 unfolding writeNum

@@ -4,6 +4,7 @@ use mathlib.Core.Path.{_≡_, refl, sym, ap, _∙_}
 use mathlib.Core.Bool.{Bool, true, false}
 use mathlib.Core.List.{List}
 use Rattle.rules.specs.Answer.{Answer, ok, refused}
+use Rattle.rules.specs.Catalogue.{categories}
 use Rattle.rules.specs.Entry.{addRecord, leavesAdded, leastLength}
 use Rattle.sets.specs.declared.ItemSet.{ItemSet}
 use Rattle.sets.specs.Sets.{frnsOf}
@@ -28,12 +29,12 @@ pub added-told : (a b : RecordAdded) → addedOf a ≡ addedOf b → a ≡ b
 added-told a b e = sym (added-back a) ∙ ap addedFrom e ∙ added-back b
 
 pub one-add-record : (out : List ℕ) (used : ℕ) (set : ItemSet) (items : List ℕ) (a b : RecordAdded) (left right : List ℕ)
-    → addedOf a ≡ addedAs (addRecord out used (frnsOf (set .bits)) items) → left ≡ leavesAdded (addRecord out used (frnsOf (set .bits)) items) out
-    → addedOf b ≡ addedAs (addRecord out used (frnsOf (set .bits)) items) → right ≡ leavesAdded (addRecord out used (frnsOf (set .bits)) items) out
+    → addedOf a ≡ addedAs (addRecord categories out used (frnsOf (set .bits)) items) → left ≡ leavesAdded (addRecord categories out used (frnsOf (set .bits)) items) out
+    → addedOf b ≡ addedAs (addRecord categories out used (frnsOf (set .bits)) items) → right ≡ leavesAdded (addRecord categories out used (frnsOf (set .bits)) items) out
     → (a ≡ b) × (left ≡ right)
 one-add-record out used set items a b left right p l q r = (added-told a b (p ∙ sym q), l ∙ sym r)
 
 -- ---- `least_length`
 
-pub one-least-length : (profile place octet a b : ℕ) → a ≡ leastLength profile place octet → b ≡ leastLength profile place octet → a ≡ b
+pub one-least-length : (profile place octet a b : ℕ) → a ≡ leastLength categories profile place octet → b ≡ leastLength categories profile place octet → a ≡ b
 one-least-length profile place octet a b p q = p ∙ sym q

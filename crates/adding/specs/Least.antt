@@ -5,7 +5,7 @@ use mathlib.Core.List.{List, [], _∷_, map}
 use lib.ListN.{length}
 use Rattle.rules.specs.Layout.{flatten, leastSize}
 use Rattle.rules.specs.Record.{Place, Category, places}
-use Rattle.rules.specs.Entry.{categories}
+use Rattle.rules.specs.Catalogue.{categories}
 
 -- of what stands at a place, 0 where nothing does
 abbrev pub leastIn : Option Place → ℕ

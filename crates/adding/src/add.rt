@@ -8,6 +8,7 @@ ghost use mathlib.Core.Path.{_≡_};
 ghost use Prim.Native.Nat.{_+_, _/_, _%_, _≤_, _<_};
 ghost use lib.ListN.{length, set};
 ghost use lib.Seq.{paste};
+ghost use Rattle.rules.specs.Catalogue.{categories};
 ghost use Rattle.rules.specs.Entry.{addRecord, leavesAdded};
 ghost use Rattle.sets.specs.Sets.{frnsOf, fspecAt};
 ghost use Rattle.adding.specs.Added.{addedOf, addedAs, newNumber, newPlace, laid};
@@ -87,8 +88,8 @@ fn lay_record(out: &mut [u8], used: usize, len: usize, profile: usize, set: Item
 
 // Into an output whose first bytes, so many as are used, are a block: the record of a set of FRNs, whose items are lent end to end.
 pub fn add_record(out: &mut [u8], used: usize, set: ItemSet, items: &[u8]) -> RecordAdded
-    ensures { λ r. ⌜ addedOf r ≡ addedAs (addRecord (now (out .entry)) used (frnsOf (set .bits)) (now (items .entry))) ⌝ }
-    ensures { λ _. ⌜ now (out .exit) ≡ leavesAdded (addRecord (now (out .entry)) used (frnsOf (set .bits)) (now (items .entry))) (now (out .entry)) ⌝ }
+    ensures { λ r. ⌜ addedOf r ≡ addedAs (addRecord categories (now (out .entry)) used (frnsOf (set .bits)) (now (items .entry))) ⌝ }
+    ensures { λ _. ⌜ now (out .exit) ≡ leavesAdded (addRecord categories (now (out .entry)) used (frnsOf (set .bits)) (now (items .entry))) (now (out .entry)) ⌝ }
 {
     if out.len() < used {
         return RecordAdded::RefusedOld {

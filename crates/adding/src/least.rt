@@ -5,7 +5,8 @@ ghost use Prim.Native.Nat.{_≤_, _<_, _+_, _*_};
 ghost use lib.Dec.{leb};
 ghost use lib.ListN.{length, getD};
 ghost use Rattle.rules.specs.Answer.{if_then_else_};
-ghost use Rattle.rules.specs.Entry.{categories, profileAt, leastLength};
+ghost use Rattle.rules.specs.Catalogue.{categories};
+ghost use Rattle.rules.specs.Entry.{profileAt, leastLength};
 ghost use Rattle.adding.specs.Least.{leasts, firstOf};
 
 // The FRNs of an octet.
@@ -122,7 +123,7 @@ fn rows_of(profile: usize) -> ProfileRows
 
 // Of the octet at a place of an FSPEC, counted from 0, of a profile; its FX bit adds nothing.
 pub fn least_length(profile: usize, place: usize, octet: u8) -> usize
-    ensures { λ r. ⌜ r ≡ leastLength profile place octet ⌝ }
+    ensures { λ r. ⌜ r ≡ leastLength categories profile place octet ⌝ }
 {
     let rows = rows_of(profile);
     let octets = rows.octets;

@@ -12,7 +12,8 @@ use lib.ListN.{length}
 use Rattle.rules.specs.Answer.{Answer, ok, refused, if_then_else_}
 use Rattle.rules.specs.Block.{Block}
 use Rattle.rules.specs.Recording.{readRecording}
-use Rattle.rules.specs.Entry.{categories, checkRecording}
+use Rattle.rules.specs.Catalogue.{categories}
+use Rattle.rules.specs.Entry.{checkRecording}
 use Rattle.rules.specs.Merge.{Log, logA, logB, choose, first, Head, Checked, accepted, unread, checkedAs, logOf, Told, next, finished, notAccepted, barred, Step, stay, goes, inRange, startOf, fromPlace, stepFrom, withPlaces, stepOf, mergeStep}
 use Rattle.rules.proofs.AnswerLaws.{bind-out, Octets}
 use Rattle.merging.specs.declared.run.Log as code
@@ -38,14 +39,14 @@ abbrev Refuses : Checked → Type 0
 Refuses (accepted xs m) = Unit {0}
 Refuses (unread n p) = (1 ≤ n) × (n ≤ 21)
 
-log-numbered : (bs : List ℕ) → Octets bs → Refuses (logOf bs)
+log-numbered : (bs : List ℕ) → Octets bs → Refuses (logOf categories bs)
 unfolding logOf checkRecording
 log-numbered bs o = by (readRecording categories bs) refl
   where
-    by : (a : Answer (List Block)) → readRecording categories bs ≡ a → Refuses (checkedAs (length bs) a)
+    by : (a : Answer (List Block)) → readRecording categories bs ≡ a → Refuses (checkedAs categories (length bs) a)
     by (ok ks) e = tt
     by (refused n p) e =
-        let t : T (leb 1 n) × T (leb n 21) = T-both (leb 1 n) (leb n 21) (recording-checked bs o n p (bind-out _ e)) in
+        let t : T (leb 1 n) × T (leb n 21) = T-both (leb 1 n) (leb n 21) (recording-checked categories bs o n p (bind-out _ e)) in
         (leb→le 1 n (t .0), leb→le n 21 (t .1))
 
 from-tells : (o : ℤ) (m n p q : ℕ) (us vs : List Head) → Tells (stepFrom o m n p q us vs .told)
@@ -82,9 +83,9 @@ pub record TellsStep (s : Step) (r : MergeStepped) : Type 0 where
   pub closed : (l : Log) (n p : ℕ) → s .told ≡ notAccepted l n p → (r .met ≡ 0) × (r .number ≡ n) × (r .place ≡ p) × (1 ≤ n) × (n ≤ 21)
   pub refused : (n : ℕ) → s .told ≡ barred n → (r .met ≡ 0) × (r .number ≡ n) × (r .place ≡ 0) × (22 ≤ n) × (n ≤ 23)
 
-pub merge-step-tells : (as′ bs : List ℕ) (p q : ℕ) (o : ℤ) → Octets as′ → Octets bs → TellsStep (mergeStep as′ bs p q o) (mergeStepped (mergeStep as′ bs p q o))
+pub merge-step-tells : (as′ bs : List ℕ) (p q : ℕ) (o : ℤ) → Octets as′ → Octets bs → TellsStep (mergeStep categories as′ bs p q o) (mergeStepped (mergeStep categories as′ bs p q o))
 unfolding mergeStepped mergeStep
-merge-step-tells as′ bs p q o oa ob = by (mergeStep as′ bs p q o) (step-tells (logOf as′) (logOf bs) (log-numbered as′ oa) (log-numbered bs ob) p q o)
+merge-step-tells as′ bs p q o oa ob = by (mergeStep categories as′ bs p q o) (step-tells (logOf categories as′) (logOf categories bs) (log-numbered as′ oa) (log-numbered bs ob) p q o)
   where
     closed-as : (t : Told) (l : Log) (n f : ℕ) → Tells t → t ≡ notAccepted l n f → (1 ≤ n) × (n ≤ 21)
     closed-as t l n f h e = subst Tells e h
@@ -115,18 +116,18 @@ Begins (begun.Refused n) = n ≡ 22
 
 begins : (as′ bs : List ℕ) (o : ℤ) → Octets as′ → Octets bs → Begins (beginOf as′ bs o)
 unfolding beginOf if_then_else_
-begins as′ bs o oa ob = by (checkRecording as′) (checkRecording bs) refl refl
+begins as′ bs o oa ob = by (checkRecording categories as′) (checkRecording categories bs) refl refl
   where
-    numbered : (cs : List ℕ) → Octets cs → (n p : ℕ) → checkRecording cs ≡ refused n p → (1 ≤ n) × (n ≤ 21)
+    numbered : (cs : List ℕ) → Octets cs → (n p : ℕ) → checkRecording categories cs ≡ refused n p → (1 ≤ n) × (n ≤ 21)
     numbered cs oc n p e =
-        let t : T (leb 1 n) × T (leb n 21) = T-both (leb 1 n) (leb n 21) (recording-checked cs oc n p e) in
+        let t : T (leb 1 n) × T (leb n 21) = T-both (leb 1 n) (leb n 21) (recording-checked categories cs oc n p e) in
         (leb→le 1 n (t .0), leb→le n 21 (t .1))
 
     go : (x y : Counts) (t : Bool) → inRange o ≡ t → Begins (begunBy as′ bs o (ok x) (ok y))
     go x y true e = rw e tt
     go x y false e = rw e refl
 
-    by : (x y : Answer Counts) → checkRecording as′ ≡ x → checkRecording bs ≡ y → Begins (begunBy as′ bs o x y)
+    by : (x y : Answer Counts) → checkRecording categories as′ ≡ x → checkRecording categories bs ≡ y → Begins (begunBy as′ bs o x y)
     by (refused n p) y ea eb = numbered as′ oa n p ea
     by (ok x) (refused n p) ea eb = numbered bs ob n p eb
     by (ok x) (ok y) ea eb = go x y (inRange o) refl

@@ -4,6 +4,7 @@ use mathlib.Core.Path.{_≡_, sym, _∙_}
 use mathlib.Core.List.{List}
 use lib.IntN.{ℤ}
 use lib.ListN.{length}
+use Rattle.rules.specs.Catalogue.{categories}
 use Rattle.rules.specs.Entry.{over}
 use Rattle.rules.specs.Merge.{mergeStep}
 use Rattle.merging.specs.Run.{beginOf}
@@ -15,7 +16,7 @@ use Rattle.asterix.specs.declared.MergeNext.{MergeNext}
 use Rattle.asterix.specs.Answers.{mergeStepped, mergeIn, mergeBegun, mergeNext}
 
 pub one-merge-step : («log_a» «log_b» : List ℕ) («place_a» «place_b» : ℕ) (offset : ℤ) (a b : MergeStepped)
-    → a ≡ mergeStepped (mergeStep «log_a» «log_b» «place_a» «place_b» offset) → b ≡ mergeStepped (mergeStep «log_a» «log_b» «place_a» «place_b» offset) → a ≡ b
+    → a ≡ mergeStepped (mergeStep categories «log_a» «log_b» «place_a» «place_b» offset) → b ≡ mergeStepped (mergeStep categories «log_a» «log_b» «place_a» «place_b» offset) → a ≡ b
 one-merge-step «log_a» «log_b» «place_a» «place_b» offset a b p q = p ∙ sym q
 
 pub one-begin-merge : («log_a» «log_b» : List ℕ) (offset : ℤ) (a b : MergeBegun)

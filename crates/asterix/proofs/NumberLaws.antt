@@ -18,7 +18,8 @@ use Rattle.rules.specs.Presence.{flagRows, readPresence, readRow, readRows, rea
 use Rattle.rules.specs.Record.{Place, Message, Category, Record, items, places, valueOf, typeOf, messageOf, judge, readPlace, readRecord}
 use Rattle.rules.specs.Block.{categoryOf, readUpTo, readAll, Head, readHead, readBody, readBlock}
 use Rattle.rules.specs.Recording.{readRecording}
-use Rattle.rules.specs.Entry.{categories, checkBlock, checkRecording, openBlock, numbered, findRecord, findItem, layoutAs, layoutOf, readOne, writeOne, Added, added, refusedOld, refusedNew, oldBlock, newRecord, joinRecord, inNew, inOld, addRecord}
+use Rattle.rules.specs.Catalogue.{categories}
+use Rattle.rules.specs.Entry.{checkBlock, checkRecording, openBlock, numbered, findRecord, findItem, layoutAs, layoutOf, readOne, writeOne, Added, added, refusedOld, refusedNew, oldBlock, newRecord, joinRecord, inNew, inOld, addRecord}
 use Rattle.rules.proofs.AnswerLaws.{refused-ok, Octets, Split, Laws, Starts, after}
 use Rattle.rules.proofs.AnswerLaws.{ok-inj, bind-elim, later-inv}
 use Rattle.rules.proofs.LayoutLaws.{octets-take}
@@ -247,12 +248,12 @@ all-read : {A : Type 0} {r : Read A} {w : Write A} → Laws r w → Starts r →
 unfolding readAll
 all-read laws starts h bs o = upTo-read laws starts h (length bs) bs o (le-refl _)
 
-head-read : (fits : ℕ → ℕ → Bool) (bs : List ℕ) → Numbered (readHead fits categories bs)
+head-read : (cs : List Category) (fits : ℕ → ℕ → Bool) (bs : List ℕ) → Numbered (readHead fits cs bs)
 unfolding readHead
-head-read fits bs =
+head-read cs fits bs =
     step _ _ (number-read 1 1 bs tt) λ x e.
     step _ _ (number-read 1 2 (x .1) tt) λ y f.
-    step _ _ (lookup (categoryOf (x .0) categories) 2 tt) λ c g.
+    step _ _ (lookup (categoryOf (x .0) cs) 2 tt) λ c g.
     test _ 3 _ tt (test _ 3 _ tt (done _))
 
 body-read : (h : Head) (bs : List ℕ) → Octets bs → Numbered (readBody h bs)
@@ -260,26 +261,26 @@ unfolding readBody
 body-read h bs o =
     step _ _ (on 3 _ (all-read (record-laws (h .category)) (record-starts (h .category)) (λ us p. record-read (h .category) us) _ (octets-take (h .len - 3) bs o))) (λ rs e. done _)
 
-block-read : (fits : ℕ → ℕ → Bool) (bs : List ℕ) → Octets bs → Numbered (readBlock fits categories bs)
+block-read : (cs : List Category) (fits : ℕ → ℕ → Bool) (bs : List ℕ) → Octets bs → Numbered (readBlock fits cs bs)
 unfolding readBlock
-block-read fits bs o =
-    step _ _ (head-read fits bs) λ x e.
-    let h : HeadCame fits categories (x .0) bs (x .1) = head-forth fits categories (x .0) bs (x .1) o e in
+block-read cs fits bs o =
+    step _ _ (head-read cs fits bs) λ x e.
+    let h : HeadCame fits cs (x .0) bs (x .1) = head-forth fits cs (x .0) bs (x .1) o e in
     test _ 4 _ tt (step _ _ (body-read (x .0) (x .1) (h .octets)) (λ y f. done _))
 
-block-checked : (bs : List ℕ) → Octets bs → Numbered (checkBlock bs)
+block-checked : (cs : List Category) (bs : List ℕ) → Octets bs → Numbered (checkBlock cs bs)
 unfolding checkBlock
-block-checked bs o = step _ _ (block-read eqb bs o) (λ x e. done _)
+block-checked cs bs o = step _ _ (block-read cs eqb bs o) (λ x e. done _)
 
-pub recording-checked : (bs : List ℕ) → Octets bs → Numbered (checkRecording bs)
+pub recording-checked : (cs : List Category) (bs : List ℕ) → Octets bs → Numbered (checkRecording cs bs)
 unfolding checkRecording readRecording
-recording-checked bs o = step _ _ (all-read (block-laws categories) (block-starts categories) (block-read leb) bs o) (λ ks e. done _)
+recording-checked cs bs o = step _ _ (all-read (block-laws cs) (block-starts cs) (block-read cs leb) bs o) (λ ks e. done _)
 
 -- ---- finding
 
-block-opened : (bs : List ℕ) → Octets bs → Numbered (openBlock bs)
+block-opened : (cs : List Category) (bs : List ℕ) → Octets bs → Numbered (openBlock cs bs)
 unfolding openBlock
-block-opened bs o = step _ _ (block-read eqb bs o) (λ x e. step _ _ (lookup (categoryOf (x .0 .cat) categories) 2 tt) (λ c f. done _))
+block-opened cs bs o = step _ _ (block-read cs eqb bs o) (λ x e. step _ _ (lookup (categoryOf (x .0 .cat) cs) 2 tt) (λ c f. done _))
 
 record-numbered : (c : Category) (k : ℕ) (rs : List Record) (n : ℕ) → Numbered (numbered c k rs n)
 unfolding numbered
@@ -287,20 +288,20 @@ record-numbered c k [] n = refusal 19 0 tt
 record-numbered c k (r ∷ rs) zero = done _
 record-numbered c k (r ∷ rs) (suc n) = record-numbered c _ rs n
 
-record-found : (bs : List ℕ) (n : ℕ) → Octets bs → Numbered (findRecord bs n)
+record-found : (cs : List Category) (bs : List ℕ) (n : ℕ) → Octets bs → Numbered (findRecord cs bs n)
 unfolding findRecord
-record-found bs n o = step _ _ (block-opened bs o) (λ b e. step _ _ (record-numbered (b .category) 3 (b .records) n) (λ r f. done _))
+record-found cs bs n o = step _ _ (block-opened cs bs o) (λ b e. step _ _ (record-numbered (b .category) 3 (b .records) n) (λ r f. done _))
 
-item-found : (bs : List ℕ) (ref n : ℕ) → Octets bs → Numbered (findItem bs ref n)
+item-found : (cs : List Category) (bs : List ℕ) (ref n : ℕ) → Octets bs → Numbered (findItem cs bs ref n)
 unfolding findItem
-item-found bs ref n o =
-    step _ _ (block-opened bs o) (λ b e. test _ 21 _ tt (step _ _ (record-numbered (b .category) 3 (b .records) n) (λ r f. on _ _ (lookup _ 20 tt))))
+item-found cs bs ref n o =
+    step _ _ (block-opened cs bs o) (λ b e. test _ 21 _ tt (step _ _ (record-numbered (b .category) 3 (b .records) n) (λ r f. on _ _ (lookup _ 20 tt))))
 
 -- ---- walking a log
 
 head-opened : (bs : List ℕ) (e : ℕ) → Numbered (openAt bs e)
 unfolding openAt openIn
-head-opened bs e = on e _ (step _ _ (head-read leb _) (λ x f. test _ 4 _ tt (done _)))
+head-opened bs e = on e _ (step _ _ (head-read categories leb _) (λ x f. test _ 4 _ tt (done _)))
 
 block-met : (bs : List ℕ) (c : walking-cursor.Cursor) → Numbered (blockAt bs c)
 unfolding blockAt
@@ -341,28 +342,28 @@ refusal-met bs c n p e =
 
 -- ---- one item
 
-layout-found : (cat ref : ℕ) → Numbered (layoutOf cat ref)
+layout-found : (cs : List Category) (cat ref : ℕ) → Numbered (layoutOf cs cat ref)
 unfolding layoutOf
-layout-found cat ref = step _ _ (lookup (categoryOf cat categories) 21 tt) (λ c e. lookup (layoutAs ref (places c)) 21 tt)
+layout-found cs cat ref = step _ _ (lookup (categoryOf cat cs) 21 tt) (λ c e. lookup (layoutAs ref (places c)) 21 tt)
 
-one-read : (cat ref : ℕ) (bs : List ℕ) → Numbered (readOne cat ref bs)
+one-read : (cs : List Category) (cat ref : ℕ) (bs : List ℕ) → Numbered (readOne cs cat ref bs)
 unfolding readOne readFields
-one-read cat ref bs =
-    step _ _ (layout-found cat ref) (λ l e. step _ _ (step _ _ (item-read l bs) (λ x f. done _)) (λ x f. on _ _ (test _ 18 _ tt (done _))))
+one-read cs cat ref bs =
+    step _ _ (layout-found cs cat ref) (λ l e. step _ _ (step _ _ (item-read l bs) (λ x f. done _)) (λ x f. on _ _ (test _ 18 _ tt (done _))))
 
-one-written : (cat ref : ℕ) (fs : List ℤ) (room : ℕ) → Numbered (writeOne cat ref fs room)
+one-written : (cs : List Category) (cat ref : ℕ) (fs : List ℤ) (room : ℕ) → Numbered (writeOne cs cat ref fs room)
 unfolding writeOne writeFields
-one-written cat ref fs room =
-    step _ _ (layout-found cat ref) (λ l e. step _ _ (step _ _ (parts-cut _ fs) (λ vs f. item-written l vs)) (λ bs f. test _ 16 _ tt (done _)))
+one-written cs cat ref fs room =
+    step _ _ (layout-found cs cat ref) (λ l e. step _ _ (step _ _ (parts-cut _ fs) (λ vs f. item-written l vs)) (λ bs f. test _ 16 _ tt (done _)))
 
 -- ---- adding a record
 
-old-read : (out : List ℕ) (used : ℕ) → Octets out → Numbered (oldBlock out used)
+old-read : (cs : List Category) (out : List ℕ) (used : ℕ) → Octets out → Numbered (oldBlock cs out used)
 unfolding oldBlock
-old-read out used o =
+old-read cs out used o =
     test _ 16 _ tt
-    (step _ _ (head-read eqb (take used out)) λ x e.
-    let h : HeadCame eqb categories (x .0) (take used out) (x .1) = head-forth eqb categories (x .0) (take used out) (x .1) (octets-take used out o) e in
+    (step _ _ (head-read cs eqb (take used out)) λ x e.
+    let h : HeadCame eqb cs (x .0) (take used out) (x .1) = head-forth eqb cs (x .0) (take used out) (x .1) (octets-take used out o) e in
     step _ _ (body-read (x .0) (x .1) (h .octets)) (λ y f. done _))
 
 new-read : (c : Category) (fs bs : List ℕ) → Numbered (newRecord c fs bs)
@@ -390,9 +391,9 @@ in-new : (a : Answer (List ℕ)) → Numbered a → Numbered (answerOf (inNew a)
 in-new (ok bs) h = done bs
 in-new (refused m q) h = h
 
-record-added : (out : List ℕ) (used : ℕ) (fs bs : List ℕ) → Octets out → Numbered (answerOf (addRecord out used fs bs))
+record-added : (cs : List Category) (out : List ℕ) (used : ℕ) (fs bs : List ℕ) → Octets out → Numbered (answerOf (addRecord cs out used fs bs))
 unfolding addRecord
-record-added out used fs bs o = in-old _ _ (old-read out used o) (λ c. in-new _ (step _ _ (new-read c fs bs) (λ new e. record-joined (length out) (take used out) new)))
+record-added cs out used fs bs o = in-old _ _ (old-read cs out used o) (λ c. in-new _ (step _ _ (new-read c fs bs) (λ new e. record-joined (length out) (take used out) new)))
 
 -- ---- the structs
 
@@ -422,22 +423,22 @@ number-added (added bs) = refl
 number-added (refusedOld n p) = refl
 number-added (refusedNew n p) = refl
 
-pub check-block-tells : (block : List ℕ) → Octets block → Tells (checkBlock block) (blockChecked (checkBlock block) .number)
+pub check-block-tells : (block : List ℕ) → Octets block → Tells (checkBlock categories block) (blockChecked (checkBlock categories block) .number)
 unfolding blockChecked
-check-block-tells block o = tells (λ a. blockChecked a .number) (λ v. refl) (λ n p. refl) (checkBlock block) (block-checked block o)
+check-block-tells block o = tells (λ a. blockChecked a .number) (λ v. refl) (λ n p. refl) (checkBlock categories block) (block-checked categories block o)
 
-pub check-recording-tells : (recording : List ℕ) → Octets recording → Tells (checkRecording recording) (recordingChecked (checkRecording recording) .number)
+pub check-recording-tells : (recording : List ℕ) → Octets recording → Tells (checkRecording categories recording) (recordingChecked (checkRecording categories recording) .number)
 unfolding recordingChecked
 check-recording-tells recording o =
-    tells (λ a. recordingChecked a .number) (λ v. refl) (λ n p. refl) (checkRecording recording) (recording-checked recording o)
+    tells (λ a. recordingChecked a .number) (λ v. refl) (λ n p. refl) (checkRecording categories recording) (recording-checked categories recording o)
 
-pub find-record-tells : (block : List ℕ) (n : ℕ) → Octets block → Tells (findRecord block n) (recordFound (findRecord block n) .number)
+pub find-record-tells : (block : List ℕ) (n : ℕ) → Octets block → Tells (findRecord categories block n) (recordFound (findRecord categories block n) .number)
 unfolding recordFound
-find-record-tells block n o = tells (λ a. recordFound a .number) (λ v. refl) (λ m p. refl) (findRecord block n) (record-found block n o)
+find-record-tells block n o = tells (λ a. recordFound a .number) (λ v. refl) (λ m p. refl) (findRecord categories block n) (record-found categories block n o)
 
-pub find-item-tells : (block : List ℕ) (reference n : ℕ) → Octets block → Tells (findItem block reference n) (itemFound (findItem block reference n) .number)
+pub find-item-tells : (block : List ℕ) (reference n : ℕ) → Octets block → Tells (findItem categories block reference n) (itemFound (findItem categories block reference n) .number)
 unfolding itemFound
-find-item-tells block reference n o = tells (λ a. itemFound a .number) (λ v. refl) (λ m p. refl) (findItem block reference n) (item-found block reference n o)
+find-item-tells block reference n o = tells (λ a. itemFound a .number) (λ v. refl) (λ m p. refl) (findItem categories block reference n) (item-found categories block reference n o)
 
 -- a struct tells a step: `met` is 1 exactly where a record was met, and `number` is a refusal's, 1 to 21, or 0
 pub record TellsMet (w : Walked) (r : RecordMet) : Type 0 where
@@ -457,18 +458,18 @@ next-record-tells recording cursor =
           rw e (refl, refl, leb→le 1 n (t .0), leb→le n 21 (t .1));
     }
 
-pub read-item-tells : (category reference : ℕ) (item : List ℕ) → Tells (readOne category reference item) (itemRead (readOne category reference item) .number)
+pub read-item-tells : (category reference : ℕ) (item : List ℕ) → Tells (readOne categories category reference item) (itemRead (readOne categories category reference item) .number)
 unfolding itemRead
-read-item-tells category reference item = tells (λ a. itemRead a .number) (λ v. refl) (λ n p. refl) (readOne category reference item) (one-read category reference item)
+read-item-tells category reference item = tells (λ a. itemRead a .number) (λ v. refl) (λ n p. refl) (readOne categories category reference item) (one-read categories category reference item)
 
 pub write-item-tells : (category reference : ℕ) (fields : List ℤ) (room : ℕ)
-    → Tells (writeOne category reference fields room) (itemWritten (writeOne category reference fields room) .number)
+    → Tells (writeOne categories category reference fields room) (itemWritten (writeOne categories category reference fields room) .number)
 unfolding itemWritten
 write-item-tells category reference fields room =
-    tells (λ a. itemWritten a .number) (λ v. refl) (λ n p. refl) (writeOne category reference fields room) (one-written category reference fields room)
+    tells (λ a. itemWritten a .number) (λ v. refl) (λ n p. refl) (writeOne categories category reference fields room) (one-written categories category reference fields room)
 
 pub add-record-tells : (out : List ℕ) (used : ℕ) (frns items : List ℕ) → Octets out
-    → Tells (answerOf (addRecord out used frns items)) (recordAdded (addRecord out used frns items) .number)
+    → Tells (answerOf (addRecord categories out used frns items)) (recordAdded (addRecord categories out used frns items) .number)
 add-record-tells out used frns items o =
-    subst (Tells (answerOf (addRecord out used frns items))) (number-added (addRecord out used frns items))
-    (tells numberOf (λ v. refl) (λ n p. refl) (answerOf (addRecord out used frns items)) (record-added out used frns items o))
+    subst (Tells (answerOf (addRecord categories out used frns items))) (number-added (addRecord categories out used frns items))
+    (tells numberOf (λ v. refl) (λ n p. refl) (answerOf (addRecord categories out used frns items)) (record-added categories out used frns items o))

@@ -6,7 +6,8 @@ use mathlib.Core.Path.{_≡_, sym, _∙_}
 use mathlib.Core.List.{List}
 use lib.IntN.{ℤ}
 use lib.ListN.{length}
-use Rattle.rules.specs.Entry.{categories, leaves, checkBlock, checkRecording, findRecord, findItem, readOne, writeOne, addRecord, leavesAdded, leastLength}
+use Rattle.rules.specs.Catalogue.{categories}
+use Rattle.rules.specs.Entry.{leaves, checkBlock, checkRecording, findRecord, findItem, readOne, writeOne, addRecord, leavesAdded, leastLength}
 use Rattle.items.specs.Answers.{profileIn}
 use Rattle.sets.specs.Sets.{frnsOf}
 use Rattle.asterix.specs.declared.BlockChecked.{BlockChecked}
@@ -20,44 +21,44 @@ use Rattle.asterix.specs.Answers.{blockChecked, recordingChecked, record
 
 -- ---- `asterix_check_block`, `asterix_check_recording`
 
-pub one-check-block : (block : List ℕ) (a b : BlockChecked) → a ≡ blockChecked (checkBlock block) → b ≡ blockChecked (checkBlock block) → a ≡ b
+pub one-check-block : (block : List ℕ) (a b : BlockChecked) → a ≡ blockChecked (checkBlock categories block) → b ≡ blockChecked (checkBlock categories block) → a ≡ b
 one-check-block block a b p q = p ∙ sym q
 
 pub one-check-recording : (recording : List ℕ) (a b : RecordingChecked)
-    → a ≡ recordingChecked (checkRecording recording) → b ≡ recordingChecked (checkRecording recording) → a ≡ b
+    → a ≡ recordingChecked (checkRecording categories recording) → b ≡ recordingChecked (checkRecording categories recording) → a ≡ b
 one-check-recording recording a b p q = p ∙ sym q
 
 -- ---- `asterix_find_record`, `asterix_find_item`
 
-pub one-find-record : (block : List ℕ) (n : ℕ) (a b : RecordFound) → a ≡ recordFound (findRecord block n) → b ≡ recordFound (findRecord block n) → a ≡ b
+pub one-find-record : (block : List ℕ) (n : ℕ) (a b : RecordFound) → a ≡ recordFound (findRecord categories block n) → b ≡ recordFound (findRecord categories block n) → a ≡ b
 one-find-record block n a b p q = p ∙ sym q
 
 pub one-find-item : (block : List ℕ) (reference n : ℕ) (a b : ItemFound)
-    → a ≡ itemFound (findItem block reference n) → b ≡ itemFound (findItem block reference n) → a ≡ b
+    → a ≡ itemFound (findItem categories block reference n) → b ≡ itemFound (findItem categories block reference n) → a ≡ b
 one-find-item block reference n a b p q = p ∙ sym q
 
 -- ---- `asterix_read_item`, `asterix_write_item`: the answer, and what the output then holds
 
 pub one-read-item : (category reference : ℕ) (item : List ℕ) (fields : List ℤ) (a b : ItemRead) (left right : List ℤ)
-    → a ≡ itemRead (readOne category reference item) → left ≡ leaves (readOne category reference item) fields
-    → b ≡ itemRead (readOne category reference item) → right ≡ leaves (readOne category reference item) fields → (a ≡ b) × (left ≡ right)
+    → a ≡ itemRead (readOne categories category reference item) → left ≡ leaves (readOne categories category reference item) fields
+    → b ≡ itemRead (readOne categories category reference item) → right ≡ leaves (readOne categories category reference item) fields → (a ≡ b) × (left ≡ right)
 one-read-item category reference item fields a b left right p l q r = (p ∙ sym q, l ∙ sym r)
 
 pub one-write-item : (category reference : ℕ) (fields : List ℤ) (out : List ℕ) (a b : ItemWritten) (left right : List ℕ)
-    → a ≡ itemWritten (writeOne category reference fields (length out)) → left ≡ leaves (writeOne category reference fields (length out)) out
-    → b ≡ itemWritten (writeOne category reference fields (length out)) → right ≡ leaves (writeOne category reference fields (length out)) out
+    → a ≡ itemWritten (writeOne categories category reference fields (length out)) → left ≡ leaves (writeOne categories category reference fields (length out)) out
+    → b ≡ itemWritten (writeOne categories category reference fields (length out)) → right ≡ leaves (writeOne categories category reference fields (length out)) out
     → (a ≡ b) × (left ≡ right)
 one-write-item category reference fields out a b left right p l q r = (p ∙ sym q, l ∙ sym r)
 
 -- ---- `asterix_add_record`: the answer, and what the output then holds
 
 pub one-add-record : (out : List ℕ) (used frns : ℕ) (items : List ℕ) (a b : RecordAdded) (left right : List ℕ)
-    → a ≡ recordAdded (addRecord out used (frnsOf frns) items) → left ≡ leavesAdded (addRecord out used (frnsOf frns) items) out
-    → b ≡ recordAdded (addRecord out used (frnsOf frns) items) → right ≡ leavesAdded (addRecord out used (frnsOf frns) items) out → (a ≡ b) × (left ≡ right)
+    → a ≡ recordAdded (addRecord categories out used (frnsOf frns) items) → left ≡ leavesAdded (addRecord categories out used (frnsOf frns) items) out
+    → b ≡ recordAdded (addRecord categories out used (frnsOf frns) items) → right ≡ leavesAdded (addRecord categories out used (frnsOf frns) items) out → (a ≡ b) × (left ≡ right)
 one-add-record out used frns items a b left right p l q r = (p ∙ sym q, l ∙ sym r)
 
 -- ---- `asterix_least_length`
 
 pub one-least-length : (category place octet a b : ℕ)
-    → a ≡ leastLength (profileIn category categories) place octet → b ≡ leastLength (profileIn category categories) place octet → a ≡ b
+    → a ≡ leastLength categories (profileIn category categories) place octet → b ≡ leastLength categories (profileIn category categories) place octet → a ≡ b
 one-least-length category place octet a b p q = p ∙ sym q

@@ -11,7 +11,8 @@ use sets::ItemSet;
 use walking::Met;
 ghost use mathlib.Core.Path.{_≡_};
 ghost use lib.ListN.{length};
-ghost use Rattle.rules.specs.Entry.{categories, leaves, over, checkBlock, checkRecording, findRecord, findItem, readOne, writeOne, addRecord, leavesAdded, leastLength};
+ghost use Rattle.rules.specs.Catalogue.{categories};
+ghost use Rattle.rules.specs.Entry.{leaves, over, checkBlock, checkRecording, findRecord, findItem, readOne, writeOne, addRecord, leavesAdded, leastLength};
 ghost use Rattle.items.specs.Answers.{profileIn};
 ghost use Rattle.sets.specs.Sets.{frnsOf};
 ghost use Rattle.walking.specs.Walk.{nextRecord};
@@ -33,7 +34,7 @@ pub struct BlockChecked {
 // A single block: all of the bytes lent.
 #[no_mangle]
 pub extern "C" fn asterix_check_block(block: &[u8]) -> BlockChecked
-    ensures { λ r. ⌜ r ≡ blockChecked (checkBlock (now (block .entry))) ⌝ }
+    ensures { λ r. ⌜ r ≡ blockChecked (checkBlock categories (now (block .entry))) ⌝ }
 {
     match blocks::check_block(block) {
         blocks::BlockChecked::Accepted { records } => BlockChecked {
@@ -60,7 +61,7 @@ pub struct RecordingChecked {
 // A recording: blocks end to end, or none.
 #[no_mangle]
 pub extern "C" fn asterix_check_recording(recording: &[u8]) -> RecordingChecked
-    ensures { λ r. ⌜ r ≡ recordingChecked (checkRecording (now (recording .entry))) ⌝ }
+    ensures { λ r. ⌜ r ≡ recordingChecked (checkRecording categories (now (recording .entry))) ⌝ }
 {
     match recordings::check_recording(recording) {
         recordings::RecordingChecked::Accepted { blocks, records } => RecordingChecked {
@@ -94,7 +95,7 @@ pub struct RecordFound {
 // The record with a number, counted from 0: where it lies, and its map.
 #[no_mangle]
 pub extern "C" fn asterix_find_record(block: &[u8], n: usize) -> RecordFound
-    ensures { λ r. ⌜ r ≡ recordFound (findRecord (now (block .entry)) n) ⌝ }
+    ensures { λ r. ⌜ r ≡ recordFound (findRecord categories (now (block .entry)) n) ⌝ }
 {
     let located = finding::locate_record(block, n);
     let map = located.map;
@@ -133,7 +134,7 @@ pub struct ItemFound {
 // The item with a reference, the number after its slash, in the record with a number: where it lies.
 #[no_mangle]
 pub extern "C" fn asterix_find_item(block: &[u8], reference: u16, n: usize) -> ItemFound
-    ensures { λ r. ⌜ r ≡ itemFound (findItem (now (block .entry)) reference n) ⌝ }
+    ensures { λ r. ⌜ r ≡ itemFound (findItem categories (now (block .entry)) reference n) ⌝ }
 {
     match finding::locate_item(block, reference, n) {
         ItemLocated::At { start, length } => ItemFound {
@@ -285,7 +286,7 @@ pub extern "C" fn asterix_merge_step(
     place_b: usize,
     offset: i64,
 ) -> MergeStepped
-    ensures { λ r. ⌜ r ≡ mergeStepped (mergeStep (now («log_a» .entry)) (now («log_b» .entry)) «place_a» «place_b» offset) ⌝ }
+    ensures { λ r. ⌜ r ≡ mergeStepped (mergeStep categories (now («log_a» .entry)) (now («log_b» .entry)) «place_a» «place_b» offset) ⌝ }
 {
     let merged = merging::merge_at(log_a, log_b, place_a, place_b, offset);
     let told = merged.told;
@@ -511,8 +512,8 @@ pub extern "C" fn asterix_read_item(
     item: &[u8],
     fields: &mut [i64; 8192],
 ) -> ItemRead
-    ensures answer { λ r. ⌜ r ≡ itemRead (readOne category reference (now (item .entry))) ⌝ }
-    ensures left { λ _. ⌜ now (fields .exit) ≡ leaves (readOne category reference (now (item .entry))) (now (fields .entry)) ⌝ }
+    ensures answer { λ r. ⌜ r ≡ itemRead (readOne categories category reference (now (item .entry))) ⌝ }
+    ensures left { λ _. ⌜ now (fields .exit) ≡ leaves (readOne categories category reference (now (item .entry))) (now (fields .entry)) ⌝ }
 {
     match items::read_item(category, reference, item, fields) {
         items::ItemRead::Fields { count } => ItemRead {
@@ -543,8 +544,8 @@ pub extern "C" fn asterix_write_item(
     fields: &[i64],
     out: &mut [u8],
 ) -> ItemWritten
-    ensures answer { λ r. ⌜ r ≡ itemWritten (writeOne category reference (now (fields .entry)) (length (now (out .entry)))) ⌝ }
-    ensures left { λ _. ⌜ now (out .exit) ≡ leaves (writeOne category reference (now (fields .entry)) (length (now (out .entry)))) (now (out .entry)) ⌝ }
+    ensures answer { λ r. ⌜ r ≡ itemWritten (writeOne categories category reference (now (fields .entry)) (length (now (out .entry)))) ⌝ }
+    ensures left { λ _. ⌜ now (out .exit) ≡ leaves (writeOne categories category reference (now (fields .entry)) (length (now (out .entry)))) (now (out .entry)) ⌝ }
 {
     match items::write_item(category, reference, fields, out) {
         items::ItemWritten::Length(length) => ItemWritten {
@@ -578,8 +579,8 @@ pub extern "C" fn asterix_add_record(
     frns: u64,
     items: &[u8],
 ) -> RecordAdded
-    ensures answer { λ r. ⌜ r ≡ recordAdded (addRecord (now (out .entry)) used (frnsOf frns) (now (items .entry))) ⌝ }
-    ensures left { λ _. ⌜ now (out .exit) ≡ leavesAdded (addRecord (now (out .entry)) used (frnsOf frns) (now (items .entry))) (now (out .entry)) ⌝ }
+    ensures answer { λ r. ⌜ r ≡ recordAdded (addRecord categories (now (out .entry)) used (frnsOf frns) (now (items .entry))) ⌝ }
+    ensures left { λ _. ⌜ now (out .exit) ≡ leavesAdded (addRecord categories (now (out .entry)) used (frnsOf frns) (now (items .entry))) (now (out .entry)) ⌝ }
 {
     match adding::add_record(out, used, ItemSet { bits: frns }, items) {
         adding::RecordAdded::Length(length) => RecordAdded {
@@ -608,7 +609,7 @@ pub extern "C" fn asterix_add_record(
 // The fewest octets that the items take that an octet of an FSPEC names, by its place, counted from 0; 0 where the category has no such octet.
 #[no_mangle]
 pub extern "C" fn asterix_least_length(category: u8, place: usize, octet: u8) -> usize
-    ensures { λ r. ⌜ r ≡ leastLength (profileIn category categories) place octet ⌝ }
+    ensures { λ r. ⌜ r ≡ leastLength categories (profileIn category categories) place octet ⌝ }
 {
     adding::least_length(items::profile_of(category), place, octet)
 }

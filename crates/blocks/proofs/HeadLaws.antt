@@ -16,7 +16,8 @@ use Rattle.rules.specs.Answer.{Answer, ok, refused, _>>=_, need_or_then_, if_th
 use Rattle.rules.specs.Layout.{joined, readNum}
 use Rattle.rules.specs.Record.{Category, Record, readRecord}
 use Rattle.rules.specs.Block.{Block, Head, categoryOf, readAll, readHead, readBody, readBlock}
-use Rattle.rules.specs.Entry.{categories, checkBlock, Opened, openBlock, oldBlock}
+use Rattle.rules.specs.Catalogue.{categories}
+use Rattle.rules.specs.Entry.{checkBlock, Opened, openBlock, oldBlock}
 use Rattle.rules.specs.Category017.{category017}
 use Rattle.rules.specs.Category018.{category018}
 use Rattle.rules.proofs.BlockLaws.{category-cat}
@@ -227,16 +228,16 @@ module _ (bs : List ℕ) where
       let f : h .len ≡ length bs = eqb→eq _ _ (headed eqb bs h e .fitted) in
       take-all (h .len - 3) (drop 3 bs) (rw length-drop (omega arith))
 
-  pub open-refused : (n p : ℕ) → headBy eqb bs ≡ refused n p → openBlock bs ≡ refused n p
+  pub open-refused : (n p : ℕ) → headBy eqb bs ≡ refused n p → openBlock categories bs ≡ refused n p
   unfolding openBlock
   open-refused n p e = bind-out _ (block-refused eqb bs n p e)
 
-  pub open-empty : (h : Head) → headBy eqb bs ≡ ok h → h .len ≤ 3 → openBlock bs ≡ refused 4 0
+  pub open-empty : (h : Head) → headBy eqb bs ≡ ok h → h .len ≤ 3 → openBlock categories bs ≡ refused 4 0
   unfolding openBlock
   open-empty h e l = bind-out _ (block-empty eqb bs h e l)
 
   pub open-body : (h : Head) → headBy eqb bs ≡ ok h → 3 < h .len
-      → openBlock bs ≡ (later 3 (readAll (readRecord (h .category)) (drop 3 bs)) >>= λ rs. ok (record { category = h .category; records = rs }))
+      → openBlock categories bs ≡ (later 3 (readAll (readRecord (h .category)) (drop 3 bs)) >>= λ rs. ok (record { category = h .category; records = rs }))
   unfolding openBlock _>>=_
   open-body h e l =
       ap (λ z. z >>= λ x. (expect categoryOf (x .0 .cat) categories or 2) >>= λ c. ok (record { category = c; records = x .0 .records })) (block-body eqb bs h e l)
@@ -252,7 +253,7 @@ module _ (bs : List ℕ) where
     pub category : k .category ≡ head .category
     pub reads : readAll (readRecord (k .category)) (drop 3 bs) ≡ ok (k .records)
 
-  pub open-head : (k : Opened) → openBlock bs ≡ ok k → OpenHead k
+  pub open-head : (k : Opened) → openBlock categories bs ≡ ok k → OpenHead k
   open-head k e = go (headBy eqb bs) refl
     where
       long : (h : Head) (t : Bool) → headBy eqb bs ≡ ok h → ltb 3 (h .len) ≡ t → OpenHead k
@@ -291,33 +292,33 @@ module _ (bs : List ℕ) where
   profile-opened least i n m h e = sym (ap openProfile e ∙ index-is i (headed eqb bs _ h .named))
 
   -- a single block as the rules open it
-  pub opened-is : openFrom 4 bs ≡ (openBlock bs >>= λ b. ok (opening (b .category) (length (b .records))))
+  pub opened-is : openFrom 4 bs ≡ (openBlock categories bs >>= λ b. ok (opening (b .category) (length (b .records))))
   unfolding openFrom countFrom
   opened-is = go (headBy eqb bs) refl
     where
       by-len : (h : Head) (t : Bool) → headBy eqb bs ≡ ok h → leb 4 (h .len) ≡ t
-          → openFrom 4 bs ≡ (openBlock bs >>= λ b. ok (opening (b .category) (length (b .records))))
+          → openFrom 4 bs ≡ (openBlock categories bs >>= λ b. ok (opening (b .category) (length (b .records))))
       by-len h false p q = bind-in _ p (need-out 4 _ q) ∙ sym (bind-out _ (open-empty h p (omega (arith, leb-false 4 (h .len) q))))
       by-len h true p q =
           bind-in _ p (need-in _ 4 (T-true q) (count-opened (h .category) (later 3 (readAll (readRecord (h .category)) (drop 3 bs)))))
           ∙ sym (ap (λ z. z >>= λ b. ok (opening (b .category) (length (b .records)))) (open-body h p (leb-true 4 (h .len) q)))
 
-      go : (x : Answer Head) → headBy eqb bs ≡ x → openFrom 4 bs ≡ (openBlock bs >>= λ b. ok (opening (b .category) (length (b .records))))
+      go : (x : Answer Head) → headBy eqb bs ≡ x → openFrom 4 bs ≡ (openBlock categories bs >>= λ b. ok (opening (b .category) (length (b .records))))
       go (refused n p) q = bind-out _ q ∙ sym (bind-out _ (open-refused n p q))
       go (ok h) q = by-len h (leb 4 (h .len)) q refl
 
   -- what was found of the records is what was found of the block
-  opened-checked : openFrom 4 bs ≡ (openBlock bs >>= λ b. ok (opening (b .category) (length (b .records)))) → checkBlock bs ≡ (openFrom 4 bs >>= λ o. ok (o .count))
+  opened-checked : openFrom 4 bs ≡ (openBlock categories bs >>= λ b. ok (opening (b .category) (length (b .records)))) → checkBlock categories bs ≡ (openFrom 4 bs >>= λ o. ok (o .count))
   unfolding checkBlock openBlock
   opened-checked h = go (readBlock eqb categories bs) refl
     where
-      go : (x : Answer (Block × List ℕ)) → readBlock eqb categories bs ≡ x → checkBlock bs ≡ (openFrom 4 bs >>= λ o. ok (o .count))
+      go : (x : Answer (Block × List ℕ)) → readBlock eqb categories bs ≡ x → checkBlock categories bs ≡ (openFrom 4 bs >>= λ o. ok (o .count))
       go (refused n p) e = bind-out _ e ∙ sym (bind-out _ (h ∙ bind-out _ (bind-out _ e)))
       go (ok (b, rest)) e =
           let (c, f) = block-category eqb bs rest b e in
           bind-in _ e refl ∙ sym (bind-in _ (h ∙ bind-in _ (bind-in _ e (bind-in _ (expect-in 2 f) refl)) refl) refl)
 
-  pub check-is : (i : ℕ) (x : BlockChecked) → openedBy i x ≡ openFrom 4 bs → checkedOf x ≡ checkBlock bs
+  pub check-is : (i : ℕ) (x : BlockChecked) → openedBy i x ≡ openFrom 4 bs → checkedOf x ≡ checkBlock categories bs
   check-is i (blockChecked.Accepted n) h = sym (opened-checked opened-is ∙ bind-in _ (sym h) refl)
   check-is i (blockChecked.Refused n p) h = sym (opened-checked opened-is ∙ bind-out _ (sym h))
 
@@ -361,11 +362,11 @@ old-tests c (ok rs) bs = refl
 old-tests c (refused n p) bs = refl
 
 module _ (out : List ℕ) (used : ℕ) where
-  pub old-none : length out < used → oldBlock out used ≡ refused 16 0
+  pub old-none : length out < used → oldBlock categories out used ≡ refused 16 0
   unfolding oldBlock
   old-none l = need-out 16 _ (lt-leb used (length out) l)
 
-  pub old-is : used ≤ length out → oldBlock out used ≡ (openFrom 3 (take used out) >>= λ o. ok (o .category))
+  pub old-is : used ≤ length out → oldBlock categories out used ≡ (openFrom 3 (take used out) >>= λ o. ok (o .category))
   unfolding oldBlock readBody openFrom countFrom
   old-is l = need-in _ 16 (le→leb used (length out) l) (go (headBy eqb (take used out)) refl)
     where

@@ -8,7 +8,7 @@ use mathlib.Core.List.{List}
 use native.Mathlib.Omega.{arith}
 use lib.Dec.{leb}
 use Rattle.rules.specs.Block.{Head, categoryOf}
-use Rattle.rules.specs.Entry.{categories}
+use Rattle.rules.specs.Catalogue.{categories}
 use Rattle.rules.proofs.AnswerLaws.{ok-inj, some-inj, none-some}
 use Rattle.rules.proofs.BlockLaws.{category-cat}
 use Rattle.items.specs.Answers.{profileIn}

@@ -15,7 +15,7 @@ use Rattle.rules.specs.Layout.{Values, readNum, readChain}
 use Rattle.rules.specs.Presence.{flagRows, writePresence, readPresence, writeRow, readRow, readRows, readPlaces}
 use Rattle.rules.specs.Record.{Place, Message, Category, Record, items, valueOf, typeOf, messageOf, judge, writePlace, readPlace, readRecord}
 use Rattle.rules.specs.Block.{categoryOf, readUpTo, readAll, readHead, readBody, readBlock}
-use Rattle.rules.specs.Entry.{categories}
+use Rattle.rules.specs.Catalogue.{categories}
 use Rattle.rules.proofs.AnswerLaws.{refused-ok, Octets, Split, Laws, after}
 use Rattle.rules.proofs.LayoutLaws.{octets-take}
 use Rattle.rules.proofs.PresenceLaws.{presence-laws, row-forth}

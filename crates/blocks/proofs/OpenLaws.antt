@@ -9,20 +9,21 @@ use lib.ListN.{length, drop}
 use Rattle.rules.specs.Answer.{ok, refused}
 use Rattle.rules.specs.Record.{readRecord}
 use Rattle.rules.specs.Block.{Block, categoryOf, readAll, writeBlock}
-use Rattle.rules.specs.Entry.{categories, openBlock}
+use Rattle.rules.specs.Catalogue.{categories}
+use Rattle.rules.specs.Entry.{openBlock}
 use Rattle.rules.proofs.AnswerLaws.{ok-inj, bind-elim, expect-elim, Octets}
 use Rattle.rules.proofs.BlockLaws.{single-forth}
 use Rattle.blocks.specs.Read.{Records, Opening, opening, openFrom}
 use Rattle.blocks.proofs.HeadLaws.{headed, len-few, OpenHead, open-head, opened-is}
 use Rattle.blocks.proofs.LoopLaws.{made-refused}
 
-pub open-refusal : (bs : List ℕ) (n p : ℕ) → openFrom 4 bs ≡ refused n p → openBlock bs ≡ refused n p
-open-refusal bs n p h = made-refused (openBlock bs) (λ b. opening (b .category) (length (b .records))) n p (sym (opened-is bs) ∙ h)
+pub open-refusal : (bs : List ℕ) (n p : ℕ) → openFrom 4 bs ≡ refused n p → openBlock categories bs ≡ refused n p
+open-refusal bs n p h = made-refused (openBlock categories bs) (λ b. opening (b .category) (length (b .records))) n p (sym (opened-is bs) ∙ h)
 
 -- what is known of a block that is opened
 pub record Opens (bs : List ℕ) (o : Opening) : Type 0 where
   pub block : Block
-  pub opened : openBlock bs ≡ ok (record { category = o .category; records = block .records })
+  pub opened : openBlock categories bs ≡ ok (record { category = o .category; records = block .records })
   pub writes : writeBlock categories block ≡ ok bs
   pub named : categoryOf (block .cat) categories ≡ some (o .category)
   pub reads : readAll (readRecord (o .category)) (drop 3 bs) ≡ ok (block .records)

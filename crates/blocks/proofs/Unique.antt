@@ -5,6 +5,7 @@ use Prim.Native.Nat.{ℕ}
 use mathlib.Core.Path.{_≡_, sym, ap, ap₂, _∙_}
 use mathlib.Core.List.{List}
 use native.Mathlib.Omega.{arith}
+use Rattle.rules.specs.Catalogue.{categories}
 use Rattle.rules.specs.Entry.{checkBlock}
 use Rattle.rules.proofs.AnswerLaws.{ok-inj}
 use Rattle.blocks.specs.declared.check.BlockChecked.{BlockChecked}
@@ -23,7 +24,7 @@ checked-told (blockChecked.Accepted m) (blockChecked.Refused n p) e = let z : _�
 checked-told (blockChecked.Refused m q) (blockChecked.Accepted n) e = let z : _≡_ {A = ℕ} 0 1 = cc in absurd (omega arith)
 checked-told (blockChecked.Refused m q) (blockChecked.Refused n p) e = cc
 
-pub one-check-block : (block : List ℕ) (a b : BlockChecked) → checkedOf a ≡ checkBlock block → checkedOf b ≡ checkBlock block → a ≡ b
+pub one-check-block : (block : List ℕ) (a b : BlockChecked) → checkedOf a ≡ checkBlock categories block → checkedOf b ≡ checkBlock categories block → a ≡ b
 one-check-block block a b p q = checked-told a b (p ∙ sym q)
 
 pub one-block-checked-number : (self : BlockChecked) (a b : ℕ) → a ≡ checkedNumber self → b ≡ checkedNumber self → a ≡ b

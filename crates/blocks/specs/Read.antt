@@ -9,7 +9,7 @@ use lib.ListN.{length, take, drop, getD}
 use Rattle.rules.specs.Answer.{Answer, ok, _>>=_, need_or_then_, expect_or_, later}
 use Rattle.rules.specs.Record.{Category, Record, readRecord}
 use Rattle.rules.specs.Block.{Head, categoryOf, readAll, readBlock}
-use Rattle.rules.specs.Entry.{categories}
+use Rattle.rules.specs.Catalogue.{categories}
 
 -- LEN: the second and the third octet, the higher first
 abbrev pub lenAt : List ℕ → ℕ

@@ -12,6 +12,7 @@ ghost use mathlib.Core.Path.{_≡_};
 ghost use mathlib.Core.Bool.{true};
 ghost use Prim.Native.Nat.{_+_, _<_};
 ghost use lib.ListN.{length};
+ghost use Rattle.rules.specs.Catalogue.{categories};
 ghost use Rattle.rules.specs.Entry.{checkBlock};
 ghost use Rattle.quick_items.specs.Item.{soundSteps};
 ghost use Rattle.sets.specs.Sets.{categoryAt};
@@ -139,7 +140,7 @@ pub fn open_block(block: &[u8], least: usize) -> BlockOpened
 
 // A single block: all of the bytes lent.
 pub fn check_block(block: &[u8]) -> BlockChecked
-    ensures { λ r. ⌜ checkedOf r ≡ checkBlock (now (block .entry)) ⌝ }
+    ensures { λ r. ⌜ checkedOf r ≡ checkBlock categories (now (block .entry)) ⌝ }
 {
     let opened = open_block(block, LEAST);
     opened.checked

@@ -10,7 +10,7 @@ ghost use mathlib.Core.Path.{_≡_};
 ghost use Prim.Native.Nat.{_<_};
 ghost use lib.Dec.{eqb, leb};
 ghost use Rattle.rules.specs.Block.{categoryOf};
-ghost use Rattle.rules.specs.Entry.{categories};
+ghost use Rattle.rules.specs.Catalogue.{categories};
 ghost use Rattle.blocks.specs.Read.{headAt, headBy};
 ghost use Rattle.blocks.specs.Answers.{profileOf, headOf, headNumber};
 

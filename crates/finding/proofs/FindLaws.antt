@@ -10,7 +10,7 @@ use mathlib.Core.List.{List, [], _∷_, _++_}
 use native.Mathlib.Omega.{arith}
 use native.Mathlib.Nat.{le-of-eq, add-zero}
 use borrow.Author.Tests.{ltb-true, ltb-false}
-use lib.Dec.{T, leb, ltb, eqb, leb→le}
+use lib.Dec.{T, ltb, eqb}
 use lib.ListN.{length, drop, getD, getElem?, length-append, List·getD-eq-default}
 use lib.Seq.{drop-at}
 use Rattle.rules.specs.Answer.{Answer, ok, refused, octetsOf}
@@ -18,11 +18,12 @@ use Rattle.rules.specs.Layout.{Layout, Values, flatten, readItem, writeItem}
 use Rattle.rules.specs.Presence.{placeAt}
 use Rattle.rules.specs.Record.{Place, Category, Record, places, items, valueOf, writeRecord, writePlace}
 use Rattle.rules.specs.Block.{writeAll}
-use Rattle.rules.specs.Entry.{categories, profileAt, Laid, laidAs, laid, laidItems, Numbered, numbered, RecordMap, startOf, mapOf, Opened, openBlock, findRecord, isItem, findItem, layoutAs}
+use Rattle.rules.specs.Catalogue.{categories}
+use Rattle.rules.specs.Entry.{profileAt, Laid, laidAs, laid, laidItems, Numbered, numbered, RecordMap, startOf, mapOf, Opened, openBlock, findRecord, isItem, findItem, layoutAs}
 use Rattle.rules.proofs.AnswerLaws.{refused-ok, ok-inj, bind-in, bind-out, bind-elim, need-in, need-elim, need-out, expect-in, expect-out, later-in, later-out, if-inv, if-true, if-false, some-inj, none-some, T-true, octetsOf-ok, Octets}
 use Rattle.rules.proofs.EntryLaws.{Lies, RecordWritten, record-written, ItemFound, item-found, item-absent, RecordFound, record-found, BodyFound, body-found, indexAs, start-found, start-absent}
 use Rattle.rules.proofs.LayoutLaws.{item-laws}
-use Rattle.rules.proofs.Tables.{category-every, distinct, tables-distinct, tables-few}
+use Rattle.rules.proofs.Tables.{distinct, tables-hold, sound-of}
 use Rattle.rules.proofs.Demands.{items-lie, map-start}
 use Rattle.tables.specs.Places.{isNamed, frnAs}
 use Rattle.items.specs.Answers.{sizeOf, checkAt}
@@ -116,12 +117,12 @@ check-at i ref g bs n =
 -- ---- a record
 
 -- a block that is refused is not searched
-pub find-refused : (bs : List ℕ) (k n p : ℕ) → openFrom 4 bs ≡ refused n p → findRecord bs k ≡ refused n p
+pub find-refused : (bs : List ℕ) (k n p : ℕ) → openFrom 4 bs ≡ refused n p → findRecord categories bs k ≡ refused n p
 unfolding findRecord
 find-refused bs k n p h = bind-out _ (open-refusal bs n p h)
 
 -- the record with a number is sought among those after the head
-pub find-record : (bs : List ℕ) (n : ℕ) (o : Opening) → Opens bs o → findRecord bs n ≡ seekAt (o .category) 3 (drop 3 bs) n
+pub find-record : (bs : List ℕ) (n : ℕ) (o : Opening) → Opens bs o → findRecord categories bs n ≡ seekAt (o .category) 3 (drop 3 bs) n
 unfolding findRecord seekAt
 find-record bs n o k = bind-in _ (k .opened) refl ∙ sym (bind-in _ (k .reads) refl)
 
@@ -161,16 +162,16 @@ lies-read layout v bs out start h l =
     let n : length (drop start bs) - length (l .after) ≡ length out = omega arith in
     bind-in _ (ap (readItem layout) d ∙ item-laws layout .back v out (l .after) h) (ap ok n)
 
-pub item-refused : (bs : List ℕ) (ref k n p : ℕ) → openFrom 4 bs ≡ refused n p → findItem bs ref k ≡ refused n p
+pub item-refused : (bs : List ℕ) (ref k n p : ℕ) → openFrom 4 bs ≡ refused n p → findItem categories bs ref k ≡ refused n p
 unfolding findItem
 item-refused bs ref k n p h = bind-out _ (open-refusal bs n p h)
 
 module _ (bs : List ℕ) (ref n : ℕ) (o : Opening) (k : Opens bs o) where
-  pub item-unknown : isItem ref (places (o .category)) ≡ false → findItem bs ref n ≡ refused 21 0
+  pub item-unknown : isItem ref (places (o .category)) ≡ false → findItem categories bs ref n ≡ refused 21 0
   unfolding findItem
   item-unknown h = bind-in _ (k .opened) (need-out 21 _ h)
 
-  pub item-nowhere : isItem ref (places (o .category)) ≡ true → (m p : ℕ) → seekAt (o .category) 3 (drop 3 bs) n ≡ refused m p → findItem bs ref n ≡ refused m p
+  pub item-nowhere : isItem ref (places (o .category)) ≡ true → (m p : ℕ) → seekAt (o .category) 3 (drop 3 bs) n ≡ refused m p → findItem categories bs ref n ≡ refused m p
   unfolding findItem seekAt
   item-nowhere i m p h =
       bind-in _ (k .opened) (need-in _ 21 (T-true i) (bind-out _ (made-refused (numbered (o .category) 3 (k .block .records) n) (mapOf (o .category)) m p (sym (bind-in _ (k .reads) refl) ∙ h))))
@@ -197,21 +198,21 @@ module _ (bs : List ℕ) (ref n : ℕ) (o : Opening) (k : Opens bs o) where
 
   -- an item that is there: its start is the map's, and its size is what its check answers there
   pub record ItemAt (m : RecordMap) (l : Laid) : Type 0 where
-    pub is-found : findItem bs ref n ≡ ok l
+    pub is-found : findItem categories bs ref n ≡ ok l
     pub start-is : getD (m .starts) (indexAs ref (places (o .category))) 0 ≡ l .start
     pub some-start : 0 < l .start
     pub size-is : (p : Layout) → layoutAs ref (places (o .category)) ≡ some p → sizeOf p (drop (l .start) bs) ≡ ok (l .size)
     pub inside : l .start + l .size ≤ length bs
 
   pub record ItemAbsent (m : RecordMap) : Type 0 where
-    pub is-absent : findItem bs ref n ≡ refused 20 (m .start)
+    pub is-absent : findItem categories bs ref n ≡ refused 20 (m .start)
     pub start-is : getD (m .starts) (indexAs ref (places (o .category))) 0 ≡ 0
 
   once : distinct (places (o .category)) ≡ true
-  once = category-every (λ c. distinct (places c)) categories (k .block .cat) (o .category) tables-distinct (k .named)
+  once = sound-of categories tables-hold (k .block .cat) (o .category) (k .named) .references
 
   pub places-few : length (places (o .category)) ≤ 35
-  places-few = leb→le _ _ (T-true (category-every (λ c. leb (length (places c)) 35) categories (k .block .cat) (o .category) tables-few (k .named)))
+  places-few = sound-of categories tables-hold (k .block .cat) (o .category) (k .named) .few
 
   -- where the map has a reference's item
   start-in : (m : RecordMap) (s : Sought m) → getD (m .starts) (indexAs ref (places (o .category))) 0
@@ -265,7 +266,7 @@ module _ (bs : List ℕ) (ref n : ℕ) (o : Opening) (k : Opens bs o) where
 
   -- by the map alone: 0 is absent
   pub item-absent-at : (m : RecordMap) → isItem ref (places (o .category)) ≡ true → seekAt (o .category) 3 (drop 3 bs) n ≡ ok m
-      → getD (m .starts) (indexAs ref (places (o .category))) 0 ≡ 0 → findItem bs ref n ≡ refused 20 (m .start)
+      → getD (m .starts) (indexAs ref (places (o .category))) 0 ≡ 0 → findItem categories bs ref n ≡ refused 20 (m .start)
   item-absent-at m is h z = ⊎-elim (λ (l, a). absurd (omega (arith, a .start-is, a .some-start))) (λ a. a .is-absent) (item-either m is h)
 
   pub item-there-at : (m : RecordMap) → isItem ref (places (o .category)) ≡ true → seekAt (o .category) 3 (drop 3 bs) n ≡ ok m
@@ -280,7 +281,7 @@ lies-inside {bs} {start} {out} l =
     ap length (l .joins) ∙ length-append (l .before) (out ++ l .after) ∙ ap (λ z. length (l .before) + z) (length-append out (l .after)) in
     omega (arith, l .starts)
 
-pub record-inside : (bs : List ℕ) (n : ℕ) (m : RecordMap) → Octets bs → findRecord bs n ≡ ok m → m .start + (m .end - m .start) ≤ length bs
+pub record-inside : (bs : List ℕ) (n : ℕ) (m : RecordMap) → Octets bs → findRecord categories bs n ≡ ok m → m .start + (m .end - m .start) ≤ length bs
 unfolding findRecord mapOf
 record-inside bs n m b h =
     bind-elim _ _ h λ x p h₁.
@@ -298,12 +299,12 @@ T-eq true h = refl
 T-eq false h = absurd h
 
 -- the map of a record that was found
-found-record : (bs : List ℕ) (n : ℕ) (x : Opened) (r : Numbered) → openBlock bs ≡ ok x → numbered (x .category) 3 (x .records) n ≡ ok r
-    → findRecord bs n ≡ ok (mapOf (x .category) r)
+found-record : (bs : List ℕ) (n : ℕ) (x : Opened) (r : Numbered) → openBlock categories bs ≡ ok x → numbered (x .category) 3 (x .records) n ≡ ok r
+    → findRecord categories bs n ≡ ok (mapOf (x .category) r)
 unfolding findRecord
 found-record bs n x r p q = bind-in _ p (bind-in _ q refl)
 
-pub item-inside : (bs : List ℕ) (ref n : ℕ) (l : Laid) → Octets bs → findItem bs ref n ≡ ok l → l .start + l .size ≤ length bs
+pub item-inside : (bs : List ℕ) (ref n : ℕ) (l : Laid) → Octets bs → findItem categories bs ref n ≡ ok l → l .start + l .size ≤ length bs
 unfolding findItem
 item-inside bs ref n l b h =
     bind-elim _ _ h λ x p h₁.
@@ -335,7 +336,7 @@ located (ok m) r s l h f =
     record { map = m; found = refl; start-is = ap (λ z. z .0) e; length-is = ap (λ z. z .1) e; map-is = h .map; span-is = e }
 located (refused n p) r s l h f = refused-ok (sym (h .answer) ∙ ap placeOf f)
 
-pub record-inside-at : (bs : List ℕ) (n : ℕ) {r : RecordLocated} (s l : ℕ) → Octets bs → LocatedAt (findRecord bs n) r s l → s + l ≤ length bs
+pub record-inside-at : (bs : List ℕ) (n : ℕ) {r : RecordLocated} (s l : ℕ) → Octets bs → LocatedAt (findRecord categories bs n) r s l → s + l ≤ length bs
 record-inside-at bs n s l b a = omega (arith, record-inside bs n (a .map) b (a .found), a .start-is, a .length-is)
 
 pub lost : (x : Answer RecordMap) (r : RecordLocated) (n p : ℕ) → Located r x → r .answer ≡ recordPlace.Refused n p → x ≡ refused n p
@@ -363,7 +364,7 @@ item-lost (refused m q) n p h f =
     let g : _≡_ {A = Answer (ℕ × ℕ)} (refused m q) (refused n p) = sym h ∙ ap itemPlaceOf f in
     (cc)
 
-pub item-inside-at : (bs : List ℕ) (ref n s l : ℕ) → Octets bs → ItemSpan (findItem bs ref n) s l → s + l ≤ length bs
+pub item-inside-at : (bs : List ℕ) (ref n s l : ℕ) → Octets bs → ItemSpan (findItem categories bs ref n) s l → s + l ≤ length bs
 item-inside-at bs ref n s l b a = omega (arith, item-inside bs ref n (a .item) b (a .found), a .start-is, a .size-is)
 
 -- there is no record with a number only for the reason 19
@@ -375,7 +376,7 @@ numbered-refused c k (r ∷ rs) (suc n) m p h = numbered-refused c (k + length (
 
 -- the item of a block that is opened, by its FRN and the map of its record
 module _ (bs : List ℕ) (ref n i count : ℕ) (k : Opens bs (record { category = categoryAt i; count = count })) where
-  pub no-record-at : (f m p : ℕ) → NamedAt ref 1 (places (categoryAt i)) f → seekAt (categoryAt i) 3 (drop 3 bs) n ≡ refused m p → findItem bs ref n ≡ refused 19 0
+  pub no-record-at : (f m p : ℕ) → NamedAt ref 1 (places (categoryAt i)) f → seekAt (categoryAt i) 3 (drop 3 bs) n ≡ refused m p → findItem categories bs ref n ≡ refused 19 0
   unfolding seekAt
   no-record-at f m p named h =
       let e : numbered (categoryAt i) 3 (k .block .records) n ≡ refused m p =
@@ -389,7 +390,7 @@ module _ (bs : List ℕ) (ref n i count : ℕ) (k : Opens bs (record { category 
 
   -- 0 in the map
   pub absent-at : (f : ℕ) (m : RecordMap) (starts : List ℕ) → NamedAt ref 1 (places (categoryAt i)) f → seekAt (categoryAt i) 3 (drop 3 bs) n ≡ ok m
-      → starts ≡ m .starts → getD starts (f - 1) 0 ≡ 0 → findItem bs ref n ≡ refused 20 (m .start)
+      → starts ≡ m .starts → getD starts (f - 1) 0 ≡ 0 → findItem categories bs ref n ≡ refused 20 (m .start)
   absent-at f m starts named h e z =
       let d : f - 1 ≡ indexAs ref (places (categoryAt i)) = omega (arith, named .frn-is) in
       item-absent-at bs ref n _ k m (named .is-item) h (ap₂ (λ y j. getD y j 0) (sym e) (sym d) ∙ z)
@@ -397,7 +398,7 @@ module _ (bs : List ℕ) (ref n i count : ℕ) (k : Opens bs (record { category 
   -- or where it starts, x, and what its check answers there
   pub record ThereAt (f x : ℕ) : Type 0 where
     pub item : Laid
-    pub found : findItem bs ref n ≡ ok item
+    pub found : findItem categories bs ref n ≡ ok item
     pub start-is : x ≡ item .start
     pub inside : item .start + item .size ≤ length bs
     pub check : checkAt i f (drop x bs) ≡ ok (item .size)

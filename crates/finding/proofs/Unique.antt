@@ -5,6 +5,7 @@ use mathlib.Core.Path.{_≡_, refl, sym, ap, ap₂, _∙_}
 use mathlib.Core.List.{List}
 use denote.Ref.{RefT}
 use Rattle.rules.specs.Answer.{Answer, ok, refused}
+use Rattle.rules.specs.Catalogue.{categories}
 use Rattle.rules.specs.Entry.{findRecord, findItem}
 use Rattle.finding.specs.declared.find.RecordPlace.{RecordPlace}
 use Rattle.finding.specs.declared.find.RecordPlace.the-variants as recordPlace
@@ -28,7 +29,7 @@ place-back (recordPlace.Refused n p) = refl
 pub place-told : (a b : RecordPlace) → placeOf a ≡ placeOf b → a ≡ b
 place-told a b e = sym (place-back a) ∙ ap placeFrom e ∙ place-back b
 
-pub one-locate-record : (block : List ℕ) (n : ℕ) (a b : RecordLocated) → Located a (findRecord block n) → Located b (findRecord block n) → a ≡ b
+pub one-locate-record : (block : List ℕ) (n : ℕ) (a b : RecordLocated) → Located a (findRecord categories block n) → Located b (findRecord categories block n) → a ≡ b
 one-locate-record block n a b p q =
     ap₂ (λ x m. record { answer = x; map = m }) (place-told (a .answer) (b .answer) (p .answer ∙ sym (q .answer))) (p .map ∙ sym (q .map))
 
@@ -46,7 +47,7 @@ pub item-told : (a b : ItemLocated) → itemPlaceOf a ≡ itemPlaceOf b → a �
 item-told a b e = sym (item-back a) ∙ ap itemFrom e ∙ item-back b
 
 pub one-locate-item : (block : List ℕ) (reference n : ℕ) (a b : ItemLocated)
-    → itemPlaceOf a ≡ itemSpan (findItem block reference n) → itemPlaceOf b ≡ itemSpan (findItem block reference n) → a ≡ b
+    → itemPlaceOf a ≡ itemSpan (findItem categories block reference n) → itemPlaceOf b ≡ itemSpan (findItem categories block reference n) → a ≡ b
 one-locate-item block reference n a b p q = item-told a b (p ∙ sym q)
 
 -- ---- `find_record`, `find_item`: that very part
@@ -54,10 +55,10 @@ one-locate-item block reference n a b p q = item-told a b (p ∙ sym q)
 same-part : (s a b : RefT (List ℕ)) (span : ℕ × ℕ) → VeryPart s a span → VeryPart s b span → (a .ptr ≡ b .ptr) × (a .now ≡ b .now)
 same-part s a b span p q = (ap₂ (λ x y. (x, y)) (p .block ∙ sym (q .block)) (p .offset ∙ sym (q .offset)), p .bytes ∙ sym (q .bytes))
 
-pub one-find-record : (block : RefT (List ℕ)) (n : ℕ) (a b : RefT (List ℕ)) → VeryPart block a (spanIn (recordSpan (findRecord (block .now) n)))
-    → VeryPart block b (spanIn (recordSpan (findRecord (block .now) n))) → (a .ptr ≡ b .ptr) × (a .now ≡ b .now)
-one-find-record block n a b p q = same-part block a b (spanIn (recordSpan (findRecord (block .now) n))) p q
+pub one-find-record : (block : RefT (List ℕ)) (n : ℕ) (a b : RefT (List ℕ)) → VeryPart block a (spanIn (recordSpan (findRecord categories (block .now) n)))
+    → VeryPart block b (spanIn (recordSpan (findRecord categories (block .now) n))) → (a .ptr ≡ b .ptr) × (a .now ≡ b .now)
+one-find-record block n a b p q = same-part block a b (spanIn (recordSpan (findRecord categories (block .now) n))) p q
 
-pub one-find-item : (block : RefT (List ℕ)) (reference n : ℕ) (a b : RefT (List ℕ)) → VeryPart block a (spanIn (itemSpan (findItem (block .now) reference n)))
-    → VeryPart block b (spanIn (itemSpan (findItem (block .now) reference n))) → (a .ptr ≡ b .ptr) × (a .now ≡ b .now)
-one-find-item block reference n a b p q = same-part block a b (spanIn (itemSpan (findItem (block .now) reference n))) p q
+pub one-find-item : (block : RefT (List ℕ)) (reference n : ℕ) (a b : RefT (List ℕ)) → VeryPart block a (spanIn (itemSpan (findItem categories (block .now) reference n)))
+    → VeryPart block b (spanIn (itemSpan (findItem categories (block .now) reference n))) → (a .ptr ≡ b .ptr) × (a .now ≡ b .now)
+one-find-item block reference n a b p q = same-part block a b (spanIn (itemSpan (findItem categories (block .now) reference n))) p q

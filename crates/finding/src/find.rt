@@ -11,6 +11,7 @@ ghost use mathlib.Core.Path.{_≡_};
 ghost use Prim.Native.Nat.{_+_, _≤_, _<_};
 ghost use lib.ListN.{length};
 ghost use Rattle.rules.specs.Answer.{refused};
+ghost use Rattle.rules.specs.Catalogue.{categories};
 ghost use Rattle.rules.specs.Entry.{findRecord, findItem};
 ghost use Rattle.sets.specs.Sets.{categoryAt};
 ghost use Rattle.blocks.specs.Read.{Records};
@@ -88,7 +89,7 @@ fn seek_record(profile: usize, part: &[u8], from: usize, n: usize) -> RecordLoca
 
 // The record with a number: where it lies, and its map.
 pub fn locate_record(block: &[u8], n: usize) -> RecordLocated
-    ensures { λ r. ⌜ Located r (findRecord (now (block .entry)) n) ⌝ }
+    ensures { λ r. ⌜ Located r (findRecord categories (now (block .entry)) n) ⌝ }
 {
     let opened = open_block(block, LEAST);
     let checked = opened.checked;
@@ -100,7 +101,7 @@ pub fn locate_record(block: &[u8], n: usize) -> RecordLocated
 
 // Its bytes, as that very part of the block; on refusal the empty part at the block's start.
 pub fn find_record(block: &[u8], n: usize) -> &[u8]
-    ensures { λ r. ⌜ VeryPart (block .entry) r (spanIn (recordSpan (findRecord (now (block .entry)) n))) ⌝ }
+    ensures { λ r. ⌜ VeryPart (block .entry) r (spanIn (recordSpan (findRecord categories (now (block .entry)) n))) ⌝ }
 {
     let located = locate_record(block, n);
     let answer = located.answer;
@@ -118,7 +119,7 @@ pub enum ItemLocated {
 
 // The item with a reference, the number after its slash, in the record with a number.
 pub fn locate_item(block: &[u8], reference: u16, n: usize) -> ItemLocated
-    ensures { λ r. ⌜ itemPlaceOf r ≡ itemSpan (findItem (now (block .entry)) reference n) ⌝ }
+    ensures { λ r. ⌜ itemPlaceOf r ≡ itemSpan (findItem categories (now (block .entry)) reference n) ⌝ }
 {
     let opened = open_block(block, LEAST);
     let checked = opened.checked;
@@ -168,7 +169,7 @@ pub fn locate_item(block: &[u8], reference: u16, n: usize) -> ItemLocated
 
 // Its bytes, as that very part of the block; on refusal the empty part at the block's start.
 pub fn find_item(block: &[u8], reference: u16, n: usize) -> &[u8]
-    ensures { λ r. ⌜ VeryPart (block .entry) r (spanIn (itemSpan (findItem (now (block .entry)) reference n))) ⌝ }
+    ensures { λ r. ⌜ VeryPart (block .entry) r (spanIn (itemSpan (findItem categories (now (block .entry)) reference n))) ⌝ }
 {
     let located = locate_item(block, reference, n);
     let ItemLocated::At { start, length } = located else {

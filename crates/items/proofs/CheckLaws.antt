@@ -15,7 +15,8 @@ use borrow.Author.Tests.{le-leb, lt-leb, eqb-true}
 use Rattle.rules.specs.Answer.{Answer, ok, refused, _>>=_, need_or_then_, expect_or_}
 use Rattle.rules.specs.Layout.{Layout, Values}
 use Rattle.rules.specs.Presence.{placeAt}
-use Rattle.rules.specs.Entry.{categories, profileAt}
+use Rattle.rules.specs.Catalogue.{categories}
+use Rattle.rules.specs.Entry.{profileAt}
 use Rattle.rules.proofs.AnswerLaws.{Octets, none-some}
 use Rattle.tables.specs.declared.tables.LayoutRow.{LayoutRow}
 use Rattle.tables.specs.declared.tables.PlaceRow.{PlaceRow}

@@ -21,7 +21,8 @@ use Rattle.rules.specs.Record.{Place, Category, places}
 use Rattle.rules.specs.Block.{categoryOf}
 use Rattle.rules.specs.Category017.{category017}
 use Rattle.rules.specs.Category018.{category018}
-use Rattle.rules.specs.Entry.{categories, profileAt, layoutAs, layoutOf, readOne, leaves}
+use Rattle.rules.specs.Catalogue.{categories}
+use Rattle.rules.specs.Entry.{profileAt, layoutAs, layoutOf, readOne, leaves}
 use Rattle.rules.proofs.AnswerLaws.{Octets, none-some, some-inj, bind-elim, need-elim, if-inv, if-true, if-false}
 use Rattle.tables.specs.declared.tables.LayoutRow.{LayoutRow}
 use Rattle.tables.specs.declared.tables.PlaceRow.{PlaceRow}
@@ -90,19 +91,19 @@ with-some n (some l) p e = ap (λ o. layout-in o l) e
     layout-in (some q) m = some (q .layout)
 
 module _ (cat ref p : ℕ) (ep : p ≡ profileIn cat categories) where
-  by-profile : layoutOf cat ref ≡ (expect layoutAs ref (flatten (profileAt categories p)) or 21)
+  by-profile : layoutOf categories cat ref ≡ (expect layoutAs ref (flatten (profileAt categories p)) or 21)
   unfolding layoutOf
   by-profile = rw ep (profile-layout cat ref categories)
 
   pub layout-found : (f : ℕ) (r : PlaceRow) → some f ≡ frnAs ref 1 (flatten (profileAt categories p)) → placeIs r ≡ placeAt (profileAt categories p) f
-      → (expect layoutIs (layoutAt (r .layout)) or 21) ≡ layoutOf cat ref
+      → (expect layoutIs (layoutAt (r .layout)) or 21) ≡ layoutOf categories cat ref
   unfolding placeIs expect_or_
   layout-found f r e h =
       let d : Found ref 1 f (flatten (profileAt categories p)) = found ref 1 f (flatten (profileAt categories p)) (sym e) in
       let l : layoutIs (layoutAt (r .layout)) ≡ some (d .place .layout) = with-some (r .reference) (layoutIs (layoutAt (r .layout))) (d .place) (h ∙ found-place ref f (profileAt categories p) d) in
       rw l (sym (by-profile ∙ rw (d .layout)))
 
-  pub layout-missed : none ≡ frnAs ref 1 (flatten (profileAt categories p)) → (expect layoutIs (layoutAt 0) or 21) ≡ layoutOf cat ref
+  pub layout-missed : none ≡ frnAs ref 1 (flatten (profileAt categories p)) → (expect layoutIs (layoutAt 0) or 21) ≡ layoutOf categories cat ref
   unfolding expect_or_
   layout-missed e = rw layout-none (sym (by-profile ∙ rw (missed ref 1 (flatten (profileAt categories p)) (sym e) .layout)))
 
@@ -143,39 +144,39 @@ fields-read l bs s o = go (shapeOf l bs) refl
     go (ok x) e = rw e (only-legal (partsLegal (stepOf (l .kind)) (l .first) (x .0) (drop (headOf (l .kind)) bs)) _ x bs (onlyItem l bs) (fitting l bs x s o e .there) refl)
     go (refused n p) e = rw e
 
-pub one-is : (cat ref j : ℕ) (bs : List ℕ) → (expect layoutIs (layoutAt j) or 21) ≡ layoutOf cat ref → rowSound (layoutAt j) ≡ true → Octets bs
-    → readOne cat ref bs ≡ (wholeOf (layoutAt j) bs >>= onlyItem (layoutAt j) bs)
+pub one-is : (cat ref j : ℕ) (bs : List ℕ) → (expect layoutIs (layoutAt j) or 21) ≡ layoutOf categories cat ref → rowSound (layoutAt j) ≡ true → Octets bs
+    → readOne categories cat ref bs ≡ (wholeOf (layoutAt j) bs >>= onlyItem (layoutAt j) bs)
 unfolding readOne readFields expect_or_ _>>=_
 one-is cat ref j bs h s o = go (layoutIs (layoutAt j)) refl
   where
-    go : (x : Option Layout) → layoutIs (layoutAt j) ≡ x → readOne cat ref bs ≡ (wholeOf (layoutAt j) bs >>= onlyItem (layoutAt j) bs)
+    go : (x : Option Layout) → layoutIs (layoutAt j) ≡ x → readOne categories cat ref bs ≡ (wholeOf (layoutAt j) bs >>= onlyItem (layoutAt j) bs)
     go none e = rw (← h, e, no-item (layoutAt j) bs e)
     go (some i) e = rw (← h, e, reads (layoutAt j) i bs s e o) (fields-read (layoutAt j) bs s o)
 
 -- the answers, and what the output then holds
 pub record Answered (cat ref : ℕ) (bs : List ℕ) (m : Answer ℕ) (old new : List ℤ) : Type 0 where
-  pub answer : m ≡ countOf (readOne cat ref bs)
-  pub left : new ≡ leaves (readOne cat ref bs) old
+  pub answer : m ≡ countOf (readOne categories cat ref bs)
+  pub left : new ≡ leaves (readOne categories cat ref bs) old
 
-module _ (cat ref j : ℕ) (bs : List ℕ) (h : (expect layoutIs (layoutAt j) or 21) ≡ layoutOf cat ref) (s : rowSound (layoutAt j) ≡ true) (o : Octets bs) (old : List ℤ) {l : LayoutRow} (el : l ≡ layoutAt j) where
-  one-at : readOne cat ref bs ≡ (wholeOf l bs >>= onlyItem l bs)
+module _ (cat ref j : ℕ) (bs : List ℕ) (h : (expect layoutIs (layoutAt j) or 21) ≡ layoutOf categories cat ref) (s : rowSound (layoutAt j) ≡ true) (o : Octets bs) (old : List ℤ) {l : LayoutRow} (el : l ≡ layoutAt j) where
+  one-at : readOne categories cat ref bs ≡ (wholeOf l bs >>= onlyItem l bs)
   one-at = rw el (one-is cat ref j bs h s o)
 
   pub one-refused : (n : ℕ) → refused n 0 ≡ wholeOf l bs → Answered cat ref bs (refused n 0) old old
   unfolding countOf _>>=_
   one-refused n e =
-      let q : readOne cat ref bs ≡ refused n 0 = one-at ∙ rw (← e) in
+      let q : readOne categories cat ref bs ≡ refused n 0 = one-at ∙ rw (← e) in
       record { answer = rw q; left = rw q }
 
   module _ (c long : ℕ) (e : ok (c, long) ≡ wholeOf l bs) where
-    here : readOne cat ref bs ≡ later long (need leb (length bs) long or 18 then ok (flatten (partValues (stepOf (l .kind)) (l .first) c (drop (headOf (l .kind)) bs))))
+    here : readOne categories cat ref bs ≡ later long (need leb (length bs) long or 18 then ok (flatten (partValues (stepOf (l .kind)) (l .first) c (drop (headOf (l .kind)) bs))))
     unfolding onlyItem _>>=_
     here = one-at ∙ rw (← e)
 
     pub one-longer : long < length bs → Answered cat ref bs (refused 18 long) old old
     unfolding countOf later need_or_then_ _>>=_
     one-longer k =
-        let q : readOne cat ref bs ≡ refused 18 long = here ∙ rw (lt-leb (length bs) long k, add-zero long) in
+        let q : readOne categories cat ref bs ≡ refused 18 long = here ∙ rw (lt-leb (length bs) long k, add-zero long) in
         record { answer = rw q; left = rw q }
 
     -- the shape itself
@@ -191,7 +192,7 @@ module _ (cat ref j : ℕ) (bs : List ℕ) (h : (expect layoutIs (layoutAt j) or
     unfolding countOf later need_or_then_ _>>=_
     one-whole k n new en ew =
         let vs = flatten (partValues (stepOf (l .kind)) (l .first) c (drop (headOf (l .kind)) bs)) in
-        let q : readOne cat ref bs ≡ ok vs = here ∙ rw (le-leb (length bs) long k) in
+        let q : readOne categories cat ref bs ≡ ok vs = here ∙ rw (le-leb (length bs) long k) in
         record {
           answer = rw q (ap ok (en ∙ sym (length-held (stepOf (l .kind)) (l .first) c (drop (headOf (l .kind)) bs))));
           left = rw q (ew ∙ sets-over vs old);

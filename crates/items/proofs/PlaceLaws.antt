@@ -17,7 +17,8 @@ use Rattle.rules.specs.Layout.{Layout, flatten}
 use Rattle.rules.proofs.AnswerLaws.{if-inv, if-true, if-false, some-inj, none-some}
 use Rattle.rules.specs.Presence.{present, placeAt}
 use Rattle.rules.specs.Record.{Place}
-use Rattle.rules.specs.Entry.{categories, profileAt, layoutAs, isItem}
+use Rattle.rules.specs.Catalogue.{categories}
+use Rattle.rules.specs.Entry.{profileAt, layoutAs, isItem}
 use Rattle.tables.specs.declared.tables.PlaceRow.{PlaceRow}
 use Rattle.tables.specs.Tables.{layoutCount, profileCount, frnCount, layoutIs, layoutAt, nowhere, placeRowAt, with, placeIs}
 use Rattle.tables.proofs.TableLaws.{place-is, place-none, profile-few, place-row, layout-none, layout-some}

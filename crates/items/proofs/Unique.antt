@@ -9,7 +9,8 @@ use lib.IntN.{ℤ}
 use lib.ListN.{length}
 use Rattle.rules.specs.Layout.{flatten}
 use Rattle.rules.specs.Presence.{present, placeAt}
-use Rattle.rules.specs.Entry.{categories, profileAt, readOne, writeOne, leaves}
+use Rattle.rules.specs.Catalogue.{categories}
+use Rattle.rules.specs.Entry.{profileAt, readOne, writeOne, leaves}
 use Rattle.tables.specs.Places.{frnAs}
 use Rattle.items.specs.declared.FrnFound.{FrnFound}
 use Rattle.items.specs.declared.FrnFound.the-variants.{Frn, NoItem}
@@ -68,12 +69,12 @@ one-check-item profile frn part a b p q = same-check a b (p ∙ sym q)
 
 -- the answer, and what the output then holds
 pub one-read-item : (category reference : ℕ) (item : List ℕ) (fields : List ℤ) (a b : ItemRead) (left right : List ℤ)
-    → readOf a ≡ countOf (readOne category reference item) → left ≡ leaves (readOne category reference item) fields
-    → readOf b ≡ countOf (readOne category reference item) → right ≡ leaves (readOne category reference item) fields → (a ≡ b) × (left ≡ right)
+    → readOf a ≡ countOf (readOne categories category reference item) → left ≡ leaves (readOne categories category reference item) fields
+    → readOf b ≡ countOf (readOne categories category reference item) → right ≡ leaves (readOne categories category reference item) fields → (a ≡ b) × (left ≡ right)
 one-read-item category reference item fields a b left right p l q r = (same-read a b (p ∙ sym q), l ∙ sym r)
 
 pub one-write-item : (category reference : ℕ) (fields : List ℤ) (out : List ℕ) (a b : ItemWritten) (left right : List ℕ)
-    → writtenAs a ≡ countOf (writeOne category reference fields (length out)) → left ≡ leaves (writeOne category reference fields (length out)) out
-    → writtenAs b ≡ countOf (writeOne category reference fields (length out)) → right ≡ leaves (writeOne category reference fields (length out)) out
+    → writtenAs a ≡ countOf (writeOne categories category reference fields (length out)) → left ≡ leaves (writeOne categories category reference fields (length out)) out
+    → writtenAs b ≡ countOf (writeOne categories category reference fields (length out)) → right ≡ leaves (writeOne categories category reference fields (length out)) out
     → (a ≡ b) × (left ≡ right)
 one-write-item category reference fields out a b left right p l q r = (same-written a b (p ∙ sym q), l ∙ sym r)

@@ -19,7 +19,8 @@ use Rattle.rules.specs.Layout.{octets, Group, Layout, fixed, repeated, led, ext
 use Rattle.rules.specs.Presence.{present}
 use Rattle.rules.specs.Category017.{category017}
 use Rattle.rules.specs.Category018.{category018}
-use Rattle.rules.specs.Entry.{categories, layoutOf, writeOne, over, leaves}
+use Rattle.rules.specs.Catalogue.{categories}
+use Rattle.rules.specs.Entry.{layoutOf, writeOne, over, leaves}
 use Rattle.rules.proofs.AnswerLaws.{refused-ok, ok-inj, bind-elim, bind-in, bind-cong, octetsOf-ok}
 use Rattle.rules.proofs.LayoutLaws.{octets-length}
 use Rattle.tables.specs.declared.tables.LayoutRow.{LayoutRow}
@@ -223,23 +224,23 @@ module _ (i : ℕ) (vs : List ℤ) (k s : ℕ) (e : ok (parts k s) ≡ countPart
   pub room-is : (n : ℕ) (out : List ℕ) {out₁ : List ℕ} → n + s ≤ length out → out₁ ≡ sets out 0 (headAt i k) → n + length (octetsOf (layParts (chainedAt i) (partsAt i) vs)) ≤ length out₁
   room-is n out h e₁ = omega (arith, counted (chainedAt i) (partsAt i) vs k s e .size, ap length e₁, length-sets out 0 (headAt i k))
 
-module _ (cat ref i : ℕ) (vs : List ℤ) (out : List ℕ) (h : (i < layoutCount) × ((expect layoutIs (layoutAt i) or 21) ≡ layoutOf cat ref)) where
-  pub no-layout : i ≡ 0 → Answers (refused 21 0) out (writeOne cat ref vs (length out)) out
+module _ (cat ref i : ℕ) (vs : List ℤ) (out : List ℕ) (h : (i < layoutCount) × ((expect layoutIs (layoutAt i) or 21) ≡ layoutOf categories cat ref)) where
+  pub no-layout : i ≡ 0 → Answers (refused 21 0) out (writeOne categories cat ref vs (length out)) out
   unfolding writeOne _>>=_ expect_or_
   no-layout z =
-      let e : layoutOf cat ref ≡ refused 21 0 = sym (h .1) ∙ ap (λ x. expect x or 21) (ap (λ x. layoutIs (layoutAt x)) z ∙ layout-none) in
+      let e : layoutOf categories cat ref ≡ refused 21 0 = sym (h .1) ∙ ap (λ x. expect x or 21) (ap (λ x. layoutIs (layoutAt x)) z ∙ layout-none) in
       refusal 21 0 out (ap (λ m. m >>= (λ l. writeFields l vs >>= (λ bs. need leb (length bs) (length out) or 16 then ok bs))) e)
 
   module _ (z : i ≡ 0 → ⊥) where
     -- the rule, by the table
     one-by : {m : Answer (List ℕ)} → (numbersOf (partsAt i) vs >>= (λ ns. need leb (layoutAt i .least) (length ns) or 11 then ok (headAt i (length ns) ++ laidParts (chainedAt i) (partsAt i) ns))) ≡ m
-        → writeOne cat ref vs (length out) ≡ (m >>= (λ bs. need leb (length bs) (length out) or 16 then ok bs))
+        → writeOne categories cat ref vs (length out) ≡ (m >>= (λ bs. need leb (length bs) (length out) or 16 then ok bs))
     unfolding writeOne expect_or_
     one-by e =
         present-elim (layoutIs (layoutAt i)) (some-layout i z (h .0)) λ l d.
         bind-in _ (sym (h .1) ∙ ap (λ x. expect x or 21) d) (ap (λ m. m >>= (λ bs. need leb (length bs) (length out) or 16 then ok bs)) (written-by i l vs (layout-is i l d) ∙ e))
 
-    pub not-fields : refused 11 0 ≡ countParts (chainedAt i) (partsAt i) vs → Answers (refused 11 0) out (writeOne cat ref vs (length out)) out
+    pub not-fields : refused 11 0 ≡ countParts (chainedAt i) (partsAt i) vs → Answers (refused 11 0) out (writeOne categories cat ref vs (length out)) out
     unfolding _>>=_
     not-fields e =
         refusal 11 0 out (one-by {m = refused 11 0} (ap (λ m. m >>= (λ ns. need leb (layoutAt i .least) (length ns) or 11 then ok (headAt i (length ns) ++ laidParts (chainedAt i) (partsAt i) ns))) (counted-no (chainedAt i) (partsAt i) vs e)))
@@ -256,7 +257,7 @@ module _ (cat ref i : ℕ) (vs : List ℤ) (out : List ℕ) (h : (i < layoutCoun
           (ap (λ n. need leb (layoutAt i .least) n or 11 then ok (headAt i n ++ laidParts (chainedAt i) (partsAt i) (c .ns))) (sym (c .count))
           ∙ ap₂ (λ x o. need x or 11 then ok (headAt i k ++ o)) (sym (ap (λ x. leb (x .least) k) er) ∙ d) (sym (c .laid)))
 
-      pub too-few : k < r .least → Answers (refused 11 0) out (writeOne cat ref vs (length out)) out
+      pub too-few : k < r .least → Answers (refused 11 0) out (writeOne categories cat ref vs (length out)) out
       unfolding _>>=_ need_or_then_
       too-few l = refusal 11 0 out (one-by (laid-by (lt-leb (r .least) k l)))
 
@@ -264,16 +265,16 @@ module _ (cat ref i : ℕ) (vs : List ℤ) (out : List ℕ) (h : (i < layoutCoun
         bs-length : n + s ≡ length (headAt i k ++ octetsOf (layParts (chainedAt i) (partsAt i) vs))
         bs-length = omega (arith, length-append (headAt i k) (octetsOf (layParts (chainedAt i) (partsAt i) vs)), en k, c .size)
 
-        one-is : writeOne cat ref vs (length out) ≡ (need leb (n + s) (length out) or 16 then ok (headAt i k ++ octetsOf (layParts (chainedAt i) (partsAt i) vs)))
+        one-is : writeOne categories cat ref vs (length out) ≡ (need leb (n + s) (length out) or 16 then ok (headAt i k ++ octetsOf (layParts (chainedAt i) (partsAt i) vs)))
         unfolding _>>=_ need_or_then_
         one-is = one-by (laid-by (le-leb (r .least) k l)) ∙ ap (λ x. need leb x (length out) or 16 then ok (headAt i k ++ octetsOf (layParts (chainedAt i) (partsAt i) vs))) (sym bs-length)
 
-        pub no-room : length out < n + s → Answers (refused 16 0) out (writeOne cat ref vs (length out)) out
+        pub no-room : length out < n + s → Answers (refused 16 0) out (writeOne categories cat ref vs (length out)) out
         unfolding need_or_then_
         no-room t = refusal 16 0 out (one-is ∙ ap (λ x. need x or 16 then ok (headAt i k ++ octetsOf (layParts (chainedAt i) (partsAt i) vs))) (lt-leb (n + s) (length out) t))
 
         pub all-written : {out₁ out₂ : List ℕ} → n + s ≤ length out → out₁ ≡ sets out 0 (headAt i k) → out₂ ≡ sets out₁ n (octetsOf (layParts (chainedAt i) (partsAt i) vs))
-            → Answers (ok (n + s)) out₂ (writeOne cat ref vs (length out)) out
+            → Answers (ok (n + s)) out₂ (writeOne categories cat ref vs (length out)) out
         unfolding need_or_then_
         all-written t e₁ e₂ =
             let o = octetsOf (layParts (chainedAt i) (partsAt i) vs) in

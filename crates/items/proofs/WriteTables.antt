@@ -15,7 +15,7 @@ use Rattle.rules.specs.Field.{unsigned, value}
 use Rattle.rules.specs.Layout.{Group}
 use Rattle.rules.specs.Category017.{category017}
 use Rattle.rules.specs.Category018.{category018}
-use Rattle.rules.specs.Entry.{categories}
+use Rattle.rules.specs.Catalogue.{categories}
 use Rattle.tables.specs.Tables.{fieldCount, groupCount, fields, groups, layouts, fieldRow, fieldAt, groupRows, noGroupRow, groupAt, layoutRows, noLayoutRow, layoutAt, groupIs}
 use Rattle.tables.proofs.TableLaws.{groups-long}
 use Rattle.tables.specs.declared.tables.GroupRow.{GroupRow}

@@ -10,9 +10,11 @@ use lib.IntN.{ℤ}
 use lib.ListN.{length, take, drop}
 use lib.Seq.{take-at, drop-at}
 use Rattle.rules.specs.Answer.{Answer, ok, refused, _>>=_}
+use Rattle.rules.specs.Catalogue.{categories}
 use Rattle.rules.specs.Entry.{readOne, writeOne, over, leaves}
 use Rattle.rules.proofs.AnswerLaws.{Octets, refused-ok, ok-inj, bind-elim, bind-in}
 use Rattle.rules.proofs.EntryLaws.{over-is}
+use Rattle.rules.proofs.Tables.{tables-hold}
 use Rattle.rules.proofs.Demands.{demand-2, demand-2-output}
 use Rattle.items.specs.Answers.{readOf, countOf}
 use Rattle.items.specs.Write.{writtenAs}
@@ -25,12 +27,12 @@ use Rattle.items.specs.declared.write.ItemWritten.the-variants.{Length, 
 
 -- of the category, the reference, the fields and the output lent: the answer, and what the output then holds
 pub record Wrote (cat ref : ℕ) (fs : List ℤ) (out : List ℕ) (r : ItemWritten) (out′ : List ℕ) : Type 0 where
-  pub answer : writtenAs r ≡ countOf (writeOne cat ref fs (length out))
-  pub left : out′ ≡ leaves (writeOne cat ref fs (length out)) out
+  pub answer : writtenAs r ≡ countOf (writeOne categories cat ref fs (length out))
+  pub left : out′ ≡ leaves (writeOne categories cat ref fs (length out)) out
 
 pub record WasRead (cat ref : ℕ) (bs : List ℕ) (old : List ℤ) (r : ItemRead) (new : List ℤ) : Type 0 where
-  pub answer : readOf r ≡ countOf (readOne cat ref bs)
-  pub left : new ≡ leaves (readOne cat ref bs) old
+  pub answer : readOf r ≡ countOf (readOne categories cat ref bs)
+  pub left : new ≡ leaves (readOne categories cat ref bs) old
 
 -- ---- no two results
 
@@ -50,7 +52,7 @@ write-unique cat ref fs out r s out₁ out₂ a b = (written-inj r s (a .answer 
 pub record WroteItem (cat ref : ℕ) (fs : List ℤ) (out : List ℕ) (n : ℕ) (out′ : List ℕ) : Type 0 where
   pub room : n ≤ length out
   pub octets : Octets (take n out′)
-  pub read : readOne cat ref (take n out′) ≡ ok fs
+  pub read : readOne categories cat ref (take n out′) ≡ ok fs
   pub kept : drop n out′ ≡ drop n out
 
 pub read-write : (cat ref : ℕ) (fs : List ℤ) (out : List ℕ) (n : ℕ) (out′ : List ℕ) → Wrote cat ref fs out (Length n) out′ → WroteItem cat ref fs out n out′
@@ -58,13 +60,13 @@ unfolding countOf
 read-write cat ref fs out n out′ w =
     bind-elim _ _ (sym (w .answer)) λ bs p h.
     let e : length bs ≡ n = ok-inj h in
-    let o : out′ ≡ bs ++ drop (length bs) out = w .left ∙ demand-2-output cat ref bs fs out p in
+    let o : out′ ≡ bs ++ drop (length bs) out = w .left ∙ demand-2-output categories tables-hold cat ref bs fs out p in
     let t : take n out′ ≡ bs = ap (take n) o ∙ take-at bs (drop (length bs) out) n e in
-    let d = demand-2 cat ref bs fs out .1 p in
+    let d = demand-2 categories tables-hold cat ref bs fs out .1 p in
     record {
       room = omega (arith, d .2);
       octets = subst Octets (sym t) (d .0);
-      read = ap (readOne cat ref) t ∙ d .1;
+      read = ap (readOne categories cat ref) t ∙ d .1;
       kept = ap (drop n) o ∙ drop-at bs (drop (length bs) out) n e ∙ ap (λ x. drop x out) e;
     }
 
@@ -85,7 +87,7 @@ read-written cat ref fs out n out′ old r new w d =
 -- a refusal changes nothing
 pub write-refused : (cat ref : ℕ) (fs : List ℤ) (out : List ℕ) (n p : ℕ) (out′ : List ℕ) → Wrote cat ref fs out (Refused n p) out′ → out′ ≡ out
 unfolding countOf _>>=_
-write-refused cat ref fs out n p out′ w = w .left ∙ go (writeOne cat ref fs (length out)) (w .answer)
+write-refused cat ref fs out n p out′ w = w .left ∙ go (writeOne categories cat ref fs (length out)) (w .answer)
   where
     go : (m : Answer (List ℕ)) → refused n p ≡ countOf m → leaves m out ≡ out
     go (ok bs) e = refused-ok e
@@ -94,11 +96,11 @@ write-refused cat ref fs out n p out′ w = w .left ∙ go (writeOne cat ref fs 
 -- ---- writing what was read
 
 pub write-read : (cat ref : ℕ) (bs : List ℕ) (fs : List ℤ) (out : List ℕ) (r : ItemWritten) (out′ : List ℕ)
-    → Octets bs → readOne cat ref bs ≡ ok fs → length bs ≤ length out → Wrote cat ref fs out r out′ → (r ≡ Length (length bs)) × (out′ ≡ bs ++ drop (length bs) out)
+    → Octets bs → readOne categories cat ref bs ≡ ok fs → length bs ≤ length out → Wrote cat ref fs out r out′ → (r ≡ Length (length bs)) × (out′ ≡ bs ++ drop (length bs) out)
 unfolding countOf
 write-read cat ref bs fs out r out′ o h room w =
-    let p : writeOne cat ref fs (length out) ≡ ok bs = demand-2 cat ref bs fs out .0 (o, h, room) in
-    (written-inj r (Length (length bs)) (w .answer ∙ bind-in _ p refl), w .left ∙ demand-2-output cat ref bs fs out p)
+    let p : writeOne categories cat ref fs (length out) ≡ ok bs = demand-2 categories tables-hold cat ref bs fs out .0 (o, h, room) in
+    (written-inj r (Length (length bs)) (w .answer ∙ bind-in _ p refl), w .left ∙ demand-2-output categories tables-hold cat ref bs fs out p)
 
 -- so `write_item`, lent the fields that `read_item` gave, writes the octets that it was lent
 pub write-was-read : (cat ref : ℕ) (bs : List ℕ) (old new : List ℤ) (n : ℕ) (out : List ℕ) (r : ItemWritten) (out′ : List ℕ)

@@ -8,7 +8,8 @@ use Rattle.rules.specs.Answer.{Answer, ok, refused, if_then_else_, expect_or_, 
 use Rattle.rules.specs.Layout.{Layout, readItem}
 use Rattle.rules.specs.Presence.{placeAt}
 use Rattle.rules.specs.Record.{Place, Category}
-use Rattle.rules.specs.Entry.{categories, profileAt}
+use Rattle.rules.specs.Catalogue.{categories}
+use Rattle.rules.specs.Entry.{profileAt}
 use Rattle.items.specs.declared.FrnFound.{FrnFound}
 use Rattle.items.specs.declared.FrnFound.the-variants.{Frn, NoItem}
 use Rattle.items.specs.declared.ItemCheck.{ItemCheck}

@@ -21,7 +21,8 @@ ghost use Prim.Native.Nat.{_<_, _+_};
 ghost use Rattle.rules.specs.Layout.{flatten};
 ghost use Rattle.rules.specs.Presence.{present, placeAt};
 ghost use Rattle.rules.specs.Answer.{expect_or_};
-ghost use Rattle.rules.specs.Entry.{categories, profileAt, layoutOf, readOne, leaves};
+ghost use Rattle.rules.specs.Catalogue.{categories};
+ghost use Rattle.rules.specs.Entry.{profileAt, layoutOf, readOne, leaves};
 ghost use Rattle.tables.specs.Tables.{groupCount, layoutCount, placeCount, placeIs, layoutIs, layoutAt, groupAt, placeRowAt};
 ghost use Rattle.tables.specs.Places.{isNamed, frnAs};
 ghost use Rattle.layouts.specs.Read.{partSound, wholeSize, singleSize};
@@ -186,7 +187,7 @@ pub fn profile_of(category: u8) -> usize
 
 // The place of the layout of an item, by its category and reference: that of no item where there is none.
 fn layout_of(category: u8, reference: u16) -> usize
-    ensures { λ r. ⌜ (r < layoutCount) × ((expect layoutIs (layoutAt r) or 21) ≡ layoutOf category reference) ⌝ }
+    ensures { λ r. ⌜ (r < layoutCount) × ((expect layoutIs (layoutAt r) or 21) ≡ layoutOf categories category reference) ⌝ }
 {
     let profile = profile_of(category);
     match frn_of(profile, reference) {
@@ -209,8 +210,8 @@ pub enum ItemRead {
 // The fields of an item that is all of the octets lent, from its highest bit down, at the start of the output: 21 for a reference that is no
 // item of the category, and for any other category; 9, 10, 9 of the body, 11; 18 where octets follow. A refusal changes nothing.
 pub fn read_item(category: u8, reference: u16, item: &[u8], fields: &mut [i64; 8192]) -> ItemRead
-    ensures answer { λ r. ⌜ readOf r ≡ countOf (readOne category reference (now (item .entry))) ⌝ }
-    ensures left { λ r. ⌜ now (fields .exit) ≡ leaves (readOne category reference (now (item .entry))) (now (fields .entry)) ⌝ }
+    ensures answer { λ r. ⌜ readOf r ≡ countOf (readOne categories category reference (now (item .entry))) ⌝ }
+    ensures left { λ r. ⌜ now (fields .exit) ≡ leaves (readOne categories category reference (now (item .entry))) (now (fields .entry)) ⌝ }
 {
     let l = layout_at(layout_of(category, reference));
     match whole_of(l, item) {

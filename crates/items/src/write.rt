@@ -15,6 +15,7 @@ ghost use lib.Signed.{mag};
 ghost use lib.Seq.{sets};
 ghost use Rattle.rules.specs.Answer.{ok, octetsOf};
 ghost use Rattle.rules.specs.Layout.{octets};
+ghost use Rattle.rules.specs.Catalogue.{categories};
 ghost use Rattle.rules.specs.Entry.{writeOne, leaves};
 ghost use Rattle.tables.specs.Tables.{fieldCount, groupCount, layoutCount};
 ghost use Rattle.items.specs.Write.{fieldIn, groupIn, noGroup, partsAt, chainedAt, codeFor, packFrom, countParts, parts, layParts, headAt, marked, codedAs, packedAs, countedAs, writtenAs};
@@ -264,8 +265,8 @@ pub enum ItemWritten {
 
 // An item from its fields: 21 where the category has no such item, 11 where they are not the fields of one, 16 where the output has no room.
 pub fn write_item(category: u8, reference: u16, fields: &[i64], out: &mut [u8]) -> ItemWritten
-    ensures answer { λ r. ⌜ writtenAs r ≡ countOf (writeOne category reference (now (fields .entry)) (length (now (out .entry)))) ⌝ }
-    ensures left { λ _. ⌜ now (out .exit) ≡ leaves (writeOne category reference (now (fields .entry)) (length (now (out .entry)))) (now (out .entry)) ⌝ }
+    ensures answer { λ r. ⌜ writtenAs r ≡ countOf (writeOne categories category reference (now (fields .entry)) (length (now (out .entry)))) ⌝ }
+    ensures left { λ _. ⌜ now (out .exit) ≡ leaves (writeOne categories category reference (now (fields .entry)) (length (now (out .entry)))) (now (out .entry)) ⌝ }
 {
     let layout = layout_of(category, reference);
     if layout == 0 {

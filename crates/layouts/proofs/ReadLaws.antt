@@ -24,7 +24,7 @@ use Rattle.rules.proofs.AnswerLaws.{Octets, both-left, both-right, need-bind, o
 use Rattle.rules.proofs.LayoutLaws.{octets-take}
 use Rattle.rules.specs.Category017.{category017}
 use Rattle.rules.specs.Category018.{category018}
-use Rattle.rules.specs.Entry.{categories}
+use Rattle.rules.specs.Catalogue.{categories}
 use Rattle.tables.specs.declared.tables.LayoutRow.{LayoutRow}
 use Rattle.tables.specs.Tables as t
 use Rattle.tables.specs.Tables.{groupCount, fields, fieldRow, groupIs, groupRows, noGroupRow, groupAt, layoutIs, layoutBy}

@@ -5,7 +5,7 @@ use mathlib.Core.Bool.{true}
 use native.Mathlib.Nat.{le-of-suc-le-suc}
 use Rattle.rules.specs.Category017.{category017}
 use Rattle.rules.specs.Category018.{category018}
-use Rattle.rules.specs.Entry.{categories}
+use Rattle.rules.specs.Catalogue.{categories}
 use Rattle.tables.specs.Tables.{layoutCount, fields, groups, layouts, groupAt, layoutRows, noLayoutRow, layoutAt}
 use Rattle.tables.proofs.TableLaws.{each}
 use Rattle.layouts.specs.Read.{rows, isSpare, holds, partsSound, rowSound}

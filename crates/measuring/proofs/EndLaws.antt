@@ -17,7 +17,7 @@ use lib.ListN.{length, getD}
 use borrow.Author.Tests.{le-leb, lt-leb, eq-eqb, ne-eqb}
 use Rattle.rules.specs.Answer.{ok, if_then_else_}
 use Rattle.rules.specs.Presence.{flags}
-use Rattle.rules.specs.Entry.{categories}
+use Rattle.rules.specs.Catalogue.{categories}
 use Rattle.rules.proofs.AnswerLaws.{if-true, if-false, Octets}
 use Rattle.rules.proofs.PresenceLaws.{flags-length}
 use Rattle.layouts.proofs.ReadLaws.{le-or-lt}

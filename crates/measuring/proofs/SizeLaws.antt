@@ -15,7 +15,7 @@ use Rattle.rules.specs.Answer.{ok, if_then_else_}
 use Rattle.rules.specs.Layout.{joined}
 use Rattle.rules.specs.Presence.{placeAt}
 use Rattle.rules.specs.Record.{Place}
-use Rattle.rules.specs.Entry.{categories}
+use Rattle.rules.specs.Catalogue.{categories}
 use Rattle.rules.specs.Category017.{category017}
 use Rattle.rules.specs.Category018.{category018}
 use Rattle.rules.proofs.AnswerLaws.{refused-ok, ok-inj, bind-elim, need-elim, if-inv, expect-elim, none-some, both-left, both-right, Octets}

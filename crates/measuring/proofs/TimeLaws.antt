@@ -9,7 +9,7 @@ use mathlib.Core.Option.{Option, none, some}
 use mathlib.Core.List.{List, [], _∷_, _++_}
 use native.Mathlib.Omega.{arith}
 use native.Mathlib.Nat.{le-of-eq}
-use lib.Dec.{leb, leb→le, eqb}
+use lib.Dec.{eqb}
 use lib.ListN.{length, getD, drop, length-append, List·getD-append}
 use lib.Seq.{getD-append-add}
 use lib.IntN.{pos}
@@ -22,11 +22,12 @@ use Rattle.rules.specs.Record.{Category, Place, Record, places, items, valueOf,
 use Rattle.rules.specs.Block.{categoryOf}
 use Rattle.rules.specs.Category017.{category017}
 use Rattle.rules.specs.Category018.{category018}
-use Rattle.rules.specs.Entry.{RecordMap, Laid, categories, layoutAs, laid, laidAs, laidItems, mapOf}
+use Rattle.rules.specs.Catalogue.{categories}
+use Rattle.rules.specs.Entry.{RecordMap, Laid, layoutAs, laid, laidAs, laidItems, mapOf}
 use Rattle.rules.specs.Entry as entry
 use Rattle.rules.specs.Merge.{numberIn, isOneOf, recordTime}
-use Rattle.rules.proofs.AnswerLaws.{refused-ok, bind-in, bind-elim, if-inv, if-true, if-false, some-inj, none-some, later-in, T-true, octetsOf-ok, Octets, Split}
-use Rattle.rules.proofs.Tables.{category-every, distinct, tables-distinct, tables-few}
+use Rattle.rules.proofs.AnswerLaws.{refused-ok, bind-in, bind-elim, if-inv, if-true, if-false, some-inj, none-some, later-in, octetsOf-ok, Octets, Split}
+use Rattle.rules.proofs.Tables.{distinct, tables-hold, sound-of}
 use Rattle.rules.proofs.RecordLaws.{record-laws}
 use Rattle.rules.proofs.EntryLaws.{Lies, lies-second, itemOctets, RecordWritten, record-written, ItemFound, item-found, indexAs, start-found, start-absent}
 use Rattle.rules.proofs.NumberLaws.{IsNumber, number-item}
@@ -257,5 +258,5 @@ pub measure-is : (cat : ℕ) (c : Category) → categoryOf cat categories ≡ so
     → readRecord c bs ≡ ok (r, rest) → measureOf cat bs ≡ sized (length (octetsOf (writeRecord c r))) (recordTime c r)
 unfolding measureOf
 measure-is cat c named bs r rest o short reads =
-    measures (profileIn cat categories) c bs r rest (row cat c named) (category-every (λ d. distinct (places d)) categories cat c tables-distinct named)
-    (leb→le (length (places c)) 35 (T-true (category-every (λ d. leb (length (places d)) 35) categories cat c tables-few named))) o (omega arith) reads
+    measures (profileIn cat categories) c bs r rest (row cat c named) (sound-of categories tables-hold cat c named .references)
+    (sound-of categories tables-hold cat c named .few) o (omega arith) reads

@@ -11,7 +11,7 @@ use lib.Dec.{eqb, leb, ltb}
 use lib.ListN.{length}
 use borrow.Author.Tests.{eq-eqb, ne-eqb, eqb-true, eqb-false, le-leb, lt-leb, leb-true, lt-ltb, le-ltb, ltb-true, ltb-false}
 use Rattle.rules.specs.Answer.{Answer, ok, refused, if_then_else_}
-use Rattle.rules.specs.Entry.{categories}
+use Rattle.rules.specs.Catalogue.{categories}
 use Rattle.rules.specs.Merge.{Head}
 use Rattle.rules.proofs.AnswerLaws.{both-left, both-right, Octets}
 use Rattle.measuring.specs.declared.record.Measured.{Measured}

@@ -15,7 +15,8 @@ use Rattle.rules.specs.Record.{Category, Record, readRecord, writeRecord}
 use Rattle.rules.specs.Block.{Block, Head, categoryOf, writeAll, writeBlock, readHead}
 use Rattle.rules.specs.Layout.{writeNum}
 use Rattle.rules.specs.Recording.{writeRecording, readRecording}
-use Rattle.rules.specs.Entry.{categories, Counts, checkRecording}
+use Rattle.rules.specs.Catalogue.{categories}
+use Rattle.rules.specs.Entry.{Counts, checkRecording}
 use Rattle.rules.specs.Merge.{recordTime, headsOf, headsIn, blockHeads, Checked, accepted, unread, logOf}
 use Rattle.rules.specs.Merge as rules
 use Rattle.rules.proofs.AnswerLaws.{ok-inj, bind-in, bind-elim, need-in, need-elim, later-in, octetsOf-ok, Octets}
@@ -185,7 +186,7 @@ module _ (bs : List ℕ) (o : Octets bs) where
       omega (arith, some-octet c r u p, ap length (sym (ok-inj h₂)) ∙ length-append u us)
 
   heads-blocks : (ks : List Block) (b : ℕ) (us : List ℕ) → writeAll (writeBlock categories) ks ≡ ok us → drop b bs ≡ us → b ≤ length bs
-      → (c : Cursor) → c .block ≤ b → c .place ≡ b → c .end ≡ b → headsLeft bs c ≡ blockHeads b ks
+      → (c : Cursor) → c .block ≤ b → c .place ≡ b → c .end ≡ b → headsLeft bs c ≡ blockHeads categories b ks
   unfolding writeAll blockHeads
   heads-blocks [] b us h d l c low p q = at-last b l c low p q (d ∙ sym (ok-inj h))
   heads-blocks (k ∷ ks) b us h d l c low p q =
@@ -195,7 +196,7 @@ module _ (bs : List ℕ) (o : Octets bs) where
       let y : Category = w .category in
       let n : ℕ = length (octetsOf (writeBlock categories k)) in
       let m : n ≡ length u = ap length (octetsOf-ok f) in
-      let t : length u ≡ 3 + length (w .body) = block-length k u w in
+      let t : length u ≡ 3 + length (w .body) = block-length categories k u w in
       let j : drop b bs ≡ u ++ vs = d ∙ sym (ok-inj h₂) in
       let z : length bs - b ≡ length u + length vs = sym (length-drop b bs) ∙ ap length j ∙ length-append u vs in
       let named : categoryOf (y .cat) categories ≡ some y =
@@ -209,18 +210,18 @@ module _ (bs : List ℕ) (o : Octets bs) where
       ∙ heads-records y named b e (omega arith) (omega arith) (k .records) (b + 3) (w .body) (w .writes) (body-written b k u vs w j) (omega arith) (omega arith)
       ∙ ap (λ v. headsOf y (b + 3) (k .records) ++ v)
       (heads-blocks ks (b + n) vs g (sym (drop-drop n b bs) ∙ ap (drop n) j ∙ drop-at u vs n (sym m)) (omega arith) (record { block = b; place = e; end = e; category = y .cat }) (omega arith) last last)
-      ∙ sym (ap (λ v. headsIn v (b + 3) (k .records) ++ blockHeads (b + n) ks) (w .is-category))
+      ∙ sym (ap (λ v. headsIn v (b + 3) (k .records) ++ blockHeads categories (b + n) ks) (w .is-category))
 
   -- ---- an accepted log
 
-  pub heads-begin : (ks : List Block) → readRecording categories bs ≡ ok ks → headsLeft bs begin ≡ blockHeads 0 ks
+  pub heads-begin : (ks : List Block) → readRecording categories bs ≡ ok ks → headsLeft bs begin ≡ blockHeads categories 0 ks
   unfolding writeRecording
   heads-begin ks h = heads-blocks ks 0 bs (recording-forth categories bs ks o h) refl (omega arith) begin (omega arith) refl refl
 
-  pub log-on : (n : Counts) → checkRecording bs ≡ ok n → logOf bs ≡ accepted (headsLeft bs begin) (length bs)
+  pub log-on : (n : Counts) → checkRecording categories bs ≡ ok n → logOf categories bs ≡ accepted (headsLeft bs begin) (length bs)
   unfolding checkRecording
-  log-on n h = bind-elim _ _ h λ ks p h₁. log-read bs ks p ∙ ap (λ z. accepted z (length bs)) (sym (heads-begin ks p))
+  log-on n h = bind-elim _ _ h λ ks p h₁. log-read categories bs ks p ∙ ap (λ z. accepted z (length bs)) (sym (heads-begin ks p))
 
-pub log-off : (bs : List ℕ) (n p : ℕ) → checkRecording bs ≡ refused n p → logOf bs ≡ unread n p
+pub log-off : (bs : List ℕ) (n p : ℕ) → checkRecording categories bs ≡ refused n p → logOf categories bs ≡ unread n p
 unfolding checkRecording
-log-off bs n p h = log-refused bs n p (made-refused (readRecording categories bs) _ n p h)
+log-off bs n p h = log-refused categories bs n p (made-refused (readRecording categories bs) _ n p h)

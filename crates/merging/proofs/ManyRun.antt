@@ -6,6 +6,7 @@ use native.Mathlib.Nat.{zero-add, suc-add}
 use lib.ListN.{length}
 use lib.IntN.{ℤ}
 use Rattle.rules.specs.Answer.{if_then_else_}
+use Rattle.rules.specs.Catalogue.{categories}
 use Rattle.rules.specs.Merge.{Log, logA, logB, Span, mergeRun}
 use Rattle.rules.proofs.AnswerLaws.{Octets}
 use Rattle.merging.specs.declared.run.Log as code
@@ -55,7 +56,7 @@ module _ (as′ bs : List ℕ) where
 
   -- from the beginning, with room for all, it is the rule's run
   pub many-run : (o : ℤ) (m : Merge) → Octets as′ → Octets bs → beginOf as′ bs o ≡ begun.Ready m
-      → spansOf (manyOf (length as′ + length bs) as′ bs m .numbers) ≡ mergeRun as′ bs o
+      → spansOf (manyOf (length as′ + length bs) as′ bs m .numbers) ≡ mergeRun categories as′ bs o
   many-run o m oa ob e = many-moves (length as′ + length bs) m ∙ sym (ap (movesOf (length as′ + length bs) as′ bs) e) ∙ run-is as′ bs oa ob o
 
   -- ---- in two calls as in one

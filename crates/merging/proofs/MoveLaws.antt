@@ -6,6 +6,7 @@ use mathlib.Core.List.{List}
 use lib.ListN.{length}
 use lib.IntN.{ℤ}
 use Rattle.rules.specs.Answer.{ok, refused, if_then_else_}
+use Rattle.rules.specs.Catalogue.{categories}
 use Rattle.rules.specs.Entry.{Counts, checkRecording}
 use Rattle.rules.specs.Merge.{logA, logB, modDay, inRange}
 use Rattle.walking.specs.declared.Cursor.{Cursor}
@@ -55,16 +56,16 @@ module _ (as′ bs : List ℕ) (m : Merge) (w : Which) (e : whichIs w ≡ whichO
 -- ---- the beginning
 
 module _ (as′ bs : List ℕ) (o : ℤ) where
-  pub begin-a : (n p : ℕ) → refused n p ≡ checkRecording as′ → begun.NotAccepted log.A n p ≡ beginOf as′ bs o
+  pub begin-a : (n p : ℕ) → refused n p ≡ checkRecording categories as′ → begun.NotAccepted log.A n p ≡ beginOf as′ bs o
   unfolding beginOf
   begin-a n p e = rw (← e)
 
-  module _ (x : Counts) (ea : ok x ≡ checkRecording as′) where
-    pub begin-b : (n p : ℕ) → refused n p ≡ checkRecording bs → begun.NotAccepted log.B n p ≡ beginOf as′ bs o
+  module _ (x : Counts) (ea : ok x ≡ checkRecording categories as′) where
+    pub begin-b : (n p : ℕ) → refused n p ≡ checkRecording categories bs → begun.NotAccepted log.B n p ≡ beginOf as′ bs o
     unfolding beginOf
     begin-b n p e = rw (← ea, ← e)
 
-    module _ (y : Counts) (eb : ok y ≡ checkRecording bs) where
+    module _ (y : Counts) (eb : ok y ≡ checkRecording categories bs) where
       pub begin-22 : inRange o ≡ false → begun.Refused 22 ≡ beginOf as′ bs o
       unfolding beginOf if_then_else_
       begin-22 e = rw (← ea, ← eb, e)

@@ -10,6 +10,7 @@ use lib.ListN.{length}
 use lib.IntN.{ℤ}
 use denote.Ref.{RefT}
 use Rattle.rules.specs.Answer.{if_then_else_}
+use Rattle.rules.specs.Catalogue.{categories}
 use Rattle.rules.specs.Merge.{Log, logA, logB, choose, first, Head, Checked, accepted, unread, logOf, startOf, fromPlace, Told, next, finished, notAccepted, barred, Step, stay, goes, inRange, stepFrom, withPlaces, stepOf, mergeStep, partLog}
 use Rattle.rules.proofs.AnswerLaws.{some-inj, none-some, Octets}
 use Rattle.rules.proofs.RunLaws.{Rises}
@@ -70,18 +71,18 @@ places-inside o m n p q none y f g = omega arith
 places-inside o m n p q (some us) none f g = omega arith
 places-inside o m n p q (some us) (some vs) f g = from-inside o m n p q us vs (f us refl) (g vs refl)
 
-pub step-inside : (as′ bs : List ℕ) (p q : ℕ) (o : ℤ) → Octets as′ → Octets bs → Inside (length as′) (length bs) (mergeStep as′ bs p q o)
+pub step-inside : (as′ bs : List ℕ) (p q : ℕ) (o : ℤ) → Octets as′ → Octets bs → Inside (length as′) (length bs) (mergeStep categories as′ bs p q o)
 unfolding mergeStep stepOf if_then_else_
-step-inside as′ bs p q o oa ob = by (logOf as′) (logOf bs) refl refl
+step-inside as′ bs p q o oa ob = by (logOf categories as′) (logOf categories bs) refl refl
   where
-    by : (x y : Checked) → logOf as′ ≡ x → logOf bs ≡ y → Inside (length as′) (length bs) (stepOf x y p q o)
+    by : (x y : Checked) → logOf categories as′ ≡ x → logOf categories bs ≡ y → Inside (length as′) (length bs) (stepOf x y p q o)
     by (unread r f) y ea eb = omega arith
     by (accepted xs m) (unread r f) ea eb = omega arith
     by (accepted xs m) (accepted ys n) ea eb =
-        let ma : m ≡ length as′ = log-accepted as′ xs m ea .end in
-        let nb : n ≡ length bs = log-accepted bs ys n eb .end in
+        let ma : m ≡ length as′ = log-accepted categories as′ xs m ea .end in
+        let nb : n ≡ length bs = log-accepted categories bs ys n eb .end in
         let i : Inside m n (withPlaces o m n p q (fromPlace m p xs) (fromPlace n q ys)) =
-        places-inside o m n p q (fromPlace m p xs) (fromPlace n q ys) (λ us e. from-fits m 0 p xs us (log-rises as′ xs m oa ea) e) (λ vs e. from-fits n 0 q ys vs (log-rises bs ys n ob eb) e) in
+        places-inside o m n p q (fromPlace m p xs) (fromPlace n q ys) (λ us e. from-fits m 0 p xs us (log-rises categories as′ xs m oa ea) e) (λ vs e. from-fits n 0 q ys vs (log-rises categories bs ys n ob eb) e) in
         go (inRange o) (subst (λ z. Inside (length as′) z (withPlaces o m n p q (fromPlace m p xs) (fromPlace n q ys))) nb (subst (λ z. Inside z n (withPlaces o m n p q (fromPlace m p xs) (fromPlace n q ys))) ma i))
       where
         go : (t : Bool) → Inside (length as′) (length bs) (withPlaces o m n p q (fromPlace m p xs) (fromPlace n q ys))

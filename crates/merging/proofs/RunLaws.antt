@@ -7,6 +7,7 @@ use mathlib.Core.List.{List, [], _∷_}
 use lib.ListN.{length}
 use lib.IntN.{ℤ}
 use Rattle.rules.specs.Answer.{Answer, ok, refused, if_then_else_}
+use Rattle.rules.specs.Catalogue.{categories}
 use Rattle.rules.specs.Entry.{Counts, checkRecording}
 use Rattle.rules.specs.Merge.{modDay, Log, logA, logB, Head, Span, Checked, accepted, unread, logOf, startOf, fromPlace, next, finished, notAccepted, barred, Step, inRange, stepFrom, withPlaces, stepOf, whenNext, stepsOf, opening, extent, runOf, mergeRun}
 use Rattle.rules.specs.Merge as rules
@@ -116,20 +117,20 @@ module _ (as′ bs : List ℕ) (oa : Octets as′) (ob : Octets bs) (o : ℤ) wh
   none-22 e xs ys m n zero i j = refl
   none-22 e xs ys m n (suc k) i j = rw e
 
-  rises : (cs : List ℕ) → Octets cs → (n : Counts) → checkRecording cs ≡ ok n → Rises (length cs) 0 (headsLeft cs begin)
-  rises cs oc n h = log-rises cs (headsLeft cs begin) (length cs) oc (log-on cs oc n h)
+  rises : (cs : List ℕ) → Octets cs → (n : Counts) → checkRecording categories cs ≡ ok n → Rises (length cs) 0 (headsLeft cs begin)
+  rises cs oc n h = log-rises categories cs (headsLeft cs begin) (length cs) oc (log-on cs oc n h)
 
   abbrev Rule : Checked → Checked → List (Log × Span)
   Rule u v = stepsOf u v o (extent u + extent v) (opening u) (opening v)
 
   -- the run of the state is the rule's run, refused ones included
-  pub run-is : movesOf (length as′ + length bs) as′ bs (beginOf as′ bs o) ≡ mergeRun as′ bs o
+  pub run-is : movesOf (length as′ + length bs) as′ bs (beginOf as′ bs o) ≡ mergeRun categories as′ bs o
   unfolding beginOf mergeRun runOf if_then_else_
-  run-is = by (checkRecording as′) (checkRecording bs) refl refl
+  run-is = by (checkRecording categories as′) (checkRecording categories bs) refl refl
     where
-      ready : (x y : Counts) → checkRecording as′ ≡ ok x → checkRecording bs ≡ ok y → (t : Bool) → inRange o ≡ t
+      ready : (x y : Counts) → checkRecording categories as′ ≡ ok x → checkRecording categories bs ≡ ok y → (t : Bool) → inRange o ≡ t
           → movesOf (length as′ + length bs) as′ bs (if t then begun.Ready (record { a = standOf as′ begin; b = standOf bs begin; turn = modDay o }) else begun.Refused 22)
-          ≡ Rule (logOf as′) (logOf bs)
+          ≡ Rule (logOf categories as′) (logOf categories bs)
       ready x y ea eb true e =
           let hs : List Head = headsLeft as′ begin in
           let js : List Head = headsLeft bs begin in
@@ -143,8 +144,8 @@ module _ (as′ bs : List ℕ) (oa : Octets as′) (ob : Octets bs) (o : ℤ) wh
           ∙ sym (ap₂ Rule (log-on as′ oa x ea) (log-on bs ob y eb))
       ready x y ea eb false e = sym (ap₂ Rule (log-on as′ oa x ea) (log-on bs ob y eb) ∙ none-22 e _ _ _ _ _ _ _)
 
-      by : (x y : Answer Counts) → checkRecording as′ ≡ x → checkRecording bs ≡ y
-          → movesOf (length as′ + length bs) as′ bs (begunBy as′ bs o x y) ≡ Rule (logOf as′) (logOf bs)
-      by (refused n p) y ea eb = sym (ap (λ u. Rule u (logOf bs)) (log-off as′ n p ea) ∙ none-a n p (logOf bs) _ _ _)
+      by : (x y : Answer Counts) → checkRecording categories as′ ≡ x → checkRecording categories bs ≡ y
+          → movesOf (length as′ + length bs) as′ bs (begunBy as′ bs o x y) ≡ Rule (logOf categories as′) (logOf categories bs)
+      by (refused n p) y ea eb = sym (ap (λ u. Rule u (logOf categories bs)) (log-off as′ n p ea) ∙ none-a n p (logOf categories bs) _ _ _)
       by (ok x) (refused n p) ea eb = sym (ap₂ Rule (log-on as′ oa x ea) (log-off bs n p eb) ∙ none-b n p _ _ _ _ _)
       by (ok x) (ok y) ea eb = ready x y ea eb (inRange o) refl

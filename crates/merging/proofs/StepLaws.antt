@@ -8,6 +8,7 @@ use native.Mathlib.Omega.{arith}
 use lib.ListN.{length}
 use lib.IntN.{ℤ}
 use Rattle.rules.specs.Answer.{Answer, ok, refused, if_then_else_}
+use Rattle.rules.specs.Catalogue.{categories}
 use Rattle.rules.specs.Entry.{Counts, checkRecording}
 use Rattle.rules.specs.Merge.{Log, logA, logB, choose, first, modDay, Head, goes, inRange, startOf, fromPlace, stepFrom, withPlaces, stepOf, mergeStep}
 use Rattle.rules.proofs.AnswerLaws.{Octets}
@@ -151,16 +152,16 @@ module _ (as′ bs : List ℕ) (pa pb : ℕ) (w : Sought) (f : Found as′ w (fr
 -- ---- the whole step, by how a run begins
 
 data Opening (as′ bs : List ℕ) (pa pb : ℕ) (o : ℤ) : Type 0 where
-  closed : (l : code.Log) (n p : ℕ) → beginOf as′ bs o ≡ begun.NotAccepted l n p → stayed (told.NotAccepted l n p) pa pb ≡ mergedOf (mergeStep as′ bs pa pb o) → Opening as′ bs pa pb o
-  barred : (n : ℕ) → beginOf as′ bs o ≡ begun.Refused n → stayed (told.Refused n) pa pb ≡ mergedOf (mergeStep as′ bs pa pb o) → Opening as′ bs pa pb o
-  ready : (m : Merge) → beginOf as′ bs o ≡ begun.Ready m → m .turn ≡ modDay o → placesStep as′ bs pa pb o ≡ mergeStep as′ bs pa pb o → Opening as′ bs pa pb o
+  closed : (l : code.Log) (n p : ℕ) → beginOf as′ bs o ≡ begun.NotAccepted l n p → stayed (told.NotAccepted l n p) pa pb ≡ mergedOf (mergeStep categories as′ bs pa pb o) → Opening as′ bs pa pb o
+  barred : (n : ℕ) → beginOf as′ bs o ≡ begun.Refused n → stayed (told.Refused n) pa pb ≡ mergedOf (mergeStep categories as′ bs pa pb o) → Opening as′ bs pa pb o
+  ready : (m : Merge) → beginOf as′ bs o ≡ begun.Ready m → m .turn ≡ modDay o → placesStep as′ bs pa pb o ≡ mergeStep categories as′ bs pa pb o → Opening as′ bs pa pb o
 
 module _ (as′ bs : List ℕ) (pa pb : ℕ) (o : ℤ) (oa : Octets as′) (ob : Octets bs) where
   opening : Opening as′ bs pa pb o
   unfolding beginOf mergeStep stepOf placesStep if_then_else_
-  opening = by (checkRecording as′) (checkRecording bs) refl refl (inRange o) refl
+  opening = by (checkRecording categories as′) (checkRecording categories bs) refl refl (inRange o) refl
     where
-      by : (x y : Answer Counts) → checkRecording as′ ≡ x → checkRecording bs ≡ y → (t : Bool) → inRange o ≡ t → Opening as′ bs pa pb o
+      by : (x y : Answer Counts) → checkRecording categories as′ ≡ x → checkRecording categories bs ≡ y → (t : Bool) → inRange o ≡ t → Opening as′ bs pa pb o
       by (refused n p) y ea eb t e = closed log.A n p (rw ea) (rw (log-off as′ n p ea))
       by (ok x) (refused n p) ea eb t e = closed log.B n p (rw (ea, eb)) (rw (log-on as′ oa x ea, log-off bs n p eb))
       by (ok x) (ok y) ea eb false e = barred 22 (rw (ea, eb, e)) (rw (log-on as′ oa x ea, log-on bs ob y eb, e))
@@ -168,27 +169,27 @@ module _ (as′ bs : List ℕ) (pa pb : ℕ) (o : ℤ) (oa : Octets as′) (ob :
           ready (record { a = standOf as′ begin; b = standOf bs begin; turn = modDay o }) (rw (ea, eb, e)) refl (rw (log-on as′ oa x ea, log-on bs ob y eb, e))
 
   module _ (r : Begun) (h : r ≡ beginOf as′ bs o) where
-    pub at-closed : (l : code.Log) (n p : ℕ) → r ≡ begun.NotAccepted l n p → stayed (told.NotAccepted l n p) pa pb ≡ mergedOf (mergeStep as′ bs pa pb o)
+    pub at-closed : (l : code.Log) (n p : ℕ) → r ≡ begun.NotAccepted l n p → stayed (told.NotAccepted l n p) pa pb ≡ mergedOf (mergeStep categories as′ bs pa pb o)
     at-closed l n p g = by opening
       where
-        by : Opening as′ bs pa pb o → stayed (told.NotAccepted l n p) pa pb ≡ mergedOf (mergeStep as′ bs pa pb o)
+        by : Opening as′ bs pa pb o → stayed (told.NotAccepted l n p) pa pb ≡ mergedOf (mergeStep categories as′ bs pa pb o)
         by (closed k i j b s) = let q : stayed (told.NotAccepted l n p) pa pb ≡ stayed (told.NotAccepted k i j) pa pb = cc in q ∙ s
         by (barred i b s) = let z : _≡_ {A = ℕ} 0 1 = cc in absurd (omega arith)
         by (ready m b t s) = let z : _≡_ {A = ℕ} 0 1 = cc in absurd (omega arith)
 
-    pub at-barred : (n : ℕ) → r ≡ begun.Refused n → stayed (told.Refused n) pa pb ≡ mergedOf (mergeStep as′ bs pa pb o)
+    pub at-barred : (n : ℕ) → r ≡ begun.Refused n → stayed (told.Refused n) pa pb ≡ mergedOf (mergeStep categories as′ bs pa pb o)
     at-barred n g = by opening
       where
-        by : Opening as′ bs pa pb o → stayed (told.Refused n) pa pb ≡ mergedOf (mergeStep as′ bs pa pb o)
+        by : Opening as′ bs pa pb o → stayed (told.Refused n) pa pb ≡ mergedOf (mergeStep categories as′ bs pa pb o)
         by (closed k i j b s) = let z : _≡_ {A = ℕ} 0 1 = cc in absurd (omega arith)
         by (barred i b s) = let q : stayed (told.Refused n) pa pb ≡ stayed (told.Refused i) pa pb = cc in q ∙ s
         by (ready m b t s) = let z : _≡_ {A = ℕ} 0 1 = cc in absurd (omega arith)
 
     pub at-ready : (m : Merge) → r ≡ begun.Ready m → (x : Merged) → ((z : ℤ) → m .turn ≡ modDay z → x ≡ mergedOf (placesStep as′ bs pa pb z))
-        → x ≡ mergedOf (mergeStep as′ bs pa pb o)
+        → x ≡ mergedOf (mergeStep categories as′ bs pa pb o)
     at-ready m g x f = by opening
       where
-        by : Opening as′ bs pa pb o → x ≡ mergedOf (mergeStep as′ bs pa pb o)
+        by : Opening as′ bs pa pb o → x ≡ mergedOf (mergeStep categories as′ bs pa pb o)
         by (closed k i j b s) = let z : _≡_ {A = ℕ} 0 1 = cc in absurd (omega arith)
         by (barred i b s) = let z : _≡_ {A = ℕ} 0 1 = cc in absurd (omega arith)
         by (ready n b t s) = let q : m .turn ≡ n .turn = cc in f o (q ∙ t) ∙ ap mergedOf s

@@ -6,6 +6,7 @@ use mathlib.Core.Bool.{Bool}
 use mathlib.Core.List.{List}
 use lib.IntN.{ℤ}
 use denote.Ref.{RefT}
+use Rattle.rules.specs.Catalogue.{categories}
 use Rattle.rules.specs.Merge.{mergeStep}
 use Rattle.merging.specs.declared.heads.Standing.{Standing}
 use Rattle.merging.specs.declared.run.Merge.{Merge}
@@ -25,12 +26,12 @@ one-step «log_a» «log_b» self a b p q = p ∙ sym q
 pub one-begin-merge : («log_a» «log_b» : List ℕ) (offset : ℤ) (a b : Begun) → a ≡ beginOf «log_a» «log_b» offset → b ≡ beginOf «log_a» «log_b» offset → a ≡ b
 one-begin-merge «log_a» «log_b» offset a b p q = p ∙ sym q
 
-pub one-merge-at : («log_a» «log_b» : List ℕ) («place_a» «place_b» : ℕ) (offset : ℤ) (a b : Merged) → a ≡ mergedOf (mergeStep «log_a» «log_b» «place_a» «place_b» offset)
-    → b ≡ mergedOf (mergeStep «log_a» «log_b» «place_a» «place_b» offset) → a ≡ b
+pub one-merge-at : («log_a» «log_b» : List ℕ) («place_a» «place_b» : ℕ) (offset : ℤ) (a b : Merged) → a ≡ mergedOf (mergeStep categories «log_a» «log_b» «place_a» «place_b» offset)
+    → b ≡ mergedOf (mergeStep categories «log_a» «log_b» «place_a» «place_b» offset) → a ≡ b
 one-merge-at «log_a» «log_b» «place_a» «place_b» offset a b p q = p ∙ sym q
 
 pub one-merge-step : («log_a» «log_b» : RefT (List ℕ)) («place_a» «place_b» : ℕ) (offset : ℤ) (a b : RefT (List ℕ))
-    → PartOf «log_a» «log_b» a (mergeStep («log_a» .now) («log_b» .now) «place_a» «place_b» offset)
-    → PartOf «log_a» «log_b» b (mergeStep («log_a» .now) («log_b» .now) «place_a» «place_b» offset) → (a .ptr ≡ b .ptr) × (a .now ≡ b .now)
+    → PartOf «log_a» «log_b» a (mergeStep categories («log_a» .now) («log_b» .now) «place_a» «place_b» offset)
+    → PartOf «log_a» «log_b» b (mergeStep categories («log_a» .now) («log_b» .now) «place_a» «place_b» offset) → (a .ptr ≡ b .ptr) × (a .now ≡ b .now)
 one-merge-step «log_a» «log_b» «place_a» «place_b» offset a b p q =
     (ap₂ (λ u v. (u, v)) (p .block ∙ sym (q .block)) (p .offset ∙ sym (q .offset)), p .bytes ∙ sym (q .bytes))

@@ -7,6 +7,7 @@ use lib.Dec.{leb}
 use lib.ListN.{length}
 use lib.IntN.{ℤ}
 use Rattle.rules.specs.Answer.{Answer, ok, refused, if_then_else_}
+use Rattle.rules.specs.Catalogue.{categories}
 use Rattle.rules.specs.Entry.{Counts, checkRecording}
 use Rattle.rules.specs.Merge.{day, halfDay, modDay, Log, logA, logB, logIf, Span, inRange}
 use Rattle.rules.specs.Merge as rules
@@ -82,7 +83,7 @@ begunBy as′ bs offset (ok x) (ok y) =
     if inRange offset then begun.Ready (record { a = standOf as′ begin; b = standOf bs begin; turn = modDay offset }) else begun.Refused 22
 
 unfoldable pub beginOf : List ℕ → List ℕ → ℤ → Begun
-beginOf as′ bs offset = begunBy as′ bs offset (checkRecording as′) (checkRecording bs)
+beginOf as′ bs offset = begunBy as′ bs offset (checkRecording categories as′) (checkRecording categories bs)
 
 -- ---- so many steps: the parts that they hand out
 

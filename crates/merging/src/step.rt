@@ -10,6 +10,7 @@ ghost use mathlib.Core.Path.{_≡_};
 ghost use Prim.Native.Nat.{_+_, _≤_};
 ghost use lib.ListN.{length};
 ghost use lib.IntN.{ℤ};
+ghost use Rattle.rules.specs.Catalogue.{categories};
 ghost use Rattle.rules.specs.Merge.{modDay, mergeStep};
 ghost use Rattle.finding.specs.Part.{VeryPart};
 ghost use Rattle.merging.specs.Step.{stayed, mergedOf, placesStep, partIn, PartOf};
@@ -68,7 +69,7 @@ fn step_from(log_a: &[u8], log_b: &[u8], place_a: usize, place_b: usize, turn: u
 
 // Which record comes next, and the new places: the logs' own refusals and 22 as where a run begins, then 23.
 pub fn merge_at(log_a: &[u8], log_b: &[u8], place_a: usize, place_b: usize, offset: i64) -> Merged
-    ensures { λ r. ⌜ r ≡ mergedOf (mergeStep (now («log_a» .entry)) (now («log_b» .entry)) «place_a» «place_b» offset) ⌝ }
+    ensures { λ r. ⌜ r ≡ mergedOf (mergeStep categories (now («log_a» .entry)) (now («log_b» .entry)) «place_a» «place_b» offset) ⌝ }
 {
     let begun = begin_merge(log_a, log_b, offset);
     match begun {
@@ -117,7 +118,7 @@ pub fn merge_step<'a>(
     place_b: usize,
     offset: i64,
 ) -> &'a [u8]
-    ensures { λ r. ⌜ PartOf («log_a» .entry) («log_b» .entry) r (mergeStep (now («log_a» .entry)) (now («log_b» .entry)) «place_a» «place_b» offset) ⌝ }
+    ensures { λ r. ⌜ PartOf («log_a» .entry) («log_b» .entry) r (mergeStep categories (now («log_a» .entry)) (now («log_b» .entry)) «place_a» «place_b» offset) ⌝ }
 {
     let merged = merge_at(log_a, log_b, place_a, place_b, offset);
     let told = merged.told;

@@ -17,7 +17,7 @@ use borrow.Author.Tests.{leb-true, ltb-true, eqb-true, eq-eqb, ne-eqb}
 use Rattle.rules.specs.Answer.{Answer, ok}
 use Rattle.rules.specs.Category017.{category017}
 use Rattle.rules.specs.Category018.{category018}
-use Rattle.rules.specs.Entry.{categories}
+use Rattle.rules.specs.Catalogue.{categories}
 use Rattle.rules.specs.Layout.{joined}
 use Rattle.rules.proofs.AnswerLaws.{Octets, both-left, both-right}
 use Rattle.tables.specs.declared.tables.LayoutRow.{LayoutRow}

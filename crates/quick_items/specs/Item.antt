@@ -8,7 +8,7 @@ use lib.Dec.{leb, ltb, eqb}
 use lib.ListN.{getD}
 use lib.Seq.{slice}
 use Rattle.rules.specs.Answer.{Answer, ok}
-use Rattle.rules.specs.Entry.{categories}
+use Rattle.rules.specs.Catalogue.{categories}
 use Rattle.tables.specs.declared.tables.LayoutRow.{LayoutRow}
 use Rattle.tables.specs.declared.tables.PlaceRow.{PlaceRow}
 use Rattle.tables.specs.Tables.{groupAt, layoutAt, profileRows}

@@ -12,7 +12,8 @@ use lib.Seq.{length-take-le}
 use Rattle.rules.specs.Answer.{Answer, ok, refused, _>>=_, later}
 use Rattle.rules.specs.Block.{Block, writeBlock, readUpTo, readAll, readBlock, readBody}
 use Rattle.rules.specs.Recording.{readRecording}
-use Rattle.rules.specs.Entry.{categories, countRecords, Counts, checkRecording}
+use Rattle.rules.specs.Catalogue.{categories}
+use Rattle.rules.specs.Entry.{countRecords, Counts, checkRecording}
 use Rattle.rules.proofs.AnswerLaws.{refused-ok, ok-inj, bind-elim, bind-cong, need-elim, later-inv, Octets, Split, after}
 use Rattle.rules.proofs.RecordLaws.{record-laws, record-starts}
 use Rattle.rules.proofs.BlockLaws.{block-laws, block-starts, HeadCame, head-forth}
@@ -75,7 +76,7 @@ counts b r = record { blocks = b; records = r }
 unfoldable pub countsFrom : ℕ → ℕ → ℕ → List ℕ → Answer Counts
 countsFrom b r k bs = later k (readAll (readBlock leb categories) bs) >>= λ ks. ok (counts (b + length ks) (r + countRecords ks))
 
-pub counts-start : (bs : List ℕ) → countsFrom 0 0 0 bs ≡ checkRecording bs
+pub counts-start : (bs : List ℕ) → countsFrom 0 0 0 bs ≡ checkRecording categories bs
 unfolding countsFrom checkRecording readRecording
 counts-start bs =
     ap (λ z. z >>= λ ks. ok (counts (0 + length ks) (0 + countRecords ks))) (later-zero (readAll (readBlock leb categories) bs))
@@ -105,7 +106,7 @@ counts-turn b r k bs rest f o t left =
 -- ---- how large they are
 
 -- in terms of the rule on what is left
-pub counts-on : (b r k : ℕ) (bs : List ℕ) → countsFrom b r k bs ≡ (later k (checkRecording bs) >>= λ j. ok (counts (b + j .blocks) (r + j .records)))
+pub counts-on : (b r k : ℕ) (bs : List ℕ) → countsFrom b r k bs ≡ (later k (checkRecording categories bs) >>= λ j. ok (counts (b + j .blocks) (r + j .records)))
 unfolding countsFrom checkRecording readRecording
 counts-on b r k bs =
     sym (later-made k (readAll (readBlock leb categories) bs) (λ ks. counts (length ks) (countRecords ks)) (λ j. ok (counts (b + j .blocks) (r + j .records))))
@@ -122,14 +123,14 @@ records-sum (suc f) (b ∷ bs) ks o h =
     let t : Taken (b ∷ bs) (x .1) (suc (length bs) - length (x .1)) = taken (block-laws categories) (block-starts categories) (x .0) (b ∷ bs) (x .1) o p in
     rw (← ok-inj h₂) (omega (arith, records-few (b ∷ bs) (x .1) (x .0) o p, records-sum f (x .1) js (after s o) (later-inv _ _ q), t .whole))
 
-pub counts-few : (bs : List ℕ) (k : Counts) → Octets bs → checkRecording bs ≡ ok k → (k .blocks ≤ length bs) × (k .records ≤ length bs)
+pub counts-few : (bs : List ℕ) (k : Counts) → Octets bs → checkRecording categories bs ≡ ok k → (k .blocks ≤ length bs) × (k .records ≤ length bs)
 unfolding checkRecording readRecording readAll
 counts-few bs k o h =
     bind-elim _ _ h λ ks p h₁.
     let e : counts (length ks) (countRecords ks) ≡ k = ok-inj h₁ in
     rw (← e) (all-few (block-laws categories) (block-starts categories) bs ks p, records-sum (length bs) bs ks o p)
 
-pub place-few : (bs : List ℕ) → Octets bs → Inside (length bs) (checkRecording bs)
+pub place-few : (bs : List ℕ) → Octets bs → Inside (length bs) (checkRecording categories bs)
 unfolding checkRecording readRecording readAll
 place-few bs o = bind-inside (length bs) _ _ (upTo-inside (block-laws categories) block-inside (length bs) bs o) (λ ks e. ok-inside _ _)
 
@@ -140,7 +141,7 @@ pub record Checking (whole rest : List ℕ) (place blocks records : ℕ) : Type 
   pub blocks-few : blocks + length rest ≤ length whole
   pub records-few : records + length rest ≤ length whole
   pub octets : Octets rest
-  pub same : countsFrom blocks records place rest ≡ checkRecording whole
+  pub same : countsFrom blocks records place rest ≡ checkRecording categories whole
 
 pub check-start : (bs : List ℕ) → Octets bs → Checking bs bs 0 0 0
 check-start bs o = record { place-is = zero-add _; blocks-few = omega arith; records-few = omega arith; octets = o; same = counts-start bs }

@@ -16,7 +16,8 @@ use lib.Seq.{length-take-le, getD-take, drop-at, take-append-le, drop-append-le}
 use Rattle.rules.specs.Answer.{Answer, ok, refused, _>>=_, need_or_then_, if_then_else_, expect_or_, later}
 use Rattle.rules.specs.Layout.{flatten}
 use Rattle.rules.specs.Block.{Head, categoryOf}
-use Rattle.rules.specs.Entry.{categories, Counts, checkRecording}
+use Rattle.rules.specs.Catalogue.{categories}
+use Rattle.rules.specs.Entry.{Counts, checkRecording}
 use Rattle.rules.proofs.AnswerLaws.{refused-ok, ok-inj, bind-in, bind-out, bind-elim, need-in, later-in, later-out, if-inv, if-true, if-false, Octets, octets-left, octets-right}
 use Rattle.blocks.specs.Read.{lenAt, headAt, headBy, countFrom, bodyAt, Front, checkFront}
 use Rattle.blocks.proofs.HeadLaws.{by-no-head, by-head, Headed, headed, front-refused, front-empty, front-body}
@@ -79,24 +80,24 @@ pub fed-stop : (n p : ℕ) (piece : List ℕ) → fed (refused n p) piece ≡ re
 unfolding fed _>>=_
 fed-stop n p piece = refl
 
-pub fed-more : (a : SoFar) (piece : List ℕ) (k : Counts) → checkRecording piece ≡ ok k
+pub fed-more : (a : SoFar) (piece : List ℕ) (k : Counts) → checkRecording categories piece ≡ ok k
     → fed (ok a) piece ≡ ok (sofar (capped (a .place + length piece)) (capped (a .blocks + k .blocks)) (capped (a .records + k .records)))
 unfolding fed _>>=_
 fed-more a piece k h = bind-in _ (ap (placed (a .place)) h) refl
 
-pub fed-bad : (a : SoFar) (piece : List ℕ) (n p : ℕ) → checkRecording piece ≡ refused n p → fed (ok a) piece ≡ refused n (capped (a .place + p))
+pub fed-bad : (a : SoFar) (piece : List ℕ) (n p : ℕ) → checkRecording categories piece ≡ refused n p → fed (ok a) piece ≡ refused n (capped (a .place + p))
 unfolding fed _>>=_
 fed-bad a piece n p h = bind-out _ (ap (placed (a .place)) h)
 
 -- as the code sums
-pub fed-on : (s : Answer SoFar) (a : SoFar) (piece : List ℕ) (k : Counts) (x y z : ℕ) → s ≡ ok a → checkRecording piece ≡ ok k
+pub fed-on : (s : Answer SoFar) (a : SoFar) (piece : List ℕ) (k : Counts) (x y z : ℕ) → s ≡ ok a → checkRecording categories piece ≡ ok k
     → x ≡ capped (a .place + length piece) → y ≡ capped (a .blocks + k .blocks) → z ≡ capped (a .records + k .records) → ok (sofar x y z) ≡ fed s piece
 fed-on s a piece k x y z e h p q r =
     ap (λ n. ok (sofar n y z)) p
     ∙ ap₂ (λ m n. ok (sofar (capped (a .place + length piece)) m n)) q r
     ∙ sym (ap (λ t. fed t piece) e ∙ fed-more a piece k h)
 
-pub fed-off : (s : Answer SoFar) (a : SoFar) (piece : List ℕ) (n p x : ℕ) → s ≡ ok a → checkRecording piece ≡ refused n p → x ≡ capped (a .place + p) → refused n x ≡ fed s piece
+pub fed-off : (s : Answer SoFar) (a : SoFar) (piece : List ℕ) (n p x : ℕ) → s ≡ ok a → checkRecording categories piece ≡ refused n p → x ≡ capped (a .place + p) → refused n x ≡ fed s piece
 fed-off s a piece n p x e h q = ap (refused n) q ∙ sym (ap (λ t. fed t piece) e ∙ fed-bad a piece n p h)
 
 -- ---- a whole block before the rest
@@ -207,7 +208,7 @@ unfolding finished _>>=_
 finish-refused n p = refl
 
 -- a whole block alone
-whole-alone : (p : List ℕ) (f : Front) → Octets p → FrontTaken p f → f .len ≡ length p → checkRecording p ≡ ok (counts 1 (f .records))
+whole-alone : (p : List ℕ) (f : Front) → Octets p → FrontTaken p f → f .len ≡ length p → checkRecording categories p ≡ ok (counts 1 (f .records))
 whole-alone p f o t e =
     sym (counts-start p)
     ∙ counts-turn 0 0 0 p (drop (f .len) p) f o t refl
@@ -241,14 +242,14 @@ module _ (a : SoFar) (p rest : List ℕ) (whole : Whole p) (o : Octets (p ++ res
     first = fed-more a p (counts 1 (f .records)) (whole-alone p f p-octets (front-taken p f p-octets e) n)
 
     -- the whole's answer by the rest's
-    both : checkRecording (p ++ rest) ≡ (later (0 + f .len) (checkRecording rest) >>= λ j. ok (counts (0 + 1 + j .blocks) (0 + f .records + j .records)))
+    both : checkRecording categories (p ++ rest) ≡ (later (0 + f .len) (checkRecording categories rest) >>= λ j. ok (counts (0 + 1 + j .blocks) (0 + f .records + j .records)))
     both =
         let t : FrontTaken (p ++ rest) f = front-taken (p ++ rest) f o (same-front p rest whole ∙ e) in
         sym (counts-start (p ++ rest)) ∙ counts-turn 0 0 0 (p ++ rest) rest f o t (sym (drop-at p rest (f .len) (sym n))) ∙ counts-on (0 + 1) (0 + f .records) (0 + f .len) rest
 
     block-accepted : Alike
     unfolding Alike
-    block-accepted = by-answer (checkRecording rest) (fed (ok a) (p ++ rest) ≡ fed (fed (ok a) p) rest)
+    block-accepted = by-answer (checkRecording categories rest) (fed (ok a) (p ++ rest) ≡ fed (fed (ok a) p) rest)
         (λ k r.
         let x : a .place + length (p ++ rest) ≡ a .place + length p + length rest = omega (arith, all-length) in
         let y : a .blocks + (0 + 1 + k .blocks) ≡ a .blocks + 1 + k .blocks = omega arith in
@@ -282,7 +283,7 @@ Fit (refused n p) = Unit {0}
 fed-fits : (s : Answer SoFar) (p : List ℕ) → Fit (fed s p)
 fed-fits (refused n q) p = subst Fit (sym (fed-stop n q p)) tt
 fed-fits (ok a) p =
-    by-answer (checkRecording p) (Fit (fed (ok a) p))
+    by-answer (checkRecording categories p) (Fit (fed (ok a) p))
     (λ k e. subst Fit (sym (fed-more a p k e)) (capped-fits (a .place + length p), capped-fits (a .blocks + k .blocks), capped-fits (a .records + k .records)))
     (λ n q e. subst Fit (sym (fed-bad a p n q e)) tt)
 
@@ -340,9 +341,9 @@ fed-all s p (q ∷ ps) f w o =
     ∙ ap (λ z. fed s (z ++ later-on)) (b .are)
 
 -- a recording that is fed at once
-fed-whole : (p : List ℕ) → Octets p → length p < 2 ^ 64 → finished (fed started p) ≡ checkRecording p
+fed-whole : (p : List ℕ) → Octets p → length p < 2 ^ 64 → finished (fed started p) ≡ checkRecording categories p
 fed-whole p o l =
-    by-answer (checkRecording p) (finished (fed started p) ≡ checkRecording p)
+    by-answer (checkRecording categories p) (finished (fed started p) ≡ checkRecording categories p)
     (λ k e.
     let (u, v) = counts-few p k o e in
     ap finished (fed-more (sofar 0 0 0) p k e) ∙ finish-ok _
@@ -353,7 +354,7 @@ fed-whole p o l =
     ∙ ap (refused n) (ap capped (zero-add q) ∙ capped-is q (omega (arith, place-few p o n q e, l))) ∙ sym e)
 
 -- FEEDING IS CHECKING: however a recording is cut at its blocks' ends, the last piece being what is left over, the answer is that of the whole
-pub feeding : (ps : List (List ℕ)) → Octets (flatten ps) → length (flatten ps) < 2 ^ 64 → Pieces ps → finished (feedAll started ps) ≡ checkRecording (flatten ps)
+pub feeding : (ps : List (List ℕ)) → Octets (flatten ps) → length (flatten ps) < 2 ^ 64 → Pieces ps → finished (feedAll started ps) ≡ checkRecording categories (flatten ps)
 feeding [] o l w = finish-ok (sofar 0 0 0) ∙ sym (sym (counts-start []) ∙ counts-end 0 0 0 [] refl)
 feeding (p ∷ ps) o l w = ap finished (fed-all started p ps (omega arith, omega arith, omega arith) w o) ∙ fed-whole (flatten (p ∷ ps)) o l
 
@@ -404,7 +405,7 @@ cut-pieces (suc f) bs =
     (λ (e, g). subst Pieces g tt)
     (if-inv (ltb (blockLength bs) (length bs)) (take (blockLength bs) bs ∷ cutFrom f (drop (blockLength bs) bs)) (bs ∷ []) refl)
 
-pub cutting : (bs : List ℕ) → Octets bs → length bs < 2 ^ 64 → finished (feedAll started (cutFrom (length bs) bs)) ≡ checkRecording bs
+pub cutting : (bs : List ℕ) → Octets bs → length bs < 2 ^ 64 → finished (feedAll started (cutFrom (length bs) bs)) ≡ checkRecording categories bs
 cutting bs o l =
     let e : flatten (cutFrom (length bs) bs) ≡ bs = cut-joins (length bs) bs in
-    feeding (cutFrom (length bs) bs) (subst Octets (sym e) o) (subst (λ z. length z < 2 ^ 64) (sym e) l) (cut-pieces (length bs) bs) ∙ ap checkRecording e
+    feeding (cutFrom (length bs) bs) (subst Octets (sym e) o) (subst (λ z. length z < 2 ^ 64) (sym e) l) (cut-pieces (length bs) bs) ∙ ap (checkRecording categories) e

@@ -5,6 +5,7 @@ use Prim.Native.Nat.{ℕ}
 use mathlib.Core.Path.{_≡_, sym, ap, ap₂, _∙_}
 use mathlib.Core.List.{List}
 use native.Mathlib.Omega.{arith}
+use Rattle.rules.specs.Catalogue.{categories}
 use Rattle.rules.specs.Entry.{checkRecording}
 use Rattle.rules.proofs.AnswerLaws.{ok-inj}
 use Rattle.recordings.specs.declared.RecordingChecked.{RecordingChecked}
@@ -24,7 +25,7 @@ counts-told (recordingChecked.Refused m q) (recordingChecked.Accepted l n) e = l
 counts-told (recordingChecked.Refused m q) (recordingChecked.Refused n p) e = cc
 
 pub one-check-recording : (recording : List ℕ) (a b : RecordingChecked)
-    → countsOf a ≡ checkRecording recording → countsOf b ≡ checkRecording recording → a ≡ b
+    → countsOf a ≡ checkRecording categories recording → countsOf b ≡ checkRecording categories recording → a ≡ b
 one-check-recording recording a b p q = counts-told a b (p ∙ sym q)
 
 pub one-finish : (self : RecordingState) (a b : RecordingChecked)

@@ -7,6 +7,7 @@ use mathlib.Core.List.{List}
 use lib.Dec.{leb}
 use lib.ListN.{length}
 use Rattle.rules.specs.Answer.{Answer, ok, refused, _>>=_, if_then_else_}
+use Rattle.rules.specs.Catalogue.{categories}
 use Rattle.rules.specs.Entry.{Counts, checkRecording}
 use Rattle.blocks.specs.Read.{lenAt}
 
@@ -31,7 +32,7 @@ placed k (refused n p) = refused n (capped (k + p))
 unfoldable pub fed : Answer SoFar → List ℕ → Answer SoFar
 fed s piece = do
   a ← s
-  k ← placed (a .place) (checkRecording piece)
+  k ← placed (a .place) (checkRecording categories piece)
   ok (record {
     place = capped (a .place + length piece);
     blocks = capped (a .blocks + k .blocks);

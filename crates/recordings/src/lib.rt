@@ -6,6 +6,7 @@ use quick_records::Types;
 ghost use mathlib.Core.Path.{_≡_};
 ghost use mathlib.Core.Bool.{true};
 ghost use Prim.Native.Nat.{_+_, _<_};
+ghost use Rattle.rules.specs.Catalogue.{categories};
 ghost use Rattle.rules.specs.Entry.{checkRecording};
 ghost use Rattle.quick_items.specs.Item.{soundSteps};
 ghost use Rattle.quick_records.specs.Record.{soundTypes};
@@ -40,7 +41,7 @@ fn front_place(front: FrontChecked) -> usize
 // All of a recording, which may be empty. The tables are lent, so that its blocks share them.
 fn check_blocks(steps: &Steps, types: &Types, sets: &Sets, recording: &[u8]) -> RecordingChecked
     requires { ⌜ (soundSteps (now steps) ≡ true) × (soundTypes (now types) ≡ true) × (soundSets (now sets) ≡ true) ⌝ }
-    ensures { λ r. ⌜ countsOf r ≡ checkRecording (now (recording .entry)) ⌝ }
+    ensures { λ r. ⌜ countsOf r ≡ checkRecording categories (now (recording .entry)) ⌝ }
 {
     let mut rest = recording;
     let mut place: usize = 0;
@@ -66,7 +67,7 @@ fn check_blocks(steps: &Steps, types: &Types, sets: &Sets, recording: &[u8]) -> 
 }
 
 pub fn check_recording(recording: &[u8]) -> RecordingChecked
-    ensures { λ r. ⌜ countsOf r ≡ checkRecording (now (recording .entry)) ⌝ }
+    ensures { λ r. ⌜ countsOf r ≡ checkRecording categories (now (recording .entry)) ⌝ }
 {
     let steps = quick_items::steps();
     let types = quick_records::type_table();

@@ -13,7 +13,8 @@ use Rattle.rules.specs.Field.{Field, spare, value, Kind, unsigned, signed, get,
 use Rattle.rules.specs.Layout.{Layout, fixed, repeated, led, extended, flatten, readNum, readMany, readChain, readParts, unpackAll, readItem}
 use Rattle.rules.specs.Presence.{placeAt}
 use Rattle.rules.specs.Record.{Place}
-use Rattle.rules.specs.Entry.{categories, profileAt}
+use Rattle.rules.specs.Catalogue.{categories}
+use Rattle.rules.specs.Entry.{profileAt}
 use Rattle.rules.proofs.AnswerLaws.{refused-ok, ok-inj, bind-elim, expect-elim, none-some}
 use Rattle.items.specs.Answers.{sizeOf, checkAt}
 use Rattle.sets.proofs.ProfileLaws.{profile-at, places-few}

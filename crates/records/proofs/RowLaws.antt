@@ -16,7 +16,8 @@ use Rattle.rules.specs.Answer.{Answer, ok, refused, _>>=_, later, octetsOf}
 use Rattle.rules.specs.Layout.{Values, flatten}
 use Rattle.rules.specs.Presence.{flags, usable, readRow, readRows}
 use Rattle.rules.specs.Record.{Place, Record, places, readPlace, writePlace}
-use Rattle.rules.specs.Entry.{categories, profileAt}
+use Rattle.rules.specs.Catalogue.{categories}
+use Rattle.rules.specs.Entry.{profileAt}
 use Rattle.rules.proofs.AnswerLaws.{bind-in, bind-out, bind-cong, later-in, later-out, expect-in, octetsOf-ok, Octets, Split, after}
 use Rattle.rules.proofs.PresenceLaws.{usable-length, row-forth}
 use Rattle.rules.proofs.RecordLaws.{place-laws}

@@ -14,7 +14,7 @@ use Rattle.rules.specs.Record.{valueOf, typeOf, messageOf, judge, writeP
 use Rattle.rules.specs.Block.{categoryOf, readUpTo, readAll, readHead, readBody, readBlock}
 use Rattle.rules.specs.Category017.{category017}
 use Rattle.rules.specs.Category018.{category018}
-use Rattle.rules.specs.Entry.{categories}
+use Rattle.rules.specs.Catalogue.{categories}
 use Rattle.rules.specs.Block.{writeAll, writeBlock}
 use Rattle.rules.specs.Recording.{readRecording}
 use Rattle.rules.specs.Merge.{modDay, gap, inRange, recordTime, logA, logB, first, Head, headsOf, blockHeads, accepted, logOf, fromPlace, finished, barred, goes, stay, stepFrom, withPlaces, stepOf, mergeStep}
@@ -57,20 +57,20 @@ response = record { place = 3; size = 20; time = some 3_686_400 }
 abbrev extraction : Head
 extraction = record { place = 23; size = 19; time = none }
 
-pub log-017 : logOf tracks ≡ accepted (track ∷ []) 31
+pub log-017 : logOf categories tracks ≡ accepted (track ∷ []) 31
 unfolding _>>=_ need_or_then_ if_then_else_ expect_or_ later octetsOf get unpack joined octets readNum writeNum writeMany readMany writeChain readChain writeParts readParts put pack packAll unpackAll readItem writeItem flags number usable house numbers flagRows readPresence writePresence readRow readRows readPlaces writeRow writeRows writePlaces valueOf typeOf messageOf judge readPlace writePlace readRecord writeRecord readUpTo readAll categoryOf readHead readBody readBlock category017 category018 categories writeAll writeBlock readRecording recordTime headsOf blockHeads logOf
 log-017 = refl
 
-pub log-018 : logOf extractions ≡ accepted (response ∷ extraction ∷ []) 42
+pub log-018 : logOf categories extractions ≡ accepted (response ∷ extraction ∷ []) 42
 unfolding _>>=_ need_or_then_ if_then_else_ expect_or_ later octetsOf get unpack joined octets readNum writeNum writeMany readMany writeChain readChain writeParts readParts put pack packAll unpackAll readItem writeItem flags number usable house numbers flagRows readPresence writePresence readRow readRows readPlaces writeRow writeRows writePlaces valueOf typeOf messageOf judge readPlace writePlace readRecord writeRecord readUpTo readAll categoryOf readHead readBody readBlock category017 category018 categories writeAll writeBlock readRecording recordTime headsOf blockHeads logOf
 log-018 = refl
 
 -- equal times are A's; an offset of -1 turns them to B's; an untimed record goes before a timed one; at both ends; the offset before the place
-pub steps-from : (mergeStep tracks extractions 3 3 (pos 0) ≡ goes logA track 31 3)
-    × (mergeStep tracks extractions 3 3 (negsuc 0) ≡ goes logB response 3 23)
-    × (mergeStep tracks extractions 3 23 (pos 0) ≡ goes logB extraction 3 42)
-    × (mergeStep tracks extractions 31 42 (pos 0) ≡ stay finished 31 42)
-    × (mergeStep tracks extractions 0 3 (pos 0) ≡ stay (barred 23) 0 3)
-    × (mergeStep tracks extractions 0 3 (pos 46_081) ≡ stay (barred 22) 0 3)
+pub steps-from : (mergeStep categories tracks extractions 3 3 (pos 0) ≡ goes logA track 31 3)
+    × (mergeStep categories tracks extractions 3 3 (negsuc 0) ≡ goes logB response 3 23)
+    × (mergeStep categories tracks extractions 3 23 (pos 0) ≡ goes logB extraction 3 42)
+    × (mergeStep categories tracks extractions 31 42 (pos 0) ≡ stay finished 31 42)
+    × (mergeStep categories tracks extractions 0 3 (pos 0) ≡ stay (barred 23) 0 3)
+    × (mergeStep categories tracks extractions 0 3 (pos 46_081) ≡ stay (barred 22) 0 3)
 unfolding mergeStep stepOf withPlaces fromPlace stepFrom first gap modDay if_then_else_
 steps-from = rw (log-017, log-018) (refl, refl, refl, refl, refl, refl)

@@ -1,5 +1,5 @@
 -- Two logs on one line (document 02, W-201): which record comes next, from a place in each of two recordings; and the run from both first records. What is
--- quoted is W-201's own. Assumes nothing.
+-- quoted is W-201's own. Of any list of categories. Assumes nothing.
 --
 -- In order: times modulo a day; a record's time; which of two records goes first; the records of a log; a step; the run.
 use Prim.Native.Nat.{ℕ, zero, suc, _+_, _-_, _%_}
@@ -15,7 +15,6 @@ use Rattle.rules.specs.Presence.{has}
 use Rattle.rules.specs.Record.{Category, Record, items, valueOf, typeOf, writeRecord}
 use Rattle.rules.specs.Block.{Block, categoryOf, writeBlock}
 use Rattle.rules.specs.Recording.{readRecording}
-use Rattle.rules.specs.Entry.{categories}
 
 -- ---- times of day, in units of 1/128 s
 
@@ -95,21 +94,21 @@ headsIn none k rs = []
 headsIn (some c) k rs = headsOf c k rs
 
 -- blocks end to end, the first at a place: a block's first record follows its three octets CAT and LEN
-unfoldable pub blockHeads : ℕ → List Block → List Head
-blockHeads b [] = []
-blockHeads b (k ∷ ks) = headsIn (categoryOf (k .cat) categories) (b + 3) (k .records) ++ blockHeads (b + length (octetsOf (writeBlock categories k))) ks
+unfoldable pub blockHeads : List Category → ℕ → List Block → List Head
+blockHeads cs b [] = []
+blockHeads cs b (k ∷ ks) = headsIn (categoryOf (k .cat) cs) (b + 3) (k .records) ++ blockHeads cs (b + length (octetsOf (writeBlock cs k))) ks
 
 -- a log that was checked: its records and its length, or the refusal
 pub data Checked : Type 0 where
   accepted : List Head → ℕ → Checked
   unread : ℕ → ℕ → Checked
 
-abbrev pub checkedAs : ℕ → Answer (List Block) → Checked
-checkedAs end (ok ks) = accepted (blockHeads 0 ks) end
-checkedAs end (refused n p) = unread n p
+abbrev pub checkedAs : List Category → ℕ → Answer (List Block) → Checked
+checkedAs cs end (ok ks) = accepted (blockHeads cs 0 ks) end
+checkedAs cs end (refused n p) = unread n p
 
-unfoldable pub logOf : List ℕ → Checked
-logOf bs = checkedAs (length bs) (readRecording categories bs)
+unfoldable pub logOf : List Category → List ℕ → Checked
+logOf cs bs = checkedAs cs (length bs) (readRecording cs bs)
 
 -- "the next record's start or the log's end", where these come next
 abbrev pub startOf : ℕ → List Head → ℕ
@@ -179,8 +178,8 @@ stepOf (accepted xs m) (accepted ys n) p q offset =
     if inRange offset then withPlaces offset m n p q (fromPlace m p xs) (fromPlace n q ys) else stay (barred 22) p q
 
 -- THE RULE: "A step takes two recordings, a place in each, and a clock offset for the second"
-unfoldable pub mergeStep : List ℕ → List ℕ → ℕ → ℕ → ℤ → Step
-mergeStep as′ bs p q offset = stepOf (logOf as′) (logOf bs) p q offset
+unfoldable pub mergeStep : List Category → List ℕ → List ℕ → ℕ → ℕ → ℤ → Step
+mergeStep cs as′ bs p q offset = stepOf (logOf cs as′) (logOf cs bs) p q offset
 
 -- ---- the run
 
@@ -211,5 +210,5 @@ unfoldable pub runOf : Checked → Checked → ℤ → List (Log × Span)
 runOf a b offset = stepsOf a b offset (extent a + extent b) (opening a) (opening b)
 
 -- THE RUN, of two recordings
-unfoldable pub mergeRun : List ℕ → List ℕ → ℤ → List (Log × Span)
-mergeRun as′ bs offset = runOf (logOf as′) (logOf bs) offset
+unfoldable pub mergeRun : List Category → List ℕ → List ℕ → ℤ → List (Log × Span)
+mergeRun cs as′ bs offset = runOf (logOf cs as′) (logOf cs bs) offset

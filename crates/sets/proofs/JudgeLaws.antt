@@ -16,7 +16,8 @@ use Rattle.rules.specs.Answer.{Answer, ok, refused, _>>=_, need_or_then_, if_th
 use Rattle.rules.specs.Layout.{Values, flatten}
 use Rattle.rules.specs.Presence.{flags, present, has}
 use Rattle.rules.specs.Record.{Place, Message, Record, places, named, items, references, valueOf, allIn, typeOf, messageOf, judge}
-use Rattle.rules.specs.Entry.{categories, over, isItem}
+use Rattle.rules.specs.Catalogue.{categories}
+use Rattle.rules.specs.Entry.{over, isItem}
 use Rattle.rules.proofs.AnswerLaws.{ok-inj, bind-in, bind-out, bind-assoc, need-bind, need-in, if-inv, if-true, if-false, some-inj, none-some, both-left, both-right, refused-ok}
 use Rattle.rules.proofs.Tables.{distinct, everyCategory}
 use Rattle.rules.specs.Category017.{category017}

@@ -15,9 +15,10 @@ use Rattle.rules.specs.Layout.{Layout, item}
 use Rattle.rules.specs.Record.{Place, Category, places, at}
 use Rattle.rules.specs.Category017.{category017}
 use Rattle.rules.specs.Category018.{category018}
-use Rattle.rules.specs.Entry.{categories, profileAt}
+use Rattle.rules.specs.Catalogue.{categories}
+use Rattle.rules.specs.Entry.{profileAt}
 use Rattle.rules.proofs.AnswerLaws.{both-left, both-right}
-use Rattle.rules.proofs.Tables.{everyCategory, distinct, tables-distinct, tables-few}
+use Rattle.rules.proofs.Tables.{everyCategory, distinct, soundCategory, catsOf, once, Sound, sound-category, tables-hold}
 use Rattle.tables.specs.Places.{frnAs}
 use Rattle.sets.specs.Sets.{categoryIn, categoryAt}
 use Rattle.sets.specs.Steps.{typeFrn}
@@ -70,11 +71,14 @@ tables-short = refl
 pub profile-short : (i : ℕ) → length (categoryAt i .profile) ≤ 8
 profile-short i = leb-true _ _ (category-test (λ c. leb (length (c .profile)) 8) tables-short refl i)
 
+category-sound : (i : ℕ) → Sound (categoryAt i)
+category-sound i = sound-category (categoryAt i) (category-test soundCategory (both-left (everyCategory soundCategory categories) (once (catsOf categories)) tables-hold) refl i)
+
 pub places-few : (i : ℕ) → length (places (categoryAt i)) ≤ 35
-places-few i = leb-true _ _ (category-test (λ c. leb (length (places c)) 35) tables-few refl i)
+places-few i = category-sound i .few
 
 pub places-distinct : (i : ℕ) → distinct (places (categoryAt i)) ≡ true
-places-distinct = category-test (λ c. distinct (places c)) tables-distinct refl
+places-distinct i = category-sound i .references
 
 -- ---- the message type item
 

@@ -8,7 +8,8 @@ use Rattle.rules.specs.Answer.{Answer, ok, _>>=_, need_or_then_, octetsOf}
 use Rattle.rules.specs.Layout.{flatten}
 use Rattle.rules.specs.Presence.{flags, number, writePresence, readPresence, allUsable, setFlags}
 use Rattle.rules.specs.Record.{Category}
-use Rattle.rules.specs.Entry.{categories, over}
+use Rattle.rules.specs.Catalogue.{categories}
+use Rattle.rules.specs.Entry.{over}
 
 -- the category with an index; any other index has no profile and no messages
 abbrev pub categoryIn : List Category → ℕ → Category

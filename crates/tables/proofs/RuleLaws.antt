@@ -16,7 +16,7 @@ use borrow.Author.Tests.{leb-true, ltb-true}
 use Rattle.rules.specs.Field.{Field, spare, value, unsigned, signed, half}
 use Rattle.rules.specs.Category017.{category017}
 use Rattle.rules.specs.Category018.{category018}
-use Rattle.rules.specs.Entry.{categories}
+use Rattle.rules.specs.Catalogue.{categories}
 use Rattle.tables.specs.Tables.{groupCount, fields, groups, layouts, groupRows, noGroupRow, groupAt}
 use Rattle.tables.specs.FieldRules.{ruleCount, Rule, rulesOf, obeys, allObeyed, rules, firstRule, ruleAt, ruleWords, addedTo, limits, sizes}
 use Rattle.tables.proofs.TableLaws.{in-row, each, every, fieldsAt, getD-map-in}

@@ -20,7 +20,8 @@ use Rattle.rules.specs.Presence.{present, placeAt}
 use Rattle.rules.specs.Record.{Place, Category, places}
 use Rattle.rules.specs.Category017.{category017}
 use Rattle.rules.specs.Category018.{category018}
-use Rattle.rules.specs.Entry.{categories, profileAt, over}
+use Rattle.rules.specs.Catalogue.{categories}
+use Rattle.rules.specs.Entry.{profileAt, over}
 use Rattle.tables.specs.declared.tables.GroupRow.{GroupRow}
 use Rattle.tables.specs.declared.tables.LayoutRow.{LayoutRow}
 use Rattle.tables.specs.declared.tables.FieldRow.{FieldRow}

@@ -7,7 +7,7 @@ use lib.Dec.{leb, eqb}
 use lib.ListN.{length, getD}
 use Rattle.rules.specs.Field.{Field, spare, value, unsigned, signed, bits}
 use Rattle.rules.specs.Layout.{Group, flatten}
-use Rattle.rules.specs.Entry.{categories}
+use Rattle.rules.specs.Catalogue.{categories}
 use Rattle.tables.specs.declared.tables.LayoutRow.{LayoutRow}
 use Rattle.tables.specs.Tables.{groups, groupRows, groupAt, layoutAt, profileRows, isFree}
 

@@ -11,7 +11,8 @@ use lib.Seq.{slice}
 use Rattle.rules.specs.Field.{Field, spare, value, unsigned, signed, any, half, arity}
 use Rattle.rules.specs.Layout.{Group, Layout, fixed, repeated, led, extended, group, flatten}
 use Rattle.rules.specs.Record.{Place, Category, places, at}
-use Rattle.rules.specs.Entry.{categories, over}
+use Rattle.rules.specs.Catalogue.{categories}
+use Rattle.rules.specs.Entry.{over}
 use Rattle.tables.specs.declared.tables.FieldRow.{FieldRow}
 use Rattle.tables.specs.declared.tables.GroupRow.{GroupRow}
 use Rattle.tables.specs.declared.tables.LayoutRow.{LayoutRow}

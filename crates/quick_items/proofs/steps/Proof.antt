@@ -1,6 +1,6 @@
 -- `quick_items::steps` meets its contract: each word, by one test of the whole table. Assumes nothing.
 use mathlib.Core.Path.{refl}
-use Rattle.rules.specs.Entry.{categories}
+use Rattle.rules.specs.Catalogue.{categories}
 use Rattle.rules.specs.Category017.{category017}
 use Rattle.rules.specs.Category018.{category018}
 use Rattle.tables.specs.FieldRules.{rules, firstRule}

@@ -1,7 +1,7 @@
 -- `sets::fspec_most` meets its contract: it is the number of rows of each profile. Assumes nothing.
 use Rattle.rules.specs.Category017.{category017}
 use Rattle.rules.specs.Category018.{category018}
-use Rattle.rules.specs.Entry.{categories}
+use Rattle.rules.specs.Catalogue.{categories}
 use Rattle.sets.specs.Sets.{categoryAt}
 use Rattle.sets.proofs.ProfileLaws.{category-none}
 use Rattle.sets.proofs.fspec_most.Statement.{statement}

@@ -2,7 +2,7 @@
 use Rattle.rules.specs.Answer.{if_then_else_}
 use Rattle.rules.specs.Category017.{category017}
 use Rattle.rules.specs.Category018.{category018}
-use Rattle.rules.specs.Entry.{categories}
+use Rattle.rules.specs.Catalogue.{categories}
 use Rattle.tables.specs.Places.{frnAs}
 use Rattle.sets.specs.Sets.{categoryAt}
 use Rattle.sets.specs.Steps.{typeFrn}

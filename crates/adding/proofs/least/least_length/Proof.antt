@@ -10,14 +10,15 @@ use lib.Dec.{leb}
 use lib.ListN.{getD}
 use Rattle.rules.specs.Answer.{if_then_else_}
 use Rattle.rules.specs.Presence.{flags}
-use Rattle.rules.specs.Entry.{categories, profileAt, sumLeast, leastLength}
+use Rattle.rules.specs.Catalogue.{categories}
+use Rattle.rules.specs.Entry.{profileAt, sumLeast, leastLength}
 use Rattle.adding.specs.Least.{leasts}
 use Rattle.adding.proofs.LeastLaws.{size-is, no-octet, Summing, half-some, sum-again, sum-end}
 use Rattle.adding.proofs.least.least_length.Statement.{statement}
 use Rattle.adding.proofs.least.least_length.Tie as tie
 
 abbrev Inv-loop : tie.InvT-loop
-Inv-loop profile place octet octets first sum₀ full₀ left₀ k₀ sum full left k = Summing (getD (profileAt categories profile) place []) (leastLength profile place octet) sum full left k
+Inv-loop profile place octet octets first sum₀ full₀ left₀ k₀ sum full left k = Summing (getD (profileAt categories profile) place []) (leastLength categories profile place octet) sum full left k
 
 abbrev μ-loop : tie.MeasureT-loop
 μ-loop profile place octet octets first sum₀ full₀ left₀ k₀ sum full left k = 7 - k

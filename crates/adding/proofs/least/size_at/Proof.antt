@@ -2,7 +2,7 @@
 use borrow.Author.Needs.{needs}
 use Rattle.rules.specs.Category017.{category017}
 use Rattle.rules.specs.Category018.{category018}
-use Rattle.rules.specs.Entry.{categories}
+use Rattle.rules.specs.Catalogue.{categories}
 use Rattle.adding.specs.Least.{leasts}
 use Rattle.adding.proofs.least.size_at.Statement.{statement}
 use Rattle.adding.proofs.least.size_at.Tie as tie

@@ -1,6 +1,7 @@
 -- `find::find_record` meets its contract: the part that `locate_record` names lies in the block. Assumes nothing.
 use mathlib.Core.Path.{sym, ap, subst}
 use borrow.Author.Needs.{needs}
+use Rattle.rules.specs.Catalogue.{categories}
 use Rattle.rules.specs.Entry.{findRecord}
 use Rattle.finding.specs.Part.{VeryPart}
 use Rattle.finding.specs.Found.{recordSpan, spanIn}
@@ -11,7 +12,7 @@ use Rattle.finding.proofs.find.find_record.Tie as tie
 
 -- where the record lies, in the rules' words
 there : (c : tie.After-known-told)
-    → LocatedAt (findRecord (c .before .before .before .before .before .args .block .now) (c .before .before .before .before .before .args .n)) (c .before .before .before .locate-record .result) (c .before .answer .given .0 .0) (c .before .answer .given .0 .1 .0)
+    → LocatedAt (findRecord categories (c .before .before .before .before .before .args .block .now) (c .before .before .before .before .before .args .n)) (c .before .before .before .locate-record .result) (c .before .answer .given .0 .0) (c .before .answer .given .0 .1 .0)
 there c = located _ (c .before .before .before .locate-record .result) _ _ (c .before .before .before .locate-record .ensures) (c .before .answer .given .1)
 
 locate-record-requires : tie.Need-locate-record-requires
@@ -27,7 +28,7 @@ none-of-requires : tie.Need-none-of-requires
 none-of-requires c κs = search needs
 
 returns : tie.Need-returns
-returns c = subst (VeryPart (c .before .before .before .before .before .args .block) (c .none-of .result)) (sym (ap (λ z. spanIn (recordSpan z)) (lost (findRecord (c .before .before .before .before .before .args .block .now) (c .before .before .before .before .before .args .n)) (c .before .before .before .locate-record .result) _ _ (c .before .before .before .locate-record .ensures) (c .before .enum-told .given .1)))) (c .none-of .ensures)
+returns c = subst (VeryPart (c .before .before .before .before .before .args .block) (c .none-of .result)) (sym (ap (λ z. spanIn (recordSpan z)) (lost (findRecord categories (c .before .before .before .before .before .args .block .now) (c .before .before .before .before .before .args .n)) (c .before .before .before .locate-record .result) _ _ (c .before .before .before .locate-record .ensures) (c .before .enum-told .given .1)))) (c .none-of .ensures)
 
 part-of-requires : tie.Need-part-of-requires
 part-of-requires c κs =

@@ -1,7 +1,7 @@
 -- `told::rule_018` meets its contract: each number asks what the rule of its item does. Assumes nothing.
 use mathlib.Core.Path.{refl}
 use Rattle.rules.specs.Answer.{if_then_else_}
-use Rattle.rules.specs.Entry.{categories}
+use Rattle.rules.specs.Catalogue.{categories}
 use Rattle.rules.specs.Category017.{category017}
 use Rattle.rules.specs.Category018.{category018}
 use Rattle.tables.specs.FieldRules.{rules, firstRule}

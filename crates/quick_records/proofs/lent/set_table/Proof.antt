@@ -4,7 +4,7 @@ use Rattle.rules.specs.Answer.{need_or_then_, if_then_else_}
 use Rattle.rules.specs.Presence.{number, flags}
 use Rattle.rules.specs.Category017.{category017}
 use Rattle.rules.specs.Category018.{category018}
-use Rattle.rules.specs.Entry.{categories}
+use Rattle.rules.specs.Catalogue.{categories}
 use Rattle.tables.specs.FieldRules.{rules, firstRule, singles}
 use Rattle.tables.specs.Tables.{layoutAt, layouts, groupAt, groups, placeRowAt}
 use Rattle.sets.specs.Sets.{categoryAt, bitsOf}

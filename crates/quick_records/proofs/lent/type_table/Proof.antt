@@ -5,7 +5,7 @@ use Rattle.rules.specs.Presence.{number, flags}
 use Rattle.rules.specs.Record.{messageOf}
 use Rattle.rules.specs.Category017.{category017}
 use Rattle.rules.specs.Category018.{category018}
-use Rattle.rules.specs.Entry.{categories}
+use Rattle.rules.specs.Catalogue.{categories}
 use Rattle.tables.specs.FieldRules.{singles}
 use Rattle.tables.specs.Tables.{layoutAt, layouts, groupAt, groups}
 use Rattle.sets.specs.Sets.{categoryAt, bitsOf}

@@ -4,7 +4,7 @@ use Rattle.rules.specs.Answer.{_>>=_, if_then_else_}
 use Rattle.rules.specs.Presence.{number}
 use Rattle.rules.specs.Record.{messageOf}
 use Rattle.rules.specs.Category018.{category018}
-use Rattle.rules.specs.Entry.{categories}
+use Rattle.rules.specs.Catalogue.{categories}
 use Rattle.sets.specs.Sets.{categoryAt, bitsOf}
 use Rattle.sets.specs.Steps.{rowAt}
 use Rattle.sets.proofs.JudgeLaws.{row-unknown}

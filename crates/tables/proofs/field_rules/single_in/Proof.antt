@@ -1,6 +1,6 @@
 -- `tables::field_rules::single_in` meets its contract: the code's table is, row by row, the one that the rules' profiles give. Assumes nothing.
 use mathlib.Core.Path.{refl}
-use Rattle.rules.specs.Entry.{categories}
+use Rattle.rules.specs.Catalogue.{categories}
 use Rattle.rules.specs.Category017.{category017}
 use Rattle.rules.specs.Category018.{category018}
 use Rattle.tables.specs.FieldRules.{singles}
