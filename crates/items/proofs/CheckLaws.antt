@@ -8,10 +8,11 @@ use mathlib.Core.Logic.{⊎-elim}
 use mathlib.Core.Option.{Option, none, some}
 use mathlib.Core.List.{List, [], map}
 use native.Mathlib.Omega.{arith}
+use native.Mathlib.Nat.{add-zero}
 use lib.Dec.{eqb, lit<}
 use lib.ListN.{length, getD, drop, length-drop, List·getD-map}
 use lib.Seq.{slice}
-use borrow.Author.Tests.{le-leb, lt-leb, eqb-true}
+use borrow.Author.Tests.{le-leb, lt-leb, lt-ltb, eqb-true}
 use Rattle.rules.specs.Answer.{Answer, ok, refused, _>>=_, need_or_then_, expect_or_}
 use Rattle.rules.specs.Layout.{Layout, Values}
 use Rattle.rules.specs.Presence.{placeAt}
@@ -23,7 +24,7 @@ use Rattle.tables.specs.declared.tables.PlaceRow.{PlaceRow}
 use Rattle.tables.specs.Tables.{groupCount, profileCount, frnCount, groups, groupIs, groupRows, groupAt, layoutBy, layoutIs, layoutAt, nowhere, profileRows, placeRowAt, placeIs}
 use Rattle.tables.specs.FieldRules.{singleOf, singles}
 use Rattle.tables.proofs.TableLaws.{place-is, place-row, place-none}
-use Rattle.layouts.specs.Read.{rowsAt, partAt, legal, partSound, partsSound, partsLegal, Shaped, headOf, stepOf, shapeBy, shapeOf, wholeOf, wholeSize, readBy, rowSound, singleSize}
+use Rattle.layouts.specs.Read.{rowsAt, partAt, legal, span, partSound, partsSound, partsLegal, faultAt, need_or_further_then_, Shaped, headOf, stepOf, shapeBy, shapeOf, wholeOf, wholeSize, readBy, rowSound, singleSize}
 use Rattle.layouts.proofs.PartLaws.{First, first-part}
 use Rattle.layouts.proofs.ReadLaws.{fitting, reads, le-or-lt}
 use Rattle.layouts.proofs.ShapeLaws.{Rowed, rowed, fixed-one, fixed-group, fixed-cut, fixed-there}
@@ -34,18 +35,18 @@ use Rattle.items.specs.Answers.{sizeOf, checkAt}
 -- ---- how many octets an item takes
 
 -- what is left says how many octets were taken
-size-legal : (t : Bool) (vs : Values) (c long : ℕ) (bs : List ℕ) → long ≤ length bs
-    → _>>=_ {A = Values × List ℕ} (need t or 11 then ok (vs, drop long bs)) (λ x. ok (length bs - length (x .1))) ≡ (_>>=_ {A = Shaped} (need t or 11 then ok (c, long)) (λ s. ok (s .1)))
-unfolding need_or_then_ _>>=_
-size-legal true vs c long bs h = ap ok (omega (arith, length-drop long bs))
-size-legal false vs c long bs h = refl
+size-legal : (t : Bool) (p : ℕ) (vs : Values) (c long : ℕ) (bs : List ℕ) → long ≤ length bs
+    → _>>=_ {A = Values × List ℕ} (need t or 11 further p then ok (vs, drop long bs)) (λ x. ok (length bs - length (x .1))) ≡ (_>>=_ {A = Shaped} (need t or 11 further p then ok (c, long)) (λ s. ok (s .1)))
+unfolding need_or_further_then_ _>>=_
+size-legal true p vs c long bs h = ap ok (omega (arith, length-drop long bs))
+size-legal false p vs c long bs h = refl
 
 size-read : (l : LayoutRow) (bs : List ℕ) → rowSound l ≡ true → Octets bs → (readBy l bs >>= (λ x. ok (length bs - length (x .1)))) ≡ wholeSize l bs
 unfolding readBy wholeSize wholeOf shapeOf _>>=_
 size-read l bs s o = go (shapeOf l bs) refl
   where
     go : (m : Answer Shaped) → shapeOf l bs ≡ m → (readBy l bs >>= (λ x. ok (length bs - length (x .1)))) ≡ wholeSize l bs
-    go (ok x) e = rw e (size-legal (partsLegal (stepOf (l .kind)) (l .first) (x .0) (drop (headOf (l .kind)) bs)) _ (x .0) (x .1) bs (fitting l bs x s o e .there))
+    go (ok x) e = rw e (size-legal (partsLegal (stepOf (l .kind)) (l .first) (x .0) (drop (headOf (l .kind)) bs)) _ _ (x .0) (x .1) bs (fitting l bs x s o e .there))
     go (refused n p) e = rw e
 
 size-is : (l : LayoutRow) (i : Layout) (bs : List ℕ) → rowSound l ≡ true → layoutIs l ≡ some i → Octets bs → sizeOf i bs ≡ wholeSize l bs
@@ -133,16 +134,16 @@ module _ (l : LayoutRow) (n : ℕ) (bs : List ℕ) (s : rowSound l ≡ true) (o 
       check-whole l bs 1 n
       (equal-free l bs 1 n (sym (fixed-there l bs (f .kind) (sym (f .size)) h)) s o (λ e. absurd (omega (arith, f .kind, e))) (sym (f .free)) refl)
 
-one-part-size : (u : Bool) (n : ℕ) → (need u or 11 then ok n) ≡ (_>>=_ {A = Shaped} (need (u && true) or 11 then ok (1, n)) (λ s. ok (s .1)))
-unfolding need_or_then_ _>>=_
-one-part-size true n = refl
-one-part-size false n = refl
+one-part-size : (u : Bool) (p n : ℕ) → (need u or 11 further p then ok n) ≡ (_>>=_ {A = Shaped} (need (u && true) or 11 further p then ok (1, n)) (λ s. ok (s .1)))
+unfolding need_or_further_then_ _>>=_
+one-part-size true p n = refl
+one-part-size false p n = refl
 
 pub single-size : (l : LayoutRow) (g : ℕ) (bs : List ℕ) → Single l g → singleSize g bs ≡ wholeSize l bs
 unfolding singleSize wholeSize wholeOf shapeOf shapeBy partsLegal need_or_then_ _>>=_
 single-size l g bs s =
     ⊎-elim
-    (λ (h : groupAt (l .first) .octets ≤ length bs). rw (← s .group, s .kind, le-leb (groupAt (l .first) .octets) (length bs) h) (one-part-size (legal (rowsAt (l .first)) (partAt 0 (l .first) bs)) (groupAt (l .first) .octets)))
+    (λ (h : groupAt (l .first) .octets ≤ length bs). rw (← s .group, s .kind, le-leb (groupAt (l .first) .octets) (length bs) h) (one-part-size (legal (rowsAt (l .first)) (partAt 0 (l .first) bs)) (faultAt 0 (l .first) 1 0 bs) (groupAt (l .first) .octets)))
     (λ (h : length bs < groupAt (l .first) .octets). rw (← s .group, s .kind, lt-leb (groupAt (l .first) .octets) (length bs) h))
     (le-or-lt (groupAt (l .first) .octets) (length bs))
 
@@ -160,12 +161,17 @@ module _ (g : ℕ) (bs : List ℕ) {m : ℕ} (em : m ≡ groupAt g .octets) wher
 
   module _ (h : m ≤ length bs) {t : Bool} (et : t ≡ legal (rowsAt g) (partAt 0 g (drop 0 bs))) where
     pub single-legal : t ≡ true → ok m ≡ singleSize g bs
-    unfolding singleSize need_or_then_
+    unfolding singleSize need_or_then_ need_or_further_then_
     single-legal e = let d : legal (rowsAt g) (partAt 0 g bs) ≡ true = sym et ∙ e in rw (le-leb (groupAt g .octets) (length bs) (omega arith), d, em)
 
-    pub single-barred : t ≡ false → refused 11 0 ≡ singleSize g bs
-    unfolding singleSize need_or_then_
-    single-barred e = let d : legal (rowsAt g) (partAt 0 g bs) ≡ false = sym et ∙ e in rw (le-leb (groupAt g .octets) (length bs) (omega arith), d)
+    pub single-barred : t ≡ false → {p : ℕ} → p ≡ faultAt 0 g 1 0 bs → refused 11 p ≡ singleSize g bs
+    unfolding singleSize need_or_then_ need_or_further_then_
+    single-barred e ep = let d : legal (rowsAt g) (partAt 0 g bs) ≡ false = sym et ∙ e in rw (le-leb (groupAt g .octets) (length bs) (omega arith), d, ep)
+
+    -- what the place of the fault asks
+    pub single-walk : partSound 0 (groupAt g) ≡ true → g < groupCount → (partsSound 0 g 1 ≡ true) × (0 + span 0 g 1 ≤ length bs)
+    unfolding partsSound span
+    single-walk s k = (rw (lt-ltb g groupCount k, s), omega (arith, add-zero (groupAt g .octets)))
 
 -- ---- the place of an item
 

@@ -29,8 +29,9 @@ use Rattle.tables.specs.declared.tables.PlaceRow.{PlaceRow}
 use Rattle.tables.specs.Tables.{layoutIs, layoutAt, with, placeIs}
 use Rattle.tables.proofs.TableLaws.{layout-none}
 use Rattle.tables.specs.Places.{frnAs}
-use Rattle.layouts.specs.Read.{holds, partsLegal, partValues, Shaped, headOf, stepOf, shapeOf, wholeOf, readBy, rowSound}
+use Rattle.layouts.specs.Read.{holds, partsLegal, need_or_further_then_, partValues, Shaped, headOf, stepOf, shapeOf, wholeOf, readBy, rowSound}
 use Rattle.layouts.proofs.ReadLaws.{Fitting, fitting, reads, le-or-lt}
+use Rattle.layouts.proofs.WholeLaws.{whole-shape}
 use Rattle.layouts.proofs.StoreLaws.{length-held}
 use Rattle.layouts.proofs.Stores.{sets-over}
 use Rattle.items.specs.Answers.{profileIn, countOf}
@@ -127,21 +128,21 @@ none-left bs long =
     (λ (h : long < length bs). ne-eqb (length (drop long bs)) 0 (λ e. absurd (omega (arith, length-drop long bs, e))) ∙ sym (lt-leb (length bs) long h))
     (le-or-lt (length bs) long)
 
-only-legal : (t : Bool) (vs : Values) (x : Shaped) (bs : List ℕ) (k : Shaped → Answer (List ℤ)) → x .1 ≤ length bs
+only-legal : (t : Bool) (p : ℕ) (vs : Values) (x : Shaped) (bs : List ℕ) (k : Shaped → Answer (List ℤ)) → x .1 ≤ length bs
     → k x ≡ later (x .1) (need leb (length bs) (x .1) or 18 then ok (flatten vs))
-    → ((_>>=_ {A = Values × List ℕ} (need t or 11 then ok (vs, drop (x .1) bs)) flat) >>= noneAfter bs) ≡ ((need t or 11 then ok x) >>= k)
-unfolding need_or_then_ _>>=_
-only-legal true vs x bs k h q =
+    → ((_>>=_ {A = Values × List ℕ} (need t or 11 further p then ok (vs, drop (x .1) bs)) flat) >>= noneAfter bs) ≡ ((need t or 11 further p then ok x) >>= k)
+unfolding need_or_further_then_ _>>=_
+only-legal true p vs x bs k h q =
     let e : length bs - length (drop (x .1) bs) ≡ x .1 = omega (arith, length-drop (x .1) bs) in
     rw (e, none-left bs (x .1), q)
-only-legal false vs x bs k h q = refl
+only-legal false p vs x bs k h q = refl
 
 fields-read : (l : LayoutRow) (bs : List ℕ) → rowSound l ≡ true → Octets bs → ((readBy l bs >>= flat) >>= noneAfter bs) ≡ (wholeOf l bs >>= onlyItem l bs)
 unfolding readBy wholeOf shapeOf onlyItem _>>=_
 fields-read l bs s o = go (shapeOf l bs) refl
   where
     go : (m : Answer Shaped) → shapeOf l bs ≡ m → ((readBy l bs >>= flat) >>= noneAfter bs) ≡ (wholeOf l bs >>= onlyItem l bs)
-    go (ok x) e = rw e (only-legal (partsLegal (stepOf (l .kind)) (l .first) (x .0) (drop (headOf (l .kind)) bs)) _ x bs (onlyItem l bs) (fitting l bs x s o e .there) refl)
+    go (ok x) e = rw e (only-legal (partsLegal (stepOf (l .kind)) (l .first) (x .0) (drop (headOf (l .kind)) bs)) _ _ x bs (onlyItem l bs) (fitting l bs x s o e .there) refl)
     go (refused n p) e = rw e
 
 pub one-is : (cat ref j : ℕ) (bs : List ℕ) → (expect layoutIs (layoutAt j) or 21) ≡ layoutOf categories cat ref → rowSound (layoutAt j) ≡ true → Octets bs
@@ -162,10 +163,10 @@ module _ (cat ref j : ℕ) (bs : List ℕ) (h : (expect layoutIs (layoutAt j) or
   one-at : readOne categories cat ref bs ≡ (wholeOf l bs >>= onlyItem l bs)
   one-at = rw el (one-is cat ref j bs h s o)
 
-  pub one-refused : (n : ℕ) → refused n 0 ≡ wholeOf l bs → Answered cat ref bs (refused n 0) old old
+  pub one-refused : (n p : ℕ) → refused n p ≡ wholeOf l bs → Answered cat ref bs (refused n p) old old
   unfolding countOf _>>=_
-  one-refused n e =
-      let q : readOne categories cat ref bs ≡ refused n 0 = one-at ∙ rw (← e) in
+  one-refused n p e =
+      let q : readOne categories cat ref bs ≡ refused n p = one-at ∙ rw (← e) in
       record { answer = rw q; left = rw q }
 
   module _ (c long : ℕ) (e : ok (c, long) ≡ wholeOf l bs) where
@@ -179,13 +180,8 @@ module _ (cat ref j : ℕ) (bs : List ℕ) (h : (expect layoutIs (layoutAt j) or
         let q : readOne categories cat ref bs ≡ refused 18 long = here ∙ rw (lt-leb (length bs) long k, add-zero long) in
         record { answer = rw q; left = rw q }
 
-    -- the shape itself
-    shape-is : shapeOf l bs ≡ ok (c, long)
-    unfolding wholeOf
-    shape-is = bind-elim (shapeOf l bs) _ (sym e) λ x p q. need-elim (partsLegal (stepOf (l .kind)) (l .first) (x .0) (drop (headOf (l .kind)) bs)) 11 _ q λ t u. p ∙ u
-
     pub one-fits : Fitting l bs c long
-    one-fits = fitting l bs (c, long) (rw el s) o shape-is
+    one-fits = fitting l bs (c, long) (rw el s) o (whole-shape l bs (c, long) (sym e))
 
     pub one-whole : length bs ≤ long → (n : ℕ) (new : List ℤ) → n ≡ holds (stepOf (l .kind)) (l .first) c
         → new ≡ sets old 0 (flatten (partValues (stepOf (l .kind)) (l .first) c (drop (headOf (l .kind)) bs))) → Answered cat ref bs (ok n) old new

@@ -2,6 +2,7 @@
 mod write;
 
 use layouts::Shape;
+use layouts::fault_at;
 use layouts::item_store;
 use layouts::part_legal;
 use layouts::whole_of;
@@ -127,7 +128,7 @@ fn check_single(group: usize, part: &[u8]) -> ItemCheck
     }
     ItemCheck::Refused {
         number: 11,
-        place: 0,
+        place: fault_at(part, 0, 1, group, 0),
     }
 }
 
@@ -151,7 +152,7 @@ fn check_at(place: usize, part: &[u8]) -> ItemCheck
     }
     match whole_of(layout_at(layout_row(place)), part) {
         Shape::Parts { count: _, long } => ItemCheck::Whole(long),
-        Shape::Refused { number } => ItemCheck::Refused { number, place: 0 },
+        Shape::Refused { number, place } => ItemCheck::Refused { number, place },
     }
 }
 
@@ -215,7 +216,7 @@ pub fn read_item(category: u8, reference: u16, item: &[u8], fields: &mut [i64; 8
 {
     let l = layout_at(layout_of(category, reference));
     match whole_of(l, item) {
-        Shape::Refused { number } => ItemRead::Refused { number, place: 0 },
+        Shape::Refused { number, place } => ItemRead::Refused { number, place },
         Shape::Parts { count, long } => {
             if long < item.len() {
                 return ItemRead::Refused {

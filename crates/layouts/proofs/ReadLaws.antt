@@ -29,7 +29,7 @@ use Rattle.tables.specs.declared.tables.LayoutRow.{LayoutRow}
 use Rattle.tables.specs.Tables as t
 use Rattle.tables.specs.Tables.{groupCount, fields, fieldRow, groupIs, groupRows, noGroupRow, groupAt, layoutIs, layoutBy}
 use Rattle.tables.proofs.TableLaws.{fieldsAt, groups-long}
-use Rattle.layouts.specs.Read.{rows, rowsAt, partAt, width, legal, values, span, holds, partSound, partsSound, partsLegal, partValues, Shaped, chain, headOf, stepOf, listShape, shapeBy, shapeOf, readKind, readBy, isOctet, rowSound}
+use Rattle.layouts.specs.Read.{rows, rowsAt, partAt, width, legal, values, span, holds, partSound, partsSound, partsLegal, faultAt, need_or_further_then_, partValues, Shaped, chain, headOf, stepOf, listShape, shapeBy, shapeOf, readKind, readBy, isOctet, rowSound}
 use Rattle.layouts.proofs.FieldCodes.{Wide, width-bits, unpack-is}
 use Rattle.layouts.proofs.OctetLaws.{joined-lt}
 use Rattle.layouts.proofs.PartLaws.{PartSound, part-sound}
@@ -235,10 +235,20 @@ too-many (fs ∷ gs) (n ∷ ns) h = go (eleven-unpack fs n) (too-many gs ns (le-
     go (fine v e) t = rw (e, t)
     go (eleven e) t = rw e
 
-need-with : {A B : Type 0} (t : Bool) (a : A) (b : B) → _>>=_ {B = A × B} (need t or 11 then ok a) (λ x. ok (x, b)) ≡ (need t or 11 then ok (a, b))
-unfolding need_or_then_ _>>=_
-need-with true a b = refl
-need-with false a b = refl
+-- the fields of a part refuse at the item's start
+fault-start : (step g c at : ℕ) (bs : List ℕ) → faultAt step g c at bs ≡ 0
+unfolding faultAt
+fault-start step g c at bs = refl
+
+need-with : {A B : Type 0} (t : Bool) (a : A) (b : B) {p : ℕ} → p ≡ 0 → _>>=_ {B = A × B} (need t or 11 then ok a) (λ x. ok (x, b)) ≡ (need t or 11 further p then ok (a, b))
+unfolding need_or_then_ need_or_further_then_ _>>=_
+need-with true a b e = refl
+need-with false a b e = ap (refused 11) (sym e)
+
+pub further-elim : {A C : Type 0} (t : Bool) (n p : ℕ) (x : Answer A) {a : A} → (need t or n further p then x) ≡ ok a → (t ≡ true → x ≡ ok a → C) → C
+unfolding need_or_further_then_
+further-elim true n p x h k = k refl h
+further-elim false n p x h k = refused-ok h
 
 module _ (l : Layout) (bs : List ℕ) where
   stopped : (n p : ℕ) → readParts l bs ≡ refused n p → readItem l bs ≡ refused n p
@@ -253,12 +263,12 @@ module _ (l : Layout) (bs : List ℕ) where
   unfolding readItem _>>=_ need_or_then_
   past-groups ns rest e h k = rw (e, le-leb (least l) (length ns) h, too-many (groups l) ns k)
 
-  all-there : (step g c : ℕ) (ds rest : List ℕ) → readParts l bs ≡ ok (partNumbers step g c ds, rest) → least l ≤ c → Octets ds → partsSound step g c ≡ true → span step g c ≤ length ds
-      → Grouping step g c (groups l) → readItem l bs ≡ (need partsLegal step g c ds or 11 then ok (partValues step g c ds, rest))
+  all-there : (step g c at : ℕ) (ds rest : List ℕ) → readParts l bs ≡ ok (partNumbers step g c ds, rest) → least l ≤ c → Octets ds → partsSound step g c ≡ true → span step g c ≤ length ds
+      → Grouping step g c (groups l) → readItem l bs ≡ (need partsLegal step g c ds or 11 further faultAt step g c at bs then ok (partValues step g c ds, rest))
   unfolding readItem _>>=_ need_or_then_
-  all-there step g c ds rest e h o s k u =
+  all-there step g c at ds rest e h o s k u =
       rw (e, le-leb (least l) (length (partNumbers step g c ds)) (subst (λ x. least l ≤ x) (sym (length-numbers step g c ds)) h), unpacked step g c (groups l) ds o s k u)
-      (need-with (partsLegal step g c ds) (partValues step g c ds) rest)
+      (need-with (partsLegal step g c ds) (partValues step g c ds) rest (fault-start step g c at bs))
 
 -- fewer parts
 pub parts-fewer : (step g c d : ℕ) → c ≤ d → partsSound step g d ≡ true → partsSound step g c ≡ true
@@ -395,7 +405,7 @@ module _ (lo hi a e : ℕ) (bs : List ℕ) (o : Octets bs) where
       ⊎-elim
       (λ (h : k ≤ length bs).
       let r : readParts (fixed (groupIs (groupAt a))) bs ≡ ok (partNumbers 0 a 1 bs, drop k bs) = rw (m, le-leb k (length bs) h) in
-      all-there (fixed (groupIs (groupAt a))) bs 0 a 1 bs (drop k bs) r (lit≤ tt) o s (omega (arith, span-equal a 1)) (refl, tt)
+      all-there (fixed (groupIs (groupAt a))) bs 0 a 1 0 bs (drop k bs) r (lit≤ tt) o s (omega (arith, span-equal a 1)) (refl, tt)
       ∙ rw (le-leb k (length bs) h))
       (λ (h : length bs < k).
       stopped (fixed (groupIs (groupAt a))) bs 9 0 (rw (m, lt-leb k (length bs) h)) ∙ rw (lt-leb k (length bs) h))
@@ -420,7 +430,7 @@ module _ (lo hi a e : ℕ) (bs : List ℕ) (o : Octets bs) where
       (λ (h₂ : lo ≤ c).
       ⊎-elim
       (λ (h₃ : c ≤ hi).
-      all-there l bs 0 a c ds (drop (c * k) ds) r h₂ (octets-drop 1 bs o) (parts-fewer 0 a c hi h₃ s) (omega (arith, span-equal a c)) (grouping-equal a c hi (fieldsAt a) refl h₃)
+      all-there l bs 0 a c 1 ds (drop (c * k) ds) r h₂ (octets-drop 1 bs o) (parts-fewer 0 a c hi h₃ s) (omega (arith, span-equal a c)) (grouping-equal a c hi (fieldsAt a) refl h₃)
       ∙ rw (le-leb 1 (length bs) h, le-leb (1 + c * k) (length bs) h₁, le-leb lo c h₂, le-leb c hi h₃, d))
       (λ (h₃ : hi < c).
       past-groups l bs (partNumbers 0 a c ds) (drop (c * k) ds) r (rw (length-numbers 0 a c ds) h₂) (rw (length-numbers 0 a c ds, length-replicate hi (fieldsAt a)) h₃)
@@ -456,7 +466,7 @@ module _ (lo hi a e : ℕ) (bs : List ℕ) (o : Octets bs) where
       let j : 1 + (c - 1) ≡ c = omega arith in
       let d : drop (c - 1) ds ≡ drop c bs = drop-drop (c - 1) 1 bs ∙ ap (λ x. drop x bs) j in
       let few : c - 1 ≤ 254 = omega (arith, octet-small bs o) in
-      all-there l bs 0 a (c - 1) ds (drop (c - 1) ds) r (omega arith) (octets-drop 1 bs o) (parts-fewer 0 a (c - 1) 254 few s) (omega (arith, span-one a (c - 1) one))
+      all-there l bs 0 a (c - 1) 1 ds (drop (c - 1) ds) r (omega arith) (octets-drop 1 bs o) (parts-fewer 0 a (c - 1) 254 few s) (omega (arith, span-one a (c - 1) one))
       (grouping-equal a (c - 1) 254 (any 8 ∷ []) (sym (octet-is (fieldsAt a) oct)) few)
       ∙ rw (le-leb 1 (length bs) h, lt-ltb lo c h₁, le-leb c (length bs) h₂, d))
       (λ (h₂ : length bs < c).
@@ -484,7 +494,7 @@ module _ (lo hi a e : ℕ) (bs : List ℕ) (o : Octets bs) where
       go : (m : Answer Shaped) → chain a (e - a) bs ≡ m → readItem l bs ≡ readKind 4 lo hi a e bs
       go (ok x) q =
           let d : Chained a (e - a) (x .0) (x .1) bs = chained (e - a) a bs x q in
-          all-there l bs 1 a (x .0) bs (drop (x .1) bs) (parts-are ∙ rw q) (d .some) o (parts-fewer 1 a (x .0) hi (omega (arith, d .few)) s) (omega (arith, d .spans, d .there))
+          all-there l bs 1 a (x .0) 0 bs (drop (x .1) bs) (parts-are ∙ rw q) (d .some) o (parts-fewer 1 a (x .0) hi (omega (arith, d .few)) s) (omega (arith, d .spans, d .there))
           (grouping-chain (x .0) a e (omega (arith, d .few)) k)
           ∙ rw q
       go (refused n p) q = stopped l bs n p (parts-are ∙ rw q) ∙ rw q

@@ -13,16 +13,16 @@ use lib.Signed.{leZ}
 use lib.ListN.{length, drop, length-drop}
 use lib.Pow.{pow-pos, shr-lt}
 use borrow.Author.Tests.{le-leb, lt-ltb, ltb-true, ltb-false, eqb-true, ne-eqb}
-use Rattle.rules.specs.Answer.{ok, refused, _>>=_, need_or_then_}
+use Rattle.rules.specs.Answer.{ok, refused, _>>=_}
 use Rattle.rules.specs.Field.{Field, spare, value, unsigned, signed, bits, half}
-use Rattle.rules.proofs.AnswerLaws.{Octets, both-left, both-right, refused-ok}
+use Rattle.rules.proofs.AnswerLaws.{Octets, both-left, both-right, refused-ok, bind-elim}
 use Rattle.tables.specs.declared.tables.LayoutRow.{LayoutRow}
 use Rattle.tables.specs.Tables.{groupCount, fieldRow, minus, isFree, groupAt}
 use Rattle.tables.proofs.TableLaws.{fieldsAt, group-free}
-use Rattle.layouts.specs.Read.{rowsAt, partAt, twosOf, valueOf, within, legal, span, partSound, partsSound, partsLegal, headOf, stepOf, shapeOf, wholeOf, rowSound}
+use Rattle.layouts.specs.Read.{rowsAt, partAt, twosOf, valueOf, within, legal, span, partSound, partsSound, partsLegal, faultAt, need_or_further_then_, Shaped, headOf, stepOf, shapeOf, wholeOf, rowSound}
 use Rattle.layouts.proofs.FieldCodes.{Wide, width-bits, low-minus, low-neg, twice}
 use Rattle.layouts.proofs.PartLaws.{PartSound, part-sound}
-use Rattle.layouts.proofs.ReadLaws.{rows-map, wide-slice, part-small, octets-drop, Fitting, fitting}
+use Rattle.layouts.proofs.ReadLaws.{further-elim, rows-map, wide-slice, part-small, octets-drop, Fitting, fitting}
 use Rattle.layouts.proofs.ShapeLaws.{rowed, Grouped, fixed-group, list-group, led-group, few-kinds, no-shape}
 
 -- ---- free groups
@@ -78,13 +78,20 @@ module _ (l : LayoutRow) (bs : List ℕ) where
   unfolding wholeOf _>>=_
   whole-stopped n p e = rw e
 
+  pub whole-shape : (s : Shaped) → wholeOf l bs ≡ ok s → shapeOf l bs ≡ ok s
+  unfolding wholeOf
+  whole-shape s h =
+      bind-elim (shapeOf l bs) _ h λ x p q.
+      further-elim (partsLegal (stepOf (l .kind)) (l .first) (x .0) (drop (headOf (l .kind)) bs)) 11 _ _ q λ t u. p ∙ u
+
   module _ (c long : ℕ) (e : shapeOf l bs ≡ ok (c, long)) where
     whole-legal : partsLegal (stepOf (l .kind)) (l .first) c (drop (headOf (l .kind)) bs) ≡ true → ok (c, long) ≡ wholeOf l bs
-    unfolding wholeOf _>>=_ need_or_then_
+    unfolding wholeOf _>>=_ need_or_further_then_
     whole-legal h = sym (rw (e, h))
 
-    whole-barred : partsLegal (stepOf (l .kind)) (l .first) c (drop (headOf (l .kind)) bs) ≡ false → refused 11 0 ≡ wholeOf l bs
-    unfolding wholeOf _>>=_ need_or_then_
+    whole-barred : partsLegal (stepOf (l .kind)) (l .first) c (drop (headOf (l .kind)) bs) ≡ false
+        → refused 11 (faultAt (stepOf (l .kind)) (l .first) c (headOf (l .kind)) bs) ≡ wholeOf l bs
+    unfolding wholeOf _>>=_ need_or_further_then_
     whole-barred h = sym (rw (e, h))
 
     module _ (s : rowSound l ≡ true) (o : Octets bs) where
@@ -111,8 +118,8 @@ module _ (l : LayoutRow) (bs : List ℕ) where
           pub chain-legal : t ≡ true → ok (c, long) ≡ wholeOf l bs
           chain-legal u = whole-legal (legal-chain ∙ u)
 
-          pub chain-barred : t ≡ false → refused 11 0 ≡ wholeOf l bs
-          chain-barred u = whole-barred (legal-chain ∙ u)
+          pub chain-barred : t ≡ false → {p : ℕ} → p ≡ faultAt 1 (l .first) c 0 bs → refused 11 p ≡ wholeOf l bs
+          chain-barred u ep = ap (refused 11) (ep ∙ sym (ap (λ x. faultAt (stepOf x) (l .first) c (headOf x) bs) k)) ∙ whole-barred (legal-chain ∙ u)
 
       -- parts of one group
       module _ (k : ¬ (l .kind ≡ 4)) where
@@ -147,5 +154,7 @@ module _ (l : LayoutRow) (bs : List ℕ) where
           pub equal-legal : t ≡ true → ok (c, long) ≡ wholeOf l bs
           equal-legal u = whole-legal (legal-equal ∙ u)
 
-          pub equal-barred : t ≡ false → refused 11 0 ≡ wholeOf l bs
-          equal-barred u = whole-barred (legal-equal ∙ u)
+          pub equal-barred : t ≡ false → {p : ℕ} → p ≡ faultAt 0 (l .first) c h bs → refused 11 p ≡ wholeOf l bs
+          equal-barred u ep =
+              ap (refused 11) (ep ∙ ap (λ x. faultAt 0 (l .first) c x bs) eh ∙ sym (ap (λ x. faultAt x (l .first) c (headOf (l .kind)) bs) no-step))
+              ∙ whole-barred (legal-equal ∙ u)

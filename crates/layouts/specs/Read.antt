@@ -18,6 +18,7 @@ use Rattle.tables.specs.Tables.{fieldCount, groupCount, fields, fieldRow, group
 use Rattle.layouts.specs.declared.parts.Shape.{Shape}
 use Rattle.layouts.specs.declared.parts.Shape.the-variants.{Parts, Refused}
 
+infixr 10 need_or_further_then_
 -- ---- the fields of a part
 
 -- the rows of the fields from a place to before a place
@@ -92,6 +93,16 @@ unfoldable pub partsLegal : ℕ → ℕ → ℕ → List ℕ → Bool
 partsLegal step g zero bs = true
 partsLegal step g (suc c) bs = legal (rowsAt g) (partAt step g bs) && partsLegal step (g + step) c (drop (groupAt g .octets) bs)
 
+-- where the first field at fault among so many parts stands, the first of which starts at a place, counted from the item's first octet: at the
+-- item's start, whichever field it is
+unfoldable pub faultAt : ℕ → ℕ → ℕ → ℕ → List ℕ → ℕ
+faultAt step g c at bs = 0
+
+-- the rest where the test passes, and else the refusal, so many octets further on
+unfoldable pub need_or_further_then_ : {A : Type 0} → Bool → ℕ → ℕ → Answer A → Answer A
+need true or n further p then x = x
+need false or n further p then x = refused n p
+
 unfoldable pub partValues : ℕ → ℕ → ℕ → List ℕ → List (List ℤ)
 partValues step g zero bs = []
 partValues step g (suc c) bs = values (rowsAt g) (partAt step g bs) ∷ partValues step (g + step) c (drop (groupAt g .octets) bs)
@@ -103,7 +114,7 @@ Shaped = ℕ × ℕ
 
 abbrev pub shapeIs : Shape → Answer Shaped
 shapeIs (Parts c n) = ok (c, n)
-shapeIs (Refused r) = refused r 0
+shapeIs (Refused n p) = refused n p
 
 -- so many printed parts, the first by the group at a place: 9 where one is cut, 11 where FX asks for more
 unfoldable pub chain : ℕ → ℕ → List ℕ → Answer Shaped
@@ -147,7 +158,7 @@ shapeOf l bs = shapeBy (l .kind) (l .least) (l .most) (l .first) (l .end) bs
 unfoldable pub wholeOf : LayoutRow → List ℕ → Answer Shaped
 wholeOf l bs = do
   s ← shapeOf l bs
-  need partsLegal (stepOf (l .kind)) (l .first) (s .0) (drop (headOf (l .kind)) bs) or 11 then ok s
+  need partsLegal (stepOf (l .kind)) (l .first) (s .0) (drop (headOf (l .kind)) bs) or 11 further faultAt (stepOf (l .kind)) (l .first) (s .0) (headOf (l .kind)) bs then ok s
 
 -- how many octets it takes
 unfoldable pub wholeSize : LayoutRow → List ℕ → Answer ℕ
@@ -160,14 +171,14 @@ wholeSize l bs = do
 unfoldable pub singleSize : ℕ → List ℕ → Answer ℕ
 singleSize g bs =
     need leb (groupAt g .octets) (length bs) or 9 then
-    need legal (rowsAt g) (partAt 0 g bs) or 11 then ok (groupAt g .octets)
+    need legal (rowsAt g) (partAt 0 g bs) or 11 further faultAt 0 g 1 0 bs then ok (groupAt g .octets)
 
 -- ---- an item by its row: its shape, then its fields
 
 abbrev pub readKind : ℕ → ℕ → ℕ → ℕ → ℕ → Read Values
 readKind k lo hi a e bs = do
   (c, long) ← shapeBy k lo hi a e bs
-  need partsLegal (stepOf k) a c (drop (headOf k) bs) or 11 then ok (partValues (stepOf k) a c (drop (headOf k) bs), drop long bs)
+  need partsLegal (stepOf k) a c (drop (headOf k) bs) or 11 further faultAt (stepOf k) a c (headOf k) bs then ok (partValues (stepOf k) a c (drop (headOf k) bs), drop long bs)
 
 unfoldable pub readBy : LayoutRow → Read Values
 readBy l bs = readKind (l .kind) (l .least) (l .most) (l .first) (l .end) bs

@@ -17,7 +17,7 @@ ghost use Prim.Native.Nat.{_+_, _-_, _*_, _%_, _≤_, _<_, _^_};
 ghost use lib.ListN.{length, take, drop};
 ghost use lib.Seq.{sets};
 ghost use Rattle.rules.specs.Layout.{joined, flatten};
-ghost use Rattle.layouts.specs.Read.{rowsAt, partAt, legal, span, partSound, partsSound, partsLegal, values, count, holds, partValues, shapeIs, chain, listShape, headOf, stepOf, shapeOf, wholeOf, rowSound};
+ghost use Rattle.layouts.specs.Read.{rowsAt, partAt, legal, span, partSound, partsSound, partsLegal, faultAt, values, count, holds, partValues, shapeIs, chain, listShape, headOf, stepOf, shapeOf, wholeOf, rowSound};
 ghost use lib.Dec.{eqb};
 ghost use Rattle.tables.specs.Tables.{groupCount, groupAt};
 
@@ -74,13 +74,22 @@ pub fn parts_legal(s: &[u8], at: usize, count: usize, group: usize, step: usize)
     true
 }
 
+// Where the first field at fault among so many parts stands, which start at a place, counted from the item's first octet. It is asked on refusal
+// alone. Whichever field it is, the refusal is at the item's start, so nothing is looked at.
+pub fn fault_at(s: &[u8], at: usize, count: usize, group: usize, step: usize) -> usize
+    requires { ⌜ (step ≤ 1) × (partsSound step group count ≡ true) × (at + span step group count ≤ length (now s)) ⌝ }
+    ensures { λ r. ⌜ r ≡ faultAt step group count at (now (s .entry)) ⌝ }
+{
+    0
+}
+
 // ---- shapes
 
 // How many parts an item has, and how many octets it takes.
 pub enum Shape {
     Parts { count: usize, long: usize },
-    // The number of the refusal, which is at the item's start.
-    Refused { number: u8 },
+    // The number of the refusal, and its place, counted from the item's first octet.
+    Refused { number: u8, place: usize },
 }
 
 fn octet(x: u8) -> usize
@@ -107,7 +116,10 @@ fn chain_of(s: &[u8], first: usize, last: usize) -> Shape
     while g < last {
         let size = size_at(g);
         if s.len() - at < size {
-            return Shape::Refused { number: 9 };
+            return Shape::Refused {
+                number: 9,
+                place: 0,
+            };
         }
         at = at + size;
         count = count + 1;
@@ -116,7 +128,10 @@ fn chain_of(s: &[u8], first: usize, last: usize) -> Shape
         }
         g = g + 1;
     }
-    Shape::Refused { number: 11 }
+    Shape::Refused {
+        number: 11,
+        place: 0,
+    }
 }
 
 // The shape of a list of n parts, of which an item may have so many, in as many octets as there are.
@@ -126,13 +141,22 @@ fn list_of(l: LayoutRow, n: usize, have: usize) -> Shape
 {
     let long = 1 + n * size_at(l.first);
     if have < long {
-        return Shape::Refused { number: 9 };
+        return Shape::Refused {
+            number: 9,
+            place: 0,
+        };
     }
     if n < l.least {
-        return Shape::Refused { number: 11 };
+        return Shape::Refused {
+            number: 11,
+            place: 0,
+        };
     }
     if l.most < n {
-        return Shape::Refused { number: 11 };
+        return Shape::Refused {
+            number: 11,
+            place: 0,
+        };
     }
     Shape::Parts { count: n, long }
 }
@@ -145,12 +169,18 @@ pub fn shape_of(l: LayoutRow, s: &[u8]) -> Shape
 {
     let kind = l.kind;
     if kind == NONE {
-        return Shape::Refused { number: 21 };
+        return Shape::Refused {
+            number: 21,
+            place: 0,
+        };
     }
     if kind == FIXED {
         let size = size_at(l.first);
         if s.len() < size {
-            return Shape::Refused { number: 9 };
+            return Shape::Refused {
+                number: 9,
+                place: 0,
+            };
         }
         return Shape::Parts {
             count: 1,
@@ -161,15 +191,24 @@ pub fn shape_of(l: LayoutRow, s: &[u8]) -> Shape
         return chain_of(s, l.first, l.end);
     }
     if s.len() < 1 {
-        return Shape::Refused { number: 9 };
+        return Shape::Refused {
+            number: 9,
+            place: 0,
+        };
     }
     let n = octet(s[0]);
     if kind == LED {
         if n <= l.least {
-            return Shape::Refused { number: 10 };
+            return Shape::Refused {
+                number: 10,
+                place: 0,
+            };
         }
         if s.len() < n {
-            return Shape::Refused { number: 9 };
+            return Shape::Refused {
+                number: 9,
+                place: 0,
+            };
         }
         return Shape::Parts {
             count: n - 1,
@@ -206,15 +245,22 @@ pub fn whole_of(l: LayoutRow, s: &[u8]) -> Shape
         if parts_legal(s, 0, count, l.first, 1) {
             return shape;
         }
-        return Shape::Refused { number: 11 };
+        return Shape::Refused {
+            number: 11,
+            place: fault_at(s, 0, count, l.first, 1),
+        };
     }
     if is_free(l.first) {
         return shape;
     }
-    if parts_legal(s, head_of(kind), count, l.first, 0) {
+    let head = head_of(kind);
+    if parts_legal(s, head, count, l.first, 0) {
         return shape;
     }
-    Shape::Refused { number: 11 }
+    Shape::Refused {
+        number: 11,
+        place: fault_at(s, head, count, l.first, 0),
+    }
 }
 
 // ---- storing

@@ -22,8 +22,9 @@ use Rattle.rules.proofs.AnswerLaws.{refused-ok, ok-inj, bind-elim, need-elim, i
 use Rattle.tables.specs.declared.tables.LayoutRow.{LayoutRow}
 use Rattle.tables.specs.Tables.{groups, layouts, groupAt, layoutAt, placeRowAt}
 use Rattle.tables.proofs.TableLaws.{profile-past}
-use Rattle.layouts.specs.Read.{Shaped, chain, listShape, shapeBy, shapeOf, wholeOf, wholeSize}
+use Rattle.layouts.specs.Read.{Shaped, chain, listShape, shapeBy, shapeOf, wholeSize}
 use Rattle.layouts.proofs.ReadLaws.{le-or-lt}
+use Rattle.layouts.proofs.WholeLaws.{whole-shape}
 use Rattle.items.specs.Answers.{checkAt}
 use Rattle.items.proofs.CheckLaws.{check-place}
 use Rattle.records.proofs.PlaceLaws.{check-few}
@@ -101,12 +102,10 @@ shape-size (suc (suc (suc (suc k)))) lo hi a e bs s w h =
     chain-two a bs s (v .1) (v .2) (subst (λ x. chain a x bs ≡ ok s) n h)
 
 row-size : (l : LayoutRow) (bs : List ℕ) (n : ℕ) → (4 ≤ l .kind → Short (l .first) (l .end)) → wholeSize l bs ≡ ok n → n ≡ octetsBy (l .kind) (l .first) (getD bs 0 0)
-unfolding wholeSize wholeOf shapeOf
+unfolding wholeSize shapeOf
 row-size l bs n w h =
     bind-elim _ _ h λ s p h₁.
-    bind-elim _ _ p λ r q p₁.
-    need-elim _ _ _ p₁ λ t g.
-    sym (ok-inj h₁) ∙ ap (λ x. x .1) (sym (ok-inj g)) ∙ shape-size (l .kind) (l .least) (l .most) (l .first) (l .end) bs r w q
+    sym (ok-inj h₁) ∙ shape-size (l .kind) (l .least) (l .most) (l .first) (l .end) bs s w (whole-shape l bs s p)
 
 -- ---- every place: there is no item there, or its octets are those of its row
 
@@ -136,7 +135,7 @@ all-sizes = refl
 -- ---- the law
 
 size-here : (i f : ℕ) (bs : List ℕ) (n : ℕ) → i < 2 → f < 36 → Octets bs → checkAt i f bs ≡ ok n → n ≡ octetsAt i f (getD bs 0 0)
-unfolding wholeSize wholeOf shapeOf shapeBy
+unfolding wholeSize shapeOf shapeBy
 size-here i f bs n h k o c =
     let l : LayoutRow = rowOf i f in
     let w : wholeSize l bs ≡ ok n = check-place i f bs h k o ∙ c in
@@ -151,8 +150,7 @@ size-here i f bs n h k o c =
     none-there : (l : LayoutRow) → l .kind ≡ 0 → wholeSize l bs ≡ ok n → ⊥
     none-there l e w =
         bind-elim _ _ w λ s p _.
-        bind-elim _ _ p λ r q _.
-        refused-ok (subst (λ x. shapeBy x (l .least) (l .most) (l .first) (l .end) bs ≡ ok r) e q)
+        refused-ok (subst (λ x. shapeBy x (l .least) (l .most) (l .first) (l .end) bs ≡ ok s) e (whole-shape l bs s p))
 
     at-least : (k : ℕ) → 4 ≤ k → ltb k 4 ≡ true → ⊥
     at-least k m e = let z : _≡_ {A = ℕ} 0 1 = cc (le-ltb k 4 m, e) in absurd (omega arith)

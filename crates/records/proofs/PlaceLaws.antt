@@ -101,9 +101,13 @@ unfolding expect_or_
 expect-start (some a) n = ok-start a
 expect-start none n = no-start n
 
-pub check-start : (i f : ℕ) (bs : List ℕ) → AtStart (checkAt i f bs)
+check-start : (i f : ℕ) (bs : List ℕ) → AtStart (checkAt i f bs)
 unfolding checkAt sizeOf
 check-start i f bs = bind-start _ _ (expect-start _ 21) (λ p. bind-start _ _ (item-start (p .layout) bs) (λ x. ok-start _))
+
+-- a refusal lies within the octets that the item starts
+pub check-near : (i f : ℕ) (bs : List ℕ) (n p : ℕ) → checkAt i f bs ≡ refused n p → p ≤ length bs
+check-near i f bs n p h = omega (arith, check-start i f bs n p h)
 
 pub check-within : (i f : ℕ) (bs : List ℕ) (n : ℕ) → checkAt i f bs ≡ ok n → n ≤ length bs
 unfolding checkAt sizeOf

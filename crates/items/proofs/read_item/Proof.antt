@@ -44,7 +44,7 @@ item-store-requires c κs =
 
 returns-2 : tie.Need-returns-2
 returns-2 c =
-    let a = one-refused _ _ _ _ (c .before .before .before .before .before .layout-of .ensures .1) (layout-sound _ (c .before .before .before .before .before .layout-of .ensures .0)) (octets-at (c .before .before .before .before .before .before)) _ (c .before .before .before .before .layout-at .ensures) _ (sym (ap shapeIs (c .before .number .given .1)) ∙ c .before .before .before .whole-of .ensures) in
+    let a = one-refused _ _ _ _ (c .before .before .before .before .before .layout-of .ensures .1) (layout-sound _ (c .before .before .before .before .before .layout-of .ensures .0)) (octets-at (c .before .before .before .before .before .before)) _ (c .before .before .before .before .layout-at .ensures) _ _ (sym (ap shapeIs (c .before .number .given .1)) ∙ c .before .before .before .whole-of .ensures) in
     (a .answer, a .left)
 
 returns-3 : tie.Need-returns-3

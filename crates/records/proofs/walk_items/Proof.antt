@@ -6,7 +6,7 @@ use lib.ListN.{length}
 use borrow.Author.Needs.{needs}
 use Rattle.rules.specs.Answer.{ok, refused}
 use Rattle.items.specs.Answers.{checkAt, checkedOf}
-use Rattle.records.proofs.PlaceLaws.{check-start, check-within, check-few}
+use Rattle.records.proofs.PlaceLaws.{check-near, check-within, check-few}
 use Rattle.records.proofs.WalkLaws.{check-refused, Standing, stand-first, stand-end, stand-less, stand-skip, stand-stop, stand-item}
 use Rattle.records.proofs.walk_items.Statement.{statement}
 use Rattle.records.proofs.walk_items.Tie as tie
@@ -55,7 +55,7 @@ barred : (c : tie.After-item-place Inv-loop μ-loop)
 barred c = check-refused _ _ _ _ _ _ (c .before .before .before .before .item-check .ensures) (c .before .before .enum-told .given .1) (c .before .item-number .ensures) (c .item-place .ensures)
 
 add-stopped : tie.Need-add-stopped Inv-loop μ-loop
-add-stopped c = omega (arith, check-start _ _ _ _ _ (barred c), c .before .before .before .before .before .before .before .loop .inv .room)
+add-stopped c = omega (arith, check-near _ _ _ _ _ (barred c), c .before .before .before .before .before .before .before .loop .inv .room)
 
 stopped-requires : tie.Need-stopped-requires Inv-loop μ-loop
 stopped-requires c κs = search needs

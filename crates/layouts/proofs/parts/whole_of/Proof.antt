@@ -40,8 +40,13 @@ parts-legal-requires c κs =
 returns-2 : tie.Need-returns-2
 returns-2 c = chain-legal _ _ _ _ (shape-at (c .before .before .before)) (c .before .before .before .before .before .before .before .before .pre) (octets-at (c .before .before .before .before .before .before .before)) (c .before .before .if1 .taken) (c .before .parts-legal .ensures) (c .if2 .taken)
 
+fault-at-requires : tie.Need-fault-at-requires
+fault-at-requires c κs =
+    let w = walk-chain _ _ _ _ (shape-at (c .before .before .before)) (c .before .before .before .before .before .before .before .before .pre) (octets-at (c .before .before .before .before .before .before .before)) (c .before .before .if1 .taken) in
+    (lit≤ tt, w .sound, w .there)
+
 returns-3 : tie.Need-returns-3
-returns-3 c = chain-barred _ _ _ _ (shape-at (c .before .before .before)) (c .before .before .before .before .before .before .before .before .pre) (octets-at (c .before .before .before .before .before .before .before)) (c .before .before .if1 .taken) (c .before .parts-legal .ensures) (c .if2 .left)
+returns-3 c = chain-barred _ _ _ _ (shape-at (c .before .before .before .before)) (c .before .before .before .before .before .before .before .before .before .pre) (octets-at (c .before .before .before .before .before .before .before .before)) (c .before .before .before .if1 .taken) (c .before .before .parts-legal .ensures) (c .before .if2 .left) (c .fault-at .ensures)
 
 is-free-requires : tie.Need-is-free-requires
 is-free-requires c κs = group-at _ _ _ _ (shape-at (c .before)) (c .before .before .before .before .before .before .pre) (octets-at (c .before .before .before .before .before)) (c .if1 .left) .inside
@@ -60,8 +65,13 @@ parts-legal-requires-2 c κs =
 returns-5 : tie.Need-returns-5
 returns-5 c = equal-legal _ _ _ _ (shape-at (c .before .before .before .before .before .before)) (c .before .before .before .before .before .before .before .before .before .before .before .pre) (octets-at (c .before .before .before .before .before .before .before .before .before .before)) (c .before .before .before .before .before .if1 .left) (c .before .before .head-of .ensures) (c .before .parts-legal2 .ensures) (c .if4 .taken)
 
+fault-at-requires-2 : tie.Need-fault-at-requires-2
+fault-at-requires-2 c κs =
+    let w = walk-equal _ _ _ _ (shape-at (c .before .before .before .before .before .before)) (c .before .before .before .before .before .before .before .before .before .before .before .pre) (octets-at (c .before .before .before .before .before .before .before .before .before .before)) (c .before .before .before .before .before .if1 .left) (c .before .before .head-of .ensures) in
+    (lit≤ tt, w .sound, w .there)
+
 returns-6 : tie.Need-returns-6
-returns-6 c = equal-barred _ _ _ _ (shape-at (c .before .before .before .before .before .before)) (c .before .before .before .before .before .before .before .before .before .before .before .pre) (octets-at (c .before .before .before .before .before .before .before .before .before .before)) (c .before .before .before .before .before .if1 .left) (c .before .before .head-of .ensures) (c .before .parts-legal2 .ensures) (c .if4 .left)
+returns-6 c = equal-barred _ _ _ _ (shape-at (c .before .before .before .before .before .before .before)) (c .before .before .before .before .before .before .before .before .before .before .before .before .pre) (octets-at (c .before .before .before .before .before .before .before .before .before .before .before)) (c .before .before .before .before .before .before .if1 .left) (c .before .before .before .head-of .ensures) (c .before .before .parts-legal2 .ensures) (c .before .if4 .left) (c .fault-at2 .ensures)
 
 pub whole-of-spec : {M : Type 1} → statement M
 whole-of-spec =
@@ -73,10 +83,12 @@ whole-of-spec =
     returns
     parts-legal-requires
     returns-2
+    fault-at-requires
     returns-3
     is-free-requires
     returns-4
     head-of-requires
     parts-legal-requires-2
     returns-5
+    fault-at-requires-2
     returns-6)
