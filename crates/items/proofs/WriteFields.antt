@@ -42,10 +42,6 @@ pack-short (value w k ∷ fs) [] h = refl
 pack-short (value w k ∷ fs) (v ∷ vs) h =
     no-bind _ (put-eleven w k v) λ c. no-need _ _ (ap (λ m. m >>= (λ n. ok (c * 2 ^ bits fs + n))) (pack-short fs vs (omega arith)))
 
-pub packFirst-eleven : (fs : List Field) (vs : List ℤ) → Eleven (packFirst fs vs)
-unfolding packFirst
-packFirst-eleven fs vs = pack-eleven fs _
-
 packFirst-short : (fs : List Field) (vs : List ℤ) → length vs < arity fs → packFirst fs vs ≡ refused 11 0
 unfolding packFirst
 packFirst-short fs vs h = ap (pack fs) (take-all (arity fs) vs (omega arith)) ∙ pack-short fs vs h

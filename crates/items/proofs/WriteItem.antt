@@ -30,7 +30,6 @@ use Rattle.layouts.proofs.Stores.{sets-append, sets-over}
 use Rattle.items.specs.Answers.{countOf}
 use Rattle.items.specs.Write.{partsOf, chained, headOf, partsAt, chainedAt, headAt, groupIn, numbersOf, marked, laidParts, parts, countParts, layParts}
 use Rattle.items.proofs.WriteSound.{All, SoundGroup, Sound}
-use Rattle.items.proofs.WriteRefusals.{Eleven, done, not-done, eleven-bind, partsFrom-eleven, packAll-eleven}
 use Rattle.items.proofs.WriteTables.{layout-row-is}
 use Rattle.items.proofs.WriteLaid.{fields-laid, fit-length, numbers-fit}
 
@@ -163,18 +162,14 @@ present-elim : {A C : Type 0} (m : Option A) → present m ≡ true → ((a : A)
 present-elim none e k = absurd (false≢true e)
 present-elim (some a) e k = k a refl
 
-numbers-eleven : (gs : List Group) (vs : List ℤ) → Eleven (numbersOf gs vs)
-unfolding numbersOf
-numbers-eleven gs vs = eleven-bind _ (partsFrom-eleven _ vs) λ ps. packAll-eleven _ ps
-
 -- what the count of the parts says of their numbers
-counted-no : (fx : Bool) (gs : List Group) (vs : List ℤ) → refused 11 0 ≡ countParts fx gs vs → numbersOf gs vs ≡ refused 11 0
+counted-no : (fx : Bool) (gs : List Group) (vs : List ℤ) {x y : ℕ} → refused x y ≡ countParts fx gs vs → numbersOf gs vs ≡ refused x y
 unfolding countParts _>>=_
-counted-no fx gs vs h = go (numbers-eleven gs vs) h
+counted-no fx gs vs {x} {y} h = go (numbersOf gs vs) h
   where
-    go : {m : Answer (List ℕ)} → Eleven m → refused 11 0 ≡ (m >>= (λ ns. ok (parts (length ns) (length (laidParts fx gs ns))))) → m ≡ refused 11 0
-    go done e = refused-ok e
-    go not-done e = refl
+    go : (m : Answer (List ℕ)) → refused x y ≡ (m >>= (λ ns. ok (parts (length ns) (length (laidParts fx gs ns))))) → m ≡ refused x y
+    go (ok ns) e = refused-ok e
+    go (refused a b) e = cc
 
 pub record Counted (fx : Bool) (gs : List Group) (vs : List ℤ) (k s : ℕ) : Type 0 where
   pub ns : List ℕ
@@ -240,10 +235,10 @@ module _ (cat ref i : ℕ) (vs : List ℤ) (out : List ℕ) (h : (i < layoutCoun
         present-elim (layoutIs (layoutAt i)) (some-layout i z (h .0)) λ l d.
         bind-in _ (sym (h .1) ∙ ap (λ x. expect x or 21) d) (ap (λ m. m >>= (λ bs. need leb (length bs) (length out) or 16 then ok bs)) (written-by i l vs (layout-is i l d) ∙ e))
 
-    pub not-fields : refused 11 0 ≡ countParts (chainedAt i) (partsAt i) vs → Answers (refused 11 0) out (writeOne categories cat ref vs (length out)) out
+    pub not-fields : {x y : ℕ} → refused x y ≡ countParts (chainedAt i) (partsAt i) vs → Answers (refused x y) out (writeOne categories cat ref vs (length out)) out
     unfolding _>>=_
-    not-fields e =
-        refusal 11 0 out (one-by {m = refused 11 0} (ap (λ m. m >>= (λ ns. need leb (layoutAt i .least) (length ns) or 11 then ok (headAt i (length ns) ++ laidParts (chainedAt i) (partsAt i) ns))) (counted-no (chainedAt i) (partsAt i) vs e)))
+    not-fields {x} {y} e =
+        refusal x y out (one-by {m = refused x y} (ap (λ m. m >>= (λ ns. need leb (layoutAt i .least) (length ns) or 11 then ok (headAt i (length ns) ++ laidParts (chainedAt i) (partsAt i) ns))) (counted-no (chainedAt i) (partsAt i) vs e)))
 
     module _ (k s : ℕ) (e : ok (parts k s) ≡ countParts (chainedAt i) (partsAt i) vs) {r : LayoutRow} (er : r ≡ layoutAt i) where
       c : Counted (chainedAt i) (partsAt i) vs k s

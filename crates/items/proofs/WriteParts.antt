@@ -117,7 +117,7 @@ join-cons n w k fs vs {c} e = rw (pack-cons w k fs vs, e) (go (packFirst fs (dro
     go (ok m) = ap ok (join-sum n w c (bits fs) m)
     go (refused x y) = refl
 
-join-no : (n w : ℕ) (k : Kind) (fs : List Field) (vs : List ℤ) → codeFor (value w k) vs ≡ refused 11 0 → joinPack n (value w k ∷ fs) vs ≡ refused 11 0
+join-no : (n w : ℕ) (k : Kind) (fs : List Field) (vs : List ℤ) {x y : ℕ} → codeFor (value w k) vs ≡ refused x y → joinPack n (value w k ∷ fs) vs ≡ refused x y
 unfolding joinPack _>>=_
 join-no n w k fs vs e = rw (pack-cons w k fs vs, e)
 
@@ -235,15 +235,15 @@ module _ (fs : List Field) (vs : List ℤ) (at e i n k : ℕ) (p : Packing fs vs
       )
 
   -- no value, or one outside its range
-  pack-no : (fieldRow (fieldIn i) .holds ≡ 2 → ⊥) → codeFor (fieldIn i) (drop k vs) ≡ refused 11 0 → packFrom fs vs at ≡ refused 11 0
+  pack-no : {x q : ℕ} → (fieldRow (fieldIn i) .holds ≡ 2 → ⊥) → codeFor (fieldIn i) (drop k vs) ≡ refused x q → packFrom fs vs at ≡ refused x q
   unfolding packFrom _>>=_
-  pack-no y ec =
+  pack-no {x} {q} y ec =
       let w = fieldRow (fieldIn i) .bits in
       let v = value-is (fieldIn i) y in
       let rest = slice (i + 1) e fields in
-      let q : packFirst fs (drop at vs) ≡ refused 11 0 =
+      let d : packFirst fs (drop at vs) ≡ refused x q =
       sym (p .same) ∙ ap (λ x. joinPack n x (drop k vs)) (cons ∙ ap (λ x. x ∷ rest) v) ∙ join-no n w (kindOf (fieldIn i)) rest (drop k vs) (ap (λ f. codeFor f (drop k vs)) (sym v) ∙ ec) in
-      ap (λ m. m >>= (λ n. ok (part n (at + arity fs)))) q
+      ap (λ m. m >>= (λ n. ok (part n (at + arity fs)))) d
 
   -- the same by the row
   module _ {r : FieldRow} (er : r ≡ fieldAt i) where
@@ -256,7 +256,7 @@ module _ (fs : List Field) (vs : List ℤ) (at e i n k : ℕ) (p : Packing fs vs
     pub turn-value : {c : ℕ} → (r .holds ≡ 2 → ⊥) → ok c ≡ codeFor (fieldIn i) (drop k vs) → (k < length vs) × Added fs vs at e i n k (r .bits) c (k + 1)
     turn-value {c} y ec = subst (λ x. (k < length vs) × Added fs vs at e i n k (x .bits) c (k + 1)) row-is (add-value (λ z. y (sym (ap (λ x. x .holds) row-is) ∙ z)) (sym ec))
 
-    pub turn-no : (r .holds ≡ 2 → ⊥) → refused 11 0 ≡ codeFor (fieldIn i) (drop k vs) → refused 11 0 ≡ packFrom fs vs at
+    pub turn-no : {x q : ℕ} → (r .holds ≡ 2 → ⊥) → refused x q ≡ codeFor (fieldIn i) (drop k vs) → refused x q ≡ packFrom fs vs at
     turn-no y ec = sym (pack-no (λ z. y (sym (ap (λ x. x .holds) row-is) ∙ z)) (sym ec))
 
 field-nil : (i e : ℕ) → e ≤ i → e ≤ fieldCount → slice i e fields ≡ []

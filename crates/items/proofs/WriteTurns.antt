@@ -26,8 +26,7 @@ use Rattle.layouts.proofs.Stores.{sets-append}
 use Rattle.items.specs.Write.{noGroup, groupIn, packFirst, numbersOf, marked, laidParts, partsAt, chainedAt, part, packFrom, Parts, parts, countParts, layParts}
 use Rattle.items.proofs.WriteSound.{All, SoundGroup, all-drop}
 use Rattle.items.proofs.WriteTables.{layout-row-is, group-in-sound}
-use Rattle.items.proofs.WriteRefusals.{Eleven, done, not-done}
-use Rattle.items.proofs.WriteFields.{packFirst-eleven, numbers-none, numbers-over, numbers-cons}
+use Rattle.items.proofs.WriteFields.{numbers-none, numbers-over, numbers-cons}
 use Rattle.items.proofs.WriteLaid.{Fit, numbers-fit, part-lt, laid-none}
 
 -- ---- a part and those after it
@@ -40,13 +39,13 @@ packed-ok fs vs p n k h =
     let d = ok-inj h₁ in
     (e ∙ ap (λ x. ok (x .number)) d, sym (ap (λ x. x .next) d))
 
-packed-no : (fs : List Field) (vs : List ℤ) (p : ℕ) → refused 11 0 ≡ packFrom fs vs p → packFirst fs (drop p vs) ≡ refused 11 0
+packed-no : (fs : List Field) (vs : List ℤ) (p : ℕ) {x y : ℕ} → refused x y ≡ packFrom fs vs p → packFirst fs (drop p vs) ≡ refused x y
 unfolding packFrom _>>=_
-packed-no fs vs p h = go (packFirst-eleven fs (drop p vs)) h
+packed-no fs vs p {x} {y} h = go (packFirst fs (drop p vs)) h
   where
-    go : {m : Answer ℕ} → Eleven m → refused 11 0 ≡ (m >>= (λ n. ok (part n (p + arity fs)))) → m ≡ refused 11 0
-    go done e = refused-ok e
-    go not-done e = refl
+    go : (m : Answer ℕ) → refused x y ≡ (m >>= (λ n. ok (part n (p + arity fs)))) → m ≡ refused x y
+    go (ok n) e = refused-ok e
+    go (refused a b) e = cc
 
 -- the part at a place of the parts, and those after it
 module _ (gs : List Group) (vs : List ℤ) (k p : ℕ) {g : Group} (eg : g ≡ getD gs k noGroup) (h : k < length gs) (t : p < length vs) where
@@ -69,7 +68,7 @@ module _ (gs : List Group) (vs : List ℤ) (k p : ℕ) {g : Group} (eg : g ≡ g
       ∙ ap (λ x. x >>= (λ n. numbersOf (drop (k + 1) gs) (drop (p + arity (g .fields)) vs) >>= (λ ns. ok (n ∷ ns)))) a
       ∙ ap (λ x. numbersOf (drop (k + 1) gs) (drop x vs) >>= (λ ns. ok (n ∷ ns))) (sym b)
 
-  cut-no : refused 11 0 ≡ packFrom (g .fields) vs p → numbersOf (drop k gs) (drop p vs) ≡ refused 11 0
+  cut-no : {x y : ℕ} → refused x y ≡ packFrom (g .fields) vs p → numbersOf (drop k gs) (drop p vs) ≡ refused x y
   unfolding _>>=_
   cut-no e =
       cut-cons ∙ ap (λ x. x >>= (λ n. numbersOf (drop (k + 1) gs) (drop (p + arity (g .fields)) vs) >>= (λ ns. ok (n ∷ ns)))) (packed-no (g .fields) vs p e)
@@ -143,7 +142,7 @@ module _ (l : ℕ) (vs : List ℤ) (m k s p : ℕ) (c : Counting l vs m k s p) w
 
       module _ (j : ℕ) (ej : groupIn j ≡ getD (partsAt l) k noGroup) where
         -- a part that cannot be packed
-        pub count-no : refused 11 0 ≡ packFrom (groupIn j .fields) vs p → refused 11 0 ≡ countParts (chainedAt l) (partsAt l) vs
+        pub count-no : {x y : ℕ} → refused x y ≡ packFrom (groupIn j .fields) vs p → refused x y ≡ countParts (chainedAt l) (partsAt l) vs
         unfolding moreParts _>>=_
         count-no e =
             sym (ap (λ x. x >>= (λ ns. ok (parts (k + length ns) (s + length (laidParts (chainedAt l) (drop k (partsAt l)) ns))))) (cut-no (partsAt l) vs k p ej part-in t e)) ∙ c .same
@@ -304,7 +303,7 @@ module _ (l : ℕ) (vs : List ℤ) (count start : ℕ) (out₀ : List ℕ) (fx :
 
     module _ (j : ℕ) (ej : groupIn j ≡ getD (partsAt l) i noGroup) where
       -- every part was packed before
-      pub packs : {C : Type 0} → refused 11 0 ≡ packFrom (groupIn j .fields) vs p → C
+      pub packs : {C : Type 0} {x y : ℕ} → refused x y ≡ packFrom (groupIn j .fields) vs p → C
       packs e = refused-ok (sym (cut-no (partsAt l) vs i p ej group-in values-in e) ∙ c .left)
 
       pub placed : {n p′ : ℕ} {r : GroupRow} → r ≡ groupAt j → ok (part n p′) ≡ packFrom (groupIn j .fields) vs p → Placed l vs count start out₀ fx out i p q n p′ (r .octets)

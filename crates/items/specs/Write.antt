@@ -110,7 +110,7 @@ codeFor f (v ∷ vs) = do
 
 abbrev pub codedAs : Coded → Answer ℕ
 codedAs (coded.Bits c) = ok c
-codedAs coded.Outside = refused 11 0
+codedAs (coded.Refused n p) = refused n p
 
 pub record Part : Type 0 where
   pub number : ℕ
@@ -126,7 +126,7 @@ packFrom fs vs at = do
 
 abbrev pub packedAs : Packed → Answer Part
 packedAs (packed.Number n k) = ok (part n k)
-packedAs packed.Outside = refused 11 0
+packedAs (packed.Refused n p) = refused n p
 
 pub record Parts : Type 0 where
   pub count : ℕ
@@ -142,7 +142,7 @@ countParts fx gs vs = do
 
 abbrev pub countedAs : Counted → Answer Parts
 countedAs (counted.Parts k n) = ok (parts k n)
-countedAs counted.Outside = refused 11 0
+countedAs (counted.Refused n p) = refused n p
 
 unfoldable pub layParts : Bool → List Group → List ℤ → Answer (List ℕ)
 layParts fx gs vs = do

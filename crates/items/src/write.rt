@@ -45,8 +45,8 @@ fn append_bits(n: u64, bits: u64, code: u64) -> u64
 // The bits that stand for a value.
 pub enum Coded {
     Bits(u64),
-    // There is no value, or it is outside the field's range.
-    Outside,
+    // There is no value, or it is outside the field's range: the number of the refusal, and its place, counted from the item's first octet.
+    Refused { number: u8, place: usize },
 }
 
 // The bits of the value at a place of a list, in the field at a place of the table.
@@ -56,14 +56,23 @@ fn code_at(field: usize, values: &[i64], at: usize) -> Coded
 {
     let f = field_at(field);
     if values.len() <= at {
-        return Coded::Outside;
+        return Coded::Refused {
+            number: 11,
+            place: 0,
+        };
     }
     let v = values[at];
     if v < f.least {
-        return Coded::Outside;
+        return Coded::Refused {
+            number: 11,
+            place: 0,
+        };
     }
     if f.greatest < v {
-        return Coded::Outside;
+        return Coded::Refused {
+            number: 11,
+            place: 0,
+        };
     }
     if v < 0 {
         let bits = f.bits;
@@ -78,8 +87,8 @@ fn code_at(field: usize, values: &[i64], at: usize) -> Coded
 pub enum Packed {
     // The number, and the place of the first value after the part's.
     Number { number: u64, next: usize },
-    // A value is missing, or outside its field's range.
-    Outside,
+    // A value is missing, or outside its field's range: the refusal, as it was handed back.
+    Refused { number: u8, place: usize },
 }
 
 // The number of the part whose values start at a place of a list, by the group at a place of the table.
@@ -99,12 +108,16 @@ fn pack_part(group: usize, values: &[i64], at: usize) -> Packed
             i = i + 1;
             continue;
         }
-        let Coded::Bits(code) = code_at(i, values, k) else {
-            return Packed::Outside;
-        };
-        n = append_bits(n, f.bits, code);
-        k = k + 1;
-        i = i + 1;
+        match code_at(i, values, k) {
+            Coded::Refused { number, place } => {
+                return Packed::Refused { number, place };
+            }
+            Coded::Bits(code) => {
+                n = append_bits(n, f.bits, code);
+                k = k + 1;
+                i = i + 1;
+            }
+        }
     }
     Packed::Number { number: n, next: k }
 }
@@ -156,8 +169,8 @@ fn part_group(layout: usize, part: usize) -> usize
 pub enum Counted {
     // So many parts, of so many octets together.
     Parts { count: usize, size: usize },
-    // They are not the fields of an item.
-    Outside,
+    // They are not the fields of an item: the refusal, of too many values or as it was handed back.
+    Refused { number: u8, place: usize },
 }
 
 // The parts that a list of values makes, by the layout at a place of the table.
@@ -172,16 +185,23 @@ fn count_parts(layout: usize, values: &[i64]) -> Counted
     let mut at: usize = 0;
     while at < values.len() {
         if most <= count {
-            return Counted::Outside;
+            return Counted::Refused {
+                number: 11,
+                place: 0,
+            };
         }
         let group = part_group(layout, count);
-        let Packed::Number { number: _, next } = pack_part(group, values, at) else {
-            return Counted::Outside;
-        };
-        let g = group_at(group);
-        size = size + g.octets;
-        at = next;
-        count = count + 1;
+        match pack_part(group, values, at) {
+            Packed::Refused { number, place } => {
+                return Counted::Refused { number, place };
+            }
+            Packed::Number { number: _, next } => {
+                let g = group_at(group);
+                size = size + g.octets;
+                at = next;
+                count = count + 1;
+            }
+        }
     }
     Counted::Parts {
         count: count,
@@ -275,28 +295,27 @@ pub fn write_item(category: u8, reference: u16, fields: &[i64], out: &mut [u8]) 
             place: 0,
         };
     }
-    let Counted::Parts { count, size } = count_parts(layout, fields) else {
-        return ItemWritten::Refused {
-            number: 11,
-            place: 0,
-        };
-    };
-    let l = layout_at(layout);
-    if count < l.least {
-        return ItemWritten::Refused {
-            number: 11,
-            place: 0,
-        };
+    match count_parts(layout, fields) {
+        Counted::Refused { number, place } => ItemWritten::Refused { number, place },
+        Counted::Parts { count, size } => {
+            let l = layout_at(layout);
+            if count < l.least {
+                return ItemWritten::Refused {
+                    number: 11,
+                    place: 0,
+                };
+            }
+            let head = head_size(layout);
+            let length = head + size;
+            if out.len() < length {
+                return ItemWritten::Refused {
+                    number: 16,
+                    place: 0,
+                };
+            }
+            lay_head(layout, count, out);
+            lay_parts(layout, fields, count, out, head);
+            ItemWritten::Length(length)
+        }
     }
-    let head = head_size(layout);
-    let length = head + size;
-    if out.len() < length {
-        return ItemWritten::Refused {
-            number: 16,
-            place: 0,
-        };
-    }
-    lay_head(layout, count, out);
-    lay_parts(layout, fields, count, out, head);
-    ItemWritten::Length(length)
 }

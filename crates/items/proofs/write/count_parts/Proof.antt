@@ -45,20 +45,20 @@ pack-part-requires : tie.Need-pack-part-requires Inv-loop μ-loop
 pack-part-requires c κs =
     c .part-group .ensures .0
 
-enum-known-next : tie.Need-enum-known-next Inv-loop μ-loop
-enum-known-next c =
-    search needs
-
-enum-told : tie.Need-enum-told Inv-loop μ-loop
-enum-told c =
+enum-known-number : tie.Need-enum-known-number Inv-loop μ-loop
+enum-known-number c =
     search needs
 
 -- a part that cannot be packed
 returns-2 : tie.Need-returns-2 Inv-loop μ-loop
 returns-2 c =
-    count-no _ _ _ _ _ _ (c .before .before .before .before .before .before .loop .inv) (c .before .before .before .before .before .loop-test .taken)
-    (c .before .before .before .before .if1 .left) _ (c .before .before .before .part-group .ensures .1)
-    (sym (ap packedAs (c .enum-told .given .1)) ∙ c .before .before .pack-part .ensures)
+    count-no _ _ _ _ _ _ (c .before .before .before .before .before .before .before .loop .inv) (c .before .before .before .before .before .before .loop-test .taken)
+    (c .before .before .before .before .before .if1 .left) _ (c .before .before .before .before .part-group .ensures .1)
+    (sym (ap packedAs (c .before .number .given .1)) ∙ c .before .before .before .pack-part .ensures)
+
+enum-known-next : tie.Need-enum-known-next Inv-loop μ-loop
+enum-known-next c =
+    search needs
 
 group-at-requires : tie.Need-group-at-requires Inv-loop μ-loop
 group-at-requires c κs =
@@ -99,9 +99,9 @@ count-parts-spec =
     returns
     part-group-requires
     pack-part-requires
-    enum-known-next
-    enum-told
+    enum-known-number
     returns-2
+    enum-known-next
     group-at-requires
     add-size
     add-count

@@ -18,7 +18,7 @@ abbrev μ-loop : tie.MeasureT-loop
 μ-loop group values at end i₀ n₀ k₀ i n k = end - i
 
 -- a value was coded
-value-at : (c : tie.After-known-told Inv-loop μ-loop)
+value-at : (c : tie.After-known-told2 Inv-loop μ-loop)
     → (c .before .before .before .before .before .before .before .before .loop .k < length (now (c .before .before .before .before .before .before .before .before .before .before .args .values)))
     × Added (groupIn (c .before .before .before .before .before .before .before .before .before .before .args .group) .fields)
     (now (c .before .before .before .before .before .before .before .before .before .before .args .values))
@@ -67,20 +67,20 @@ code-at-requires : tie.Need-code-at-requires Inv-loop μ-loop
 code-at-requires c κs =
     in-place _ _ _ _ _ _ _ (c .before .before .before .before .loop .inv) (c .before .before .before .loop-test .taken)
 
-enum-known-code : tie.Need-enum-known-code Inv-loop μ-loop
-enum-known-code c =
-    search needs
-
-enum-told : tie.Need-enum-told Inv-loop μ-loop
-enum-told c =
+enum-known-number : tie.Need-enum-known-number Inv-loop μ-loop
+enum-known-number c =
     search needs
 
 -- no value, or one outside its range
 returns : tie.Need-returns Inv-loop μ-loop
 returns c =
-    turn-no _ _ _ _ _ _ _ (c .before .before .before .before .before .before .before .loop .inv) (c .before .before .before .before .before .before .loop-test .taken)
-    (c .before .before .before .before .before .field-at .ensures) (c .before .before .before .if1 .left)
-    (sym (ap codedAs (c .enum-told .given .1)) ∙ c .before .before .code-at .ensures)
+    turn-no _ _ _ _ _ _ _ (c .before .before .before .before .before .before .before .before .loop .inv) (c .before .before .before .before .before .before .before .loop-test .taken)
+    (c .before .before .before .before .before .before .field-at .ensures) (c .before .before .before .before .if1 .left)
+    (sym (ap codedAs (c .before .number .given .1)) ∙ c .before .before .before .code-at .ensures)
+
+enum-known-code : tie.Need-enum-known-code Inv-loop μ-loop
+enum-known-code c =
+    search needs
 
 append-bits-requires-2 : tie.Need-append-bits-requires-2 Inv-loop μ-loop
 append-bits-requires-2 c κs =
@@ -122,9 +122,9 @@ pack-part-spec =
     loop-less
     loop-again
     code-at-requires
-    enum-known-code
-    enum-told
+    enum-known-number
     returns
+    enum-known-code
     append-bits-requires-2
     add-k
     add-i-2

@@ -10,7 +10,7 @@ use Rattle.items.proofs.write.write_item.Statement.{statement}
 use Rattle.items.proofs.write.write_item.Tie as tie
 
 -- what was counted
-counted-at : (c : tie.After-known-told)
+counted-at : (c : tie.After-known-told2)
     → ok (parts (c .before .count .given .0 .0) (c .before .count .given .0 .1 .0))
     ≡ countParts (chainedAt (c .before .before .before .before .before .layout-of .result)) (partsAt (c .before .before .before .before .before .layout-of .result))
     (now (c .before .before .before .before .before .before .before .args .fields))
@@ -27,24 +27,18 @@ returns c =
 count-parts-requires : tie.Need-count-parts-requires
 count-parts-requires c κs = search needs
 
+enum-known-number : tie.Need-enum-known-number
+enum-known-number c = search needs
+
 enum-known-count : tie.Need-enum-known-count
 enum-known-count c = search needs
-
-enum-told : tie.Need-enum-told
-enum-told c = search needs
-
--- 11: the values make no parts
-returns-2 : tie.Need-returns-2
-returns-2 c =
-    not-fields _ _ _ _ _ (c .before .before .before .before .layout-of .ensures) (c .before .before .before .if1 .left)
-    (sym (ap countedAs (c .enum-told .given .1)) ∙ c .before .before .count-parts .ensures)
 
 layout-at-requires : tie.Need-layout-at-requires
 layout-at-requires c κs = search needs
 
 -- 11: too few parts
-returns-3 : tie.Need-returns-3
-returns-3 c =
+returns-2 : tie.Need-returns-2
+returns-2 c =
     too-few _ _ _ _ _ (c .before .before .before .before .before .before .before .before .layout-of .ensures)
     (c .before .before .before .before .before .before .before .if1 .left) _ _ (counted-at (c .before .before .before)) (c .before .before .layout-at .ensures)
     (c .if2 .taken)
@@ -57,8 +51,8 @@ add-length c =
     omega (arith, size-short _ _ _ _ (counted-at (c .before .before .before .before)), c .head-size .ensures .0)
 
 -- 16
-returns-4 : tie.Need-returns-4
-returns-4 c =
+returns-3 : tie.Need-returns-3
+returns-3 c =
     no-room _ _ _ _ _ (c .before .before .before .before .before .before .before .before .before .before .layout-of .ensures)
     (c .before .before .before .before .before .before .before .before .before .if1 .left) _ _ (counted-at (c .before .before .before .before .before))
     (c .before .before .before .before .layout-at .ensures) (c .before .before .if2 .left) (c .before .head-size .ensures .1) (omega (arith, c .if3 .taken))
@@ -75,6 +69,12 @@ lay-parts-requires c κs =
       k .before .before .before .before .before .layout-of .ensures .0,
       (count-is _ _ _ _ (counted-at k), room-is _ _ _ _ (counted-at k) _ (now (s .args .out)) (c .before .before .before .before .before .if3 .left) (c .before .before .before .lay-head .ensures)),
     )
+
+-- the values make no parts: as it was handed back
+returns-4 : tie.Need-returns-4
+returns-4 c =
+    not-fields _ _ _ _ _ (c .before .before .before .before .before .layout-of .ensures) (c .before .before .before .before .if1 .left)
+    (sym (ap countedAs (c .before .number .given .1)) ∙ c .before .before .before .count-parts .ensures)
 
 same-length : tie.Need-same-length
 same-length c = search needs
@@ -94,15 +94,15 @@ write-item-spec =
     layout-of-requires
     returns
     count-parts-requires
+    enum-known-number
     enum-known-count
-    enum-told
-    returns-2
     layout-at-requires
-    returns-3
+    returns-2
     head-size-requires
     add-length
-    returns-4
+    returns-3
     lay-head-requires
     lay-parts-requires
+    returns-4
     same-length
     returns-5)
