@@ -9,7 +9,7 @@ use mathlib.Core.List.{List, [], _∷_}
 use native.Mathlib.Omega.{arith}
 use native.Mathlib.Nat.{zero-add}
 use lib.Dec.{T, leb, ltb, eqb, leb→le, le→leb, lt→ltb, eqb→eq}
-use borrow.Author.Tests.{lt-leb, le-ltb, ltb-true, ltb-false, leb-true, leb-false, ne-eqb}
+use borrow.Author.Tests.{lt-leb, le-ltb, ltb-true, ltb-false, leb-true, leb-false}
 use lib.ListN.{length, take, drop, getD, length-drop}
 use lib.Seq.{take-all}
 use Rattle.rules.specs.Answer.{Answer, ok, refused, _>>=_, need_or_then_, if_then_else_, expect_or_, later}
@@ -18,11 +18,9 @@ use Rattle.rules.specs.Record.{Category, Record, readRecord}
 use Rattle.rules.specs.Block.{Block, Head, categoryOf, readAll, readHead, readBody, readBlock}
 use Rattle.rules.specs.Catalogue.{categories}
 use Rattle.rules.specs.Entry.{checkBlock, Opened, openBlock, oldBlock}
-use Rattle.rules.specs.Category017.{category017}
-use Rattle.rules.specs.Category018.{category018}
 use Rattle.rules.proofs.BlockLaws.{category-cat}
-use Rattle.rules.proofs.AnswerLaws.{refused-ok, ok-inj, later-inv, bind-elim, need-elim, expect-elim, expect-in, expect-out, if-false, bind-in, bind-out, bind-assoc, bind-cong, need-bind, need-in, need-out, T-true, Octets}
-use Rattle.items.specs.Answers.{profileIn}
+use Rattle.rules.proofs.AnswerLaws.{refused-ok, ok-inj, later-inv, bind-elim, need-elim, expect-elim, expect-in, expect-out, bind-in, bind-out, bind-assoc, bind-cong, need-bind, need-in, need-out, T-true, Octets}
+use Rattle.tables.proofs.ProfileLaws.{index-is}
 use Rattle.sets.specs.Sets.{categoryAt}
 use Rattle.blocks.specs.declared.check.BlockChecked.{BlockChecked}
 use Rattle.blocks.specs.declared.check.BlockChecked.the-variants as blockChecked
@@ -69,20 +67,6 @@ head-short fits (a ∷ (b ∷ (d ∷ bs))) l = absurd (omega arith)
 pub head-none : (bs : List ℕ) → length bs < 3 → headAt bs ≡ refused 1 0
 unfolding headAt
 head-none bs l = need-out 1 _ (lt-leb 3 (length bs) l)
-
--- its category, by CAT
-
-pub cat-017 : (k : ℕ) → k ≡ 17 → categoryOf k categories ≡ some (categoryAt 0)
-unfolding categoryOf categories categoryAt if_then_else_ category017 category018
-cat-017 k e = rw e
-
-pub cat-018 : (k : ℕ) → k ≡ 18 → categoryOf k categories ≡ some (categoryAt 1)
-unfolding categoryOf categories categoryAt if_then_else_ category017 category018
-cat-018 k e = rw e
-
-pub cat-other : (k : ℕ) → (k ≡ 17 → ⊥) → (k ≡ 18 → ⊥) → categoryOf k categories ≡ none
-unfolding categoryOf categories category017 category018
-cat-other k p q = if-false _ (ne-eqb k 17 p) (if-false _ (ne-eqb k 18 q) refl)
 
 -- answer by answer
 module _ (bs : List ℕ) (three : 3 ≤ length bs) where
@@ -213,13 +197,6 @@ opened-by i (blockChecked.Refused n p) = refl
 -- a refusal says the same whatever the profile beside it
 pub opened-any : (i j n p : ℕ) (x : BlockChecked) → x ≡ blockChecked.Refused n p → openedBy i x ≡ openedBy j x
 opened-any i j n p x e = ap (openedBy i) e ∙ sym (ap (openedBy j) e)
-
--- the index of a category that is found is the profile by which it was found
-pub index-is : (i : ℕ) → categoryOf (categoryAt i .cat) categories ≡ some (categoryAt i) → profileIn (categoryAt i .cat) categories ≡ i
-unfolding categoryAt categories category017 category018 categoryOf profileIn if_then_else_
-index-is zero e = refl
-index-is (suc zero) e = refl
-index-is (suc (suc i)) e = let z : _≡_ {A = ℕ} 0 1 = cc in absurd (omega arith)
 
 module _ (bs : List ℕ) where
   -- LEN leaves all that is after the head

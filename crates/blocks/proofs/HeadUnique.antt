@@ -1,6 +1,6 @@
 -- No two distinct results satisfy the statement of a public function of heads: the statement has a profile's category, and no two profiles have one category.
 --
--- In order: profiles; `profile_of`; `HeadRead::number`; `front_head`. Assumes nothing.
+-- In order: profiles; `HeadRead::number`; `front_head`. Assumes nothing.
 use Prim.Native.Nat.{ℕ}
 use mathlib.Core.Path.{_≡_, refl, sym, ap, ap₂, _∙_}
 use mathlib.Core.Option.{some}
@@ -11,15 +11,14 @@ use Rattle.rules.specs.Block.{Head, categoryOf}
 use Rattle.rules.specs.Catalogue.{categories}
 use Rattle.rules.proofs.AnswerLaws.{ok-inj, some-inj, none-some}
 use Rattle.rules.proofs.BlockLaws.{category-cat}
-use Rattle.items.specs.Answers.{profileIn}
+use Rattle.tables.specs.Profiles.{profileIn}
+use Rattle.tables.proofs.ProfileLaws.{index-is}
 use Rattle.sets.specs.Sets.{categoryAt}
-use Rattle.blocks.specs.declared.head.ProfileFound.{ProfileFound}
-use Rattle.blocks.specs.declared.head.ProfileFound.the-variants.{Profile, NoCategory}
 use Rattle.blocks.specs.declared.head.HeadRead.{HeadRead}
 use Rattle.blocks.specs.declared.head.HeadRead.the-variants as headRead
 use Rattle.blocks.specs.Read.{headBy}
-use Rattle.blocks.specs.Answers.{profileOf, headOf, headNumber}
-use Rattle.blocks.proofs.HeadLaws.{index-is, headed}
+use Rattle.blocks.specs.Answers.{headOf, headNumber}
+use Rattle.blocks.proofs.HeadLaws.{headed}
 
 -- ---- profiles
 
@@ -28,17 +27,6 @@ one-index : (i j : ℕ) → categoryOf (categoryAt i .cat) categories ≡ some (
 one-index i j h e =
     let k : categoryOf (categoryAt j .cat) categories ≡ some (categoryAt j) = rw (← e) h in
     sym (index-is i h) ∙ ap (λ c. profileIn (c .cat) categories) e ∙ index-is j k
-
--- ---- `profile_of`
-
-named : (cat i : ℕ) → some (categoryAt i) ≡ categoryOf cat categories → categoryOf (categoryAt i .cat) categories ≡ some (categoryAt i)
-named cat i h = ap (λ n. categoryOf n categories) (sym (category-cat cat categories (categoryAt i) (sym h))) ∙ sym h
-
-pub one-profile-of : (cat : ℕ) (a b : ProfileFound) → profileOf a ≡ categoryOf cat categories → profileOf b ≡ categoryOf cat categories → a ≡ b
-one-profile-of cat (Profile i) (Profile j) p q = ap Profile (one-index i j (named cat i p) (some-inj (p ∙ sym q)))
-one-profile-of cat (Profile i) NoCategory p q = none-some (q ∙ sym p)
-one-profile-of cat NoCategory (Profile j) p q = none-some (p ∙ sym q)
-one-profile-of cat NoCategory NoCategory p q = refl
 
 -- ---- `HeadRead::number`
 

@@ -1,17 +1,13 @@
 -- What each answer of this crate says, in the rules' words: a refusal's number and place (document 01, "Refusal numbers and their order"), or what
 -- was found. Assumes nothing.
 use Prim.Native.Nat.{ℕ}
-use mathlib.Core.Option.{Option, none, some}
 use Rattle.rules.specs.Answer.{Answer, ok, refused}
-use Rattle.rules.specs.Record.{Category}
 use Rattle.rules.specs.Block as rules
 use Rattle.rules.specs.Catalogue.{categories}
-use Rattle.items.specs.Answers.{profileIn}
+use Rattle.tables.specs.Profiles.{profileIn}
 use Rattle.sets.specs.Sets.{categoryAt}
 use Rattle.records.specs.declared.RecordChecked.{RecordChecked}
 use Rattle.records.specs.declared.RecordChecked.the-variants as recordChecked
-use Rattle.blocks.specs.declared.head.ProfileFound.{ProfileFound}
-use Rattle.blocks.specs.declared.head.ProfileFound.the-variants.{Profile, NoCategory}
 use Rattle.blocks.specs.declared.head.HeadRead.{HeadRead}
 use Rattle.blocks.specs.declared.head.HeadRead.the-variants as headRead
 use Rattle.blocks.specs.declared.check.BlockChecked.{BlockChecked}
@@ -22,10 +18,6 @@ use Rattle.blocks.specs.declared.check.FrontChecked.the-variants as fron
 use Rattle.blocks.specs.Read.{Opening, Front}
 
 -- ---- a head
-
-abbrev pub profileOf : ProfileFound → Option Category
-profileOf (Profile i) = some (categoryAt i)
-profileOf NoCategory = none
 
 abbrev pub headOf : HeadRead → Answer rules.Head
 headOf (headRead.Head i n) = ok (record { category = categoryAt i; len = n })

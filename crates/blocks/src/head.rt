@@ -6,34 +6,18 @@
 //     +--------+--------+--------+---- ..
 //
 // LEN has the higher octet first, and counts all octets of the block.
+use tables::PROFILES;
+use tables::profile_of;
 ghost use mathlib.Core.Path.{_≡_};
 ghost use Prim.Native.Nat.{_<_};
 ghost use lib.Dec.{eqb, leb};
-ghost use Rattle.rules.specs.Block.{categoryOf};
-ghost use Rattle.rules.specs.Catalogue.{categories};
 ghost use Rattle.blocks.specs.Read.{headAt, headBy};
-ghost use Rattle.blocks.specs.Answers.{profileOf, headOf, headNumber};
+ghost use Rattle.blocks.specs.Answers.{headOf, headNumber};
 
 pub const HEAD: usize = 3;
 
 // The least length of a block with a record.
 pub const LEAST: usize = 4;
-
-// The profile of a category.
-pub enum ProfileFound {
-    Profile(usize),
-    NoCategory,
-}
-
-pub fn profile_of(cat: u8) -> ProfileFound
-    ensures { λ r. ⌜ profileOf r ≡ categoryOf cat categories ⌝ }
-{
-    match cat {
-        17 => ProfileFound::Profile(0),
-        18 => ProfileFound::Profile(1),
-        _ => ProfileFound::NoCategory,
-    }
-}
 
 // What a block's head says.
 pub enum HeadRead {
@@ -67,10 +51,10 @@ pub fn read_head(part: &[u8]) -> HeadRead
     if part.len() < HEAD {
         return HeadRead::Refused { number: 1 };
     }
-    let found = profile_of(part[0]);
-    let ProfileFound::Profile(profile) = found else {
+    let profile = profile_of(part[0]);
+    if PROFILES <= profile {
         return HeadRead::Refused { number: 2 };
-    };
+    }
     let len = wide(part[1]) * 256 + wide(part[2]);
     if len < HEAD {
         return HeadRead::Refused { number: 3 };

@@ -12,6 +12,4 @@ pub use check::open_block;
 pub use head::HEAD;
 pub use head::HeadRead;
 pub use head::LEAST;
-pub use head::ProfileFound;
 pub use head::front_head;
-pub use head::profile_of;

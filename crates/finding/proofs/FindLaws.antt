@@ -27,7 +27,8 @@ use Rattle.rules.proofs.Tables.{distinct, tables-hold, sound-of}
 use Rattle.rules.proofs.Demands.{items-lie, map-start}
 use Rattle.tables.specs.Places.{isNamed, frnAs}
 use Rattle.items.specs.Answers.{sizeOf, checkAt}
-use Rattle.sets.specs.Sets.{categoryIn, categoryAt}
+use Rattle.tables.proofs.ProfileLaws.{profile-at}
+use Rattle.sets.specs.Sets.{categoryAt}
 use Rattle.records.specs.Answers.{mapIn}
 use Rattle.finding.specs.declared.find.RecordPlace.the-variants as recordPlace
 use Rattle.finding.specs.declared.find.RecordLocated.{RecordLocated}
@@ -99,20 +100,11 @@ index-few i {ref} n = go (ltb (indexAs ref (places (categoryAt i))) (length (pla
     go false e = none-some (sym (List·getD-eq-default (places (categoryAt i)) none (ltb-false _ _ e)) ∙ n .place-is)
 
 -- the check of the item at that FRN
-profile-in : (cs : List Category) (i : ℕ) → categoryIn cs i .profile ≡ profileAt cs i
-profile-in [] i = refl
-profile-in (c ∷ cs) zero = refl
-profile-in (c ∷ cs) (suc i) = profile-in cs i
-
-pub profile-is : (i : ℕ) → categoryAt i .profile ≡ profileAt categories i
-unfolding categoryAt
-profile-is i = profile-in categories i
-
 pub check-at : (i ref g : ℕ) (bs : List ℕ) (n : NamedAt ref 1 (places (categoryAt i)) g) → checkAt i g bs ≡ sizeOf (n .place .layout) bs
 unfolding checkAt
 check-at i ref g bs n =
     let e : g ≡ suc (indexAs ref (places (categoryAt i))) = n .frn-is ∙ omega arith in
-    bind-in _ (expect-in 21 (ap₂ placeAt (sym (profile-is i)) e ∙ n .place-is)) refl
+    bind-in _ (expect-in 21 (ap₂ placeAt (sym (profile-at i)) e ∙ n .place-is)) refl
 
 -- ---- a record
 

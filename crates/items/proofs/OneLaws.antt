@@ -19,11 +19,9 @@ use Rattle.rules.specs.Layout.{Layout, Values, flatten, readFields}
 use Rattle.rules.specs.Presence.{placeAt}
 use Rattle.rules.specs.Record.{Place, Category, places}
 use Rattle.rules.specs.Block.{categoryOf}
-use Rattle.rules.specs.Category017.{category017}
-use Rattle.rules.specs.Category018.{category018}
 use Rattle.rules.specs.Catalogue.{categories}
 use Rattle.rules.specs.Entry.{profileAt, layoutAs, layoutOf, readOne, leaves}
-use Rattle.rules.proofs.AnswerLaws.{Octets, none-some, some-inj, bind-elim, need-elim, if-inv, if-true, if-false}
+use Rattle.rules.proofs.AnswerLaws.{Octets, none-some, bind-elim, need-elim}
 use Rattle.tables.specs.declared.tables.LayoutRow.{LayoutRow}
 use Rattle.tables.specs.declared.tables.PlaceRow.{PlaceRow}
 use Rattle.tables.specs.Tables.{layoutIs, layoutAt, with, placeIs}
@@ -34,39 +32,12 @@ use Rattle.layouts.proofs.ReadLaws.{Fitting, fitting, reads, le-or-lt}
 use Rattle.layouts.proofs.WholeLaws.{whole-shape}
 use Rattle.layouts.proofs.StoreLaws.{length-held}
 use Rattle.layouts.proofs.Stores.{sets-over}
-use Rattle.items.specs.Answers.{profileIn, countOf}
+use Rattle.tables.specs.Profiles.{profileIn}
+use Rattle.items.specs.Answers.{countOf}
 use Rattle.items.proofs.CheckLaws.{no-item}
 use Rattle.items.proofs.PlaceLaws.{Found, found, found-place, missed}
 
 -- ---- the index of a category
-
-pub profile-first : (n : ℕ) → n ≡ 17 → 0 ≡ profileIn n categories
-unfolding profileIn categories category017 if_then_else_
-profile-first n e = rw (eq-eqb n 17 e)
-
-pub profile-second : (n : ℕ) → ¬ (n ≡ 17) → n ≡ 18 → 1 ≡ profileIn n categories
-unfolding profileIn categories category017 category018 if_then_else_
-profile-second n a e = rw (ne-eqb n 17 a, eq-eqb n 18 e)
-
-pub profile-none : (n : ℕ) → ¬ (n ≡ 17) → ¬ (n ≡ 18) → 2 ≡ profileIn n categories
-unfolding profileIn categories category017 category018 if_then_else_
-profile-none n a b = rw (ne-eqb n 17 a, ne-eqb n 18 b)
-
--- the category at its index
-pub profile-category : (n : ℕ) (cs : List Category) (c : Category) → categoryOf n cs ≡ some c → (profileIn n cs < length cs) × (profileAt cs (profileIn n cs) ≡ c .profile)
-unfolding categoryOf profileIn
-profile-category n [] c e = none-some e
-profile-category n (d ∷ cs) c e =
-    ⊎-elim
-    (λ (t, u). rw (if-true {x = 0} (suc (profileIn n cs)) t refl) (omega arith, ap (λ x. x .profile) (some-inj u)))
-    (λ (t, u). let (h, k) = profile-category n cs c u in rw (if-false 0 {y = suc (profileIn n cs)} t refl) (omega arith, k))
-    (if-inv (eqb n (d .cat)) (some d) (categoryOf n cs) e)
-
-pub profile-other : (n : ℕ) (cs : List Category) → categoryOf n cs ≡ none → profileIn n cs ≡ length cs
-unfolding categoryOf profileIn
-profile-other n [] e = refl
-profile-other n (d ∷ cs) e =
-    ⊎-elim (λ (t, u). none-some (sym u)) (λ (t, u). if-false 0 t (ap suc (profile-other n cs u))) (if-inv (eqb n (d .cat)) (some d) (categoryOf n cs) e)
 
 -- the places of the category are those at its index
 profile-layout : (n ref : ℕ) (cs : List Category)

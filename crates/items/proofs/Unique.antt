@@ -20,7 +20,7 @@ use Rattle.items.specs.declared.ItemRead.{ItemRead}
 use Rattle.items.specs.declared.ItemRead.the-variants as read
 use Rattle.items.specs.declared.write.ItemWritten.{ItemWritten}
 use Rattle.items.specs.declared.write.ItemWritten.the-variants as written
-use Rattle.items.specs.Answers.{referenceIn, frnOf, profileIn, checkedOf, checkAt, readOf, countOf}
+use Rattle.items.specs.Answers.{referenceIn, frnOf, checkedOf, checkAt, readOf, countOf}
 use Rattle.items.specs.Write.{writtenAs}
 
 same-frn : (a b : FrnFound) → frnOf a ≡ frnOf b → a ≡ b
@@ -54,9 +54,6 @@ one-is-usable profile frn a b p q = p ∙ sym q
 pub one-reference-of : (profile frn a b : ℕ)
     → a ≡ referenceIn (placeAt (profileAt categories profile) frn) → b ≡ referenceIn (placeAt (profileAt categories profile) frn) → a ≡ b
 one-reference-of profile frn a b p q = p ∙ sym q
-
-pub one-profile-of : (category a b : ℕ) → a ≡ profileIn category categories → b ≡ profileIn category categories → a ≡ b
-one-profile-of category a b p q = p ∙ sym q
 
 pub one-frn-of : (profile reference : ℕ) (a b : FrnFound)
     → frnOf a ≡ frnAs reference 1 (flatten (profileAt categories profile)) → frnOf b ≡ frnAs reference 1 (flatten (profileAt categories profile))

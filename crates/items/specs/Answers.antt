@@ -1,15 +1,15 @@
 -- What each function of this crate answers, in the words of the rules. Assumes nothing.
-use Prim.Native.Nat.{ℕ, suc, _-_}
+use Prim.Native.Nat.{ℕ, _-_}
 use mathlib.Core.Option.{Option, none, some}
-use mathlib.Core.List.{List, [], _∷_}
-use lib.Dec.{eqb}
+use mathlib.Core.List.{List}
 use lib.ListN.{length}
-use Rattle.rules.specs.Answer.{Answer, ok, refused, if_then_else_, expect_or_, _>>=_}
+use Rattle.rules.specs.Answer.{Answer, ok, refused, expect_or_, _>>=_}
 use Rattle.rules.specs.Layout.{Layout, readItem}
 use Rattle.rules.specs.Presence.{placeAt}
-use Rattle.rules.specs.Record.{Place, Category}
+use Rattle.rules.specs.Record.{Place}
 use Rattle.rules.specs.Catalogue.{categories}
 use Rattle.rules.specs.Entry.{profileAt}
+unfoldable pub use Rattle.tables.specs.Profiles.{profileIn}
 use Rattle.items.specs.declared.FrnFound.{FrnFound}
 use Rattle.items.specs.declared.FrnFound.the-variants.{Frn, NoItem}
 use Rattle.items.specs.declared.ItemCheck.{ItemCheck}
@@ -23,11 +23,6 @@ use Rattle.items.specs.declared.ItemRead.the-variants as read
 abbrev pub referenceIn : Option Place → ℕ
 referenceIn none = 0
 referenceIn (some p) = p .reference
-
--- the index of a category in a list, or how long the list is
-unfoldable pub profileIn : ℕ → List Category → ℕ
-profileIn n [] = 0
-profileIn n (c ∷ cs) = if eqb n (c .cat) then 0 else suc (profileIn n cs)
 
 abbrev pub frnOf : FrnFound → Option ℕ
 frnOf (Frn f) = some f

@@ -12,6 +12,7 @@ use tables::PlaceRow;
 use tables::layout_at;
 use tables::layout_row;
 use tables::place_at;
+use tables::profile_of;
 use tables::single_at;
 use tables::size_at;
 pub use write::ItemWritten;
@@ -27,7 +28,7 @@ ghost use Rattle.rules.specs.Entry.{profileAt, layoutOf, readOne, leaves};
 ghost use Rattle.tables.specs.Tables.{groupCount, layoutCount, placeCount, placeIs, layoutIs, layoutAt, groupAt, placeRowAt};
 ghost use Rattle.tables.specs.Places.{isNamed, frnAs};
 ghost use Rattle.layouts.specs.Read.{partSound, wholeSize, singleSize};
-ghost use Rattle.items.specs.Answers.{referenceIn, frnOf, checkedOf, checkAt, profileIn, readOf, countOf};
+ghost use Rattle.items.specs.Answers.{referenceIn, frnOf, checkedOf, checkAt, readOf, countOf};
 
 // ---- where an item stands
 
@@ -172,19 +173,6 @@ pub fn check_item(profile: usize, frn: usize, part: &[u8]) -> ItemCheck
 }
 
 // ---- reading an item
-
-// The index of a category's profile: past the last for any other category.
-pub fn profile_of(category: u8) -> usize
-    ensures { λ r. ⌜ r ≡ profileIn category categories ⌝ }
-{
-    if category == 17 {
-        return 0;
-    }
-    if category == 18 {
-        return 1;
-    }
-    PROFILES
-}
 
 // The place of the layout of an item, by its category and reference: that of no item where there is none.
 fn layout_of(category: u8, reference: u16) -> usize

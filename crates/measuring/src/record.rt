@@ -1,9 +1,9 @@
 // Item by item, in one pass: where there is a time, the items before it, and from there on the others.
-use items::profile_of;
 use quick_items::digit_of;
 use quick_items::octet;
 use sets::ItemSet;
 use sets::SetRead;
+use tables::profile_of;
 ghost use mathlib.Core.Path.{_≡_};
 ghost use mathlib.Core.Option.{none};
 ghost use Prim.Native.Nat.{_-_, _*_, _/_, _^_, _≤_, _<_};

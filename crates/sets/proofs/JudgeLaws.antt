@@ -2,26 +2,28 @@
 --
 -- In order: rows of message types; items by their references; what a message type may have; what it must have; the law; the steps of the
 -- judgement. Assumes nothing.
-use Prim.Native.Nat.{ℕ, zero, suc, _≤_}
+use Prim.Native.Nat.{ℕ, zero, suc, _+_, _*_, _/_, _%_, _≤_, _<_}
 use mathlib.Core.Path.{_≡_, refl, sym, ap, ap₂, _∙_, subst}
 use mathlib.Core.Logic.{_⊎_, inl, inr, ⊎-elim}
 use mathlib.Core.Bool.{Bool, true, false, _&&_, _||_, not, true≢false, false≢true}
 use mathlib.Core.Option.{Option, none, some}
 use mathlib.Core.List.{List, [], _∷_, _++_, map, reverse}
 use native.Mathlib.Omega.{arith}
+use native.Mathlib.Nat.{add-zero, zero-add, add-suc, suc-add}
 use lib.Dec.{eqb}
 use borrow.Author.Tests.{eqb-true, eq-eqb, ne-eqb, not-true, not-false}
 use lib.ListN.{length, getD, replicate, List·getD-map, length-map}
 use Rattle.rules.specs.Answer.{Answer, ok, refused, _>>=_, need_or_then_, if_then_else_}
 use Rattle.rules.specs.Layout.{Values, flatten}
 use Rattle.rules.specs.Presence.{flags, present, has}
-use Rattle.rules.specs.Record.{Place, Message, Record, places, named, items, references, valueOf, allIn, typeOf, messageOf, judge}
+use Rattle.rules.specs.Record.{Place, Message, Category, Record, places, named, items, references, valueOf, allIn, typeOf, messageOf, judge}
 use Rattle.rules.specs.Catalogue.{categories}
 use Rattle.rules.specs.Entry.{over, isItem}
 use Rattle.rules.proofs.AnswerLaws.{ok-inj, bind-in, bind-out, bind-assoc, need-bind, need-in, if-inv, if-true, if-false, some-inj, none-some, both-left, both-right, refused-ok}
 use Rattle.rules.proofs.Tables.{distinct, everyCategory}
 use Rattle.rules.specs.Category017.{category017}
 use Rattle.rules.specs.Category018.{category018}
+use Rattle.tables.proofs.ProfileLaws.{category-none}
 use Rattle.sets.specs.Sets.{categoryIn, categoryAt, bitsOf, within}
 use Rattle.sets.specs.Steps.{typeFrn, marks, markBits, rowAt, judgeRow, judgeSet}
 use Rattle.sets.proofs.FlagLaws.{bits-flags, within-pad}
@@ -55,24 +57,53 @@ none-of t k (j ∷ ks) n h =
     (λ e. none-of t k ks (n .0) e)
     (or-cases (eqb k j) (has k ks) h)
 
-message-none : (t : ℕ) (ms : List Message) (ks : List ℕ) → NoneOf t ks → allIn (map (λ m. m .type) ms) ks ≡ true → messageOf t ms ≡ refused 13 0
+-- the numbers by which the code finds the rows: 256 for each category before, and the type
+abbrev keys : ℕ → List Message → List ℕ
+keys i ms = map (λ m. i * 256 + m .type) ms
+
+abbrev pub keysFrom : ℕ → List Category → List ℕ
+keysFrom i [] = []
+keysFrom i (c ∷ cs) = keys i (c .messages) ++ keysFrom (suc i) cs
+
+message-none : (i t : ℕ) (ms : List Message) (ks : List ℕ) → NoneOf (i * 256 + t) ks → allIn (keys i ms) ks ≡ true → messageOf t ms ≡ refused 13 0
 unfolding messageOf
-message-none t [] ks n h = refl
-message-none t (m ∷ ms) ks n h =
-    if-false (ok m) (none-of t (m .type) ks n (both-left (has (m .type) ks) (allIn (map (λ m. m .type) ms) ks) h))
-    (message-none t ms ks n (both-right (has (m .type) ks) (allIn (map (λ m. m .type) ms) ks) h))
+message-none i t [] ks n h = refl
+message-none i t (m ∷ ms) ks n h =
+    let o : eqb (i * 256 + t) (i * 256 + m .type) ≡ false = none-of _ _ ks n (both-left (has (i * 256 + m .type) ks) (allIn (keys i ms) ks) h) in
+    if-false (ok m) (ne-eqb t (m .type) (λ e. false≢true (sym o ∙ eq-eqb _ _ (ap (λ k. i * 256 + k) e))))
+    (message-none i t ms ks n (both-right (has (i * 256 + m .type) ks) (allIn (keys i ms) ks) h))
 
--- the numbers of the message types, the last first
-abbrev pub typesBack : ℕ → List ℕ
-typesBack i = reverse (map (λ m. m .type) (categoryAt i .messages))
+-- every message type of every category has its number among those of the match, which come the last first
+abbrev allKeys : ℕ → List Category → List ℕ → Bool
+allKeys i [] ks = true
+allKeys i (c ∷ cs) ks = allIn (keys i (c .messages)) ks && allKeys (suc i) cs ks
 
-pub row-unknown : (i t : ℕ) → NoneOf t (typesBack i) → allIn (map (λ m. m .type) (categoryAt i .messages)) (typesBack i) ≡ true → refused 13 0 ≡ rowAt i t
-unfolding rowAt
-row-unknown i t n h = sym (bind-out _ (message-none t (categoryAt i .messages) (typesBack i) n h))
+keys-at : (k i : ℕ) (cs : List Category) (ks : List ℕ) → allKeys k cs ks ≡ true → allIn (keys (k + i) (categoryIn cs i .messages)) ks ≡ true
+keys-at k i [] ks h = refl
+keys-at k zero (c ∷ cs) ks h = rw (add-zero k) (both-left (allIn (keys k (c .messages)) ks) _ h)
+keys-at k (suc i) (c ∷ cs) ks h = rw (add-suc k i, ← suc-add k i) (keys-at (suc k) i cs ks (both-right (allIn (keys k (c .messages)) ks) _ h))
 
-pub row-none : (i t : ℕ) → categoryAt i ≡ categoryIn [] 0 → refused 13 0 ≡ rowAt i t
+tables-keys : allKeys 0 categories (reverse (keysFrom 0 categories)) ≡ true
+unfolding categories category017 category018
+tables-keys = refl
+
+pub row-unknown : (i t : ℕ) → NoneOf (i * 256 + t) (reverse (keysFrom 0 categories)) → refused 13 0 ≡ rowAt i t
+unfolding rowAt categoryAt
+row-unknown i t n =
+    sym (bind-out _ (message-none i t (categoryIn categories i .messages) _ n
+    (subst (λ j. allIn (keys j (categoryIn categories i .messages)) (reverse (keysFrom 0 categories)) ≡ true) (zero-add i) (keys-at 0 i categories _ tables-keys))))
+
+-- an index past the last has no message types
+pub row-none : (i t : ℕ) → 2 ≤ i → refused 13 0 ≡ rowAt i t
 unfolding rowAt messageOf
-row-none i t e = sym (bind-out _ (ap (λ c. messageOf t (c .messages)) e))
+row-none i t h = sym (bind-out _ (ap (λ c. messageOf t (c .messages)) (category-none i h)))
+
+-- the row that a number finds
+pub row-key : (i t : ℕ) {key : ℕ} → t < 256 → i * 256 + t ≡ key → rowAt (key / 256) (key % 256) ≡ rowAt i t
+row-key i t {key} h e =
+    let q : key / 256 ≡ i = omega arith in
+    let r : key % 256 ≡ t = omega arith in
+    ap₂ rowAt q r
 
 -- ---- items by their references
 

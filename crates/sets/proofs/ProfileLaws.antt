@@ -1,56 +1,31 @@
 -- What holds of the category with any index, by computed tests over the rules' categories: its profile, row by row and place by place; the place
 -- of its message type item. Assumes nothing.
-use Prim.Native.Nat.{ℕ, zero, suc, _≤_}
-use mathlib.Core.Path.{_≡_, refl}
-use mathlib.Core.Logic.{_⊎_, inl, inr}
-use mathlib.Core.Bool.{Bool, true, _&&_}
+use Prim.Native.Nat.{ℕ, suc, _-_, _≤_, _<_}
+use mathlib.Core.Path.{_≡_, refl, ap, ap₂, _∙_}
+use mathlib.Core.Logic.{_⊎_, inl, inr, ⊎-elim}
+use mathlib.Core.Bool.{Bool, true, false, _&&_, _||_, false≢true}
 use mathlib.Core.List.{List, [], _∷_}
-use mathlib.Core.Option.{Option, none}
-use lib.Dec.{leb, eqb}
-use borrow.Author.Tests.{leb-true}
+use mathlib.Core.Option.{Option, none, some}
+use native.Mathlib.Omega.{arith}
+use lib.Dec.{leb, ltb, eqb}
+use borrow.Author.Tests.{leb-true, ltb-true, eqb-true}
 use lib.ListN.{length, getD}
 use Rattle.rules.specs.Answer.{if_then_else_}
-use Rattle.rules.specs.Field.{any}
-use Rattle.rules.specs.Layout.{Layout, item}
+use Rattle.rules.specs.Field.{Field, spare, value, unsigned, signed, any}
+use Rattle.rules.specs.Layout.{Layout, fixed, repeated, led, extended, group, item}
 use Rattle.rules.specs.Record.{Place, Category, places, at}
 use Rattle.rules.specs.Category017.{category017}
 use Rattle.rules.specs.Category018.{category018}
 use Rattle.rules.specs.Catalogue.{categories}
-use Rattle.rules.specs.Entry.{profileAt}
 use Rattle.rules.proofs.AnswerLaws.{both-left, both-right}
 use Rattle.rules.proofs.Tables.{everyCategory, distinct, soundCategory, catsOf, once, Sound, sound-category, tables-hold}
 use Rattle.tables.specs.Places.{frnAs}
-use Rattle.sets.specs.Sets.{categoryIn, categoryAt}
+use Rattle.tables.specs.Profiles.{frnIn}
+pub use Rattle.tables.proofs.ProfileLaws.{category-test, profile-at}
+use Rattle.sets.specs.Sets.{categoryAt}
 use Rattle.sets.specs.Steps.{typeFrn}
 
--- ---- a test of every category
-
-category-all : (t : Category → Bool) (cs : List Category) → everyCategory t cs ≡ true → t (categoryIn [] 0) ≡ true → (i : ℕ) → t (categoryIn cs i) ≡ true
-category-all t [] h z i = z
-category-all t (c ∷ cs) h z zero = both-left (t c) (everyCategory t cs) h
-category-all t (c ∷ cs) h z (suc i) = category-all t cs (both-right (t c) (everyCategory t cs) h) z i
-
-pub category-test : (t : Category → Bool) → everyCategory t categories ≡ true → t (categoryIn [] 0) ≡ true → (i : ℕ) → t (categoryAt i) ≡ true
-unfolding categoryAt
-category-test t h z i = category-all t categories h z i
-
--- an index past the last has none
-pub category-none : (i : ℕ) → (i ≡ 0 → ⊥) → (i ≡ 1 → ⊥) → categoryAt i ≡ categoryIn [] 0
-unfolding categoryAt categories
-category-none zero h k = absurd (h refl)
-category-none (suc zero) h k = absurd (k refl)
-category-none (suc (suc i)) h k = refl
-
 -- ---- its profile
-
-profile-in : (cs : List Category) (i : ℕ) → categoryIn cs i .profile ≡ profileAt cs i
-profile-in [] i = refl
-profile-in (c ∷ cs) zero = refl
-profile-in (c ∷ cs) (suc i) = profile-in cs i
-
-pub profile-at : (i : ℕ) → categoryAt i .profile ≡ profileAt categories i
-unfolding categoryAt
-profile-at i = profile-in categories i
 
 -- an FSPEC octet has seven presence bits
 abbrev pub sevens : List (List (Option Place)) → Bool
@@ -92,8 +67,71 @@ pub record TypePlace (i : ℕ) : Type 0 where
   pub frn : typeFrn i ≡ suc index
   pub place : getD (places (categoryAt i)) index none ≡ at 0 octet
 
+-- by one test over the tables: the first item with reference 000 is such an octet
+abbrev octetFields : List Field → Bool
+octetFields [] = false
+octetFields (spare w ∷ fs) = false
+octetFields (value w (signed lo hi) ∷ fs) = false
+octetFields (value w (unsigned lo hi) ∷ (f ∷ fs)) = false
+octetFields (value w (unsigned lo hi) ∷ []) = eqb w 8 && (eqb lo 0 && eqb hi 255)
+
+abbrev octetLayout : Layout → Bool
+octetLayout (fixed g) = eqb (g .size) 1 && octetFields (g .fields)
+octetLayout (repeated lo hi g) = false
+octetLayout (led lo) = false
+octetLayout (extended gs) = false
+
+abbrev octetPlace : Option Place → Bool
+octetPlace none = false
+octetPlace (some p) = eqb (p .reference) 0 && octetLayout (p .layout)
+
+fields-are : (fs : List Field) → octetFields fs ≡ true → fs ≡ any 8 ∷ []
+fields-are [] h = absurd (false≢true h)
+fields-are (spare w ∷ fs) h = absurd (false≢true h)
+fields-are (value w (signed lo hi) ∷ fs) h = absurd (false≢true h)
+fields-are (value w (unsigned lo hi) ∷ (f ∷ fs)) h = absurd (false≢true h)
+fields-are (value w (unsigned lo hi) ∷ []) h =
+    let r : eqb lo 0 && eqb hi 255 ≡ true = both-right (eqb w 8) _ h in
+    ap (λ n. value n (unsigned lo hi) ∷ []) (eqb-true w 8 (both-left (eqb w 8) _ h))
+    ∙ ap₂ (λ a b. value 8 (unsigned a b) ∷ []) (eqb-true lo 0 (both-left (eqb lo 0) (eqb hi 255) r)) (eqb-true hi 255 (both-right (eqb lo 0) (eqb hi 255) r))
+
+layout-is : (l : Layout) → octetLayout l ≡ true → l ≡ octet
+layout-is (fixed g) h =
+    ap₂ (λ n fs. fixed (group n fs)) (eqb-true (g .size) 1 (both-left (eqb (g .size) 1) _ h)) (fields-are (g .fields) (both-right (eqb (g .size) 1) _ h))
+layout-is (repeated lo hi g) h = absurd (false≢true h)
+layout-is (led lo) h = absurd (false≢true h)
+layout-is (extended gs) h = absurd (false≢true h)
+
+place-is : (o : Option Place) → octetPlace o ≡ true → o ≡ at 0 octet
+place-is none h = absurd (false≢true h)
+place-is (some p) h =
+    ap₂ at (eqb-true (p .reference) 0 (both-left (eqb (p .reference) 0) _ h)) (layout-is (p .layout) (both-right (eqb (p .reference) 0) _ h))
+
+abbrev typed : Category → Bool
+typed c = eqb (length (c .profile)) 0 || (ltb 0 (frnIn 0 c) && octetPlace (getD (places c) (frnIn 0 c - 1) none))
+
+tables-typed : everyCategory typed categories ≡ true
+unfolding categories category017 category018 frnAs if_then_else_
+tables-typed = refl
+
+no-rows : {A : Type 0} (l : List A) → length l ≡ 0 → l ≡ []
+no-rows [] h = refl
+no-rows (x ∷ l) h = absurd (omega arith)
+
 pub type-place : (i : ℕ) → (categoryAt i .profile ≡ []) ⊎ TypePlace i
-unfolding categoryAt categories category017 category018 typeFrn frnAs if_then_else_
-type-place zero = inr (record { index = 2; frn = refl; place = refl })
-type-place (suc zero) = inr (record { index = 2; frn = refl; place = refl })
-type-place (suc (suc i)) = inl refl
+unfolding typeFrn
+type-place i =
+    ⊎-elim
+    (λ h. inl (no-rows (categoryAt i .profile) (eqb-true _ 0 h)))
+    (λ h.
+    let some : 0 < frnIn 0 (categoryAt i) = ltb-true 0 _ (both-left (ltb 0 (frnIn 0 (categoryAt i))) _ h) in
+    inr (record {
+      index = frnIn 0 (categoryAt i) - 1;
+      frn = omega arith;
+      place = place-is _ (both-right (ltb 0 (frnIn 0 (categoryAt i))) _ h);
+    }))
+    (or-cases (eqb (length (categoryAt i .profile)) 0) _ (category-test typed tables-typed refl i))
+  where
+    or-cases : (a b : Bool) → a || b ≡ true → (a ≡ true) ⊎ (b ≡ true)
+    or-cases true b h = inl refl
+    or-cases false b h = inr h

@@ -1,28 +1,14 @@
 -- Sets of FRNs as the code holds them: FRN f, 0 to 63, is bit 63 - f of a number of 64 bits, so that `flags 64` of the number has at index f
 -- whether FRN f is in the set. FRN 0 is none. Assumes nothing.
-use Prim.Native.Nat.{ℕ, zero, suc, _-_}
+use Prim.Native.Nat.{ℕ, suc, _-_}
 use mathlib.Core.Bool.{Bool, true, false, _&&_}
 use mathlib.Core.List.{List, [], _∷_}
-use lib.ListN.{length, replicate}
+use lib.ListN.{length}
 use Rattle.rules.specs.Answer.{Answer, ok, _>>=_, need_or_then_, octetsOf}
 use Rattle.rules.specs.Layout.{flatten}
-use Rattle.rules.specs.Presence.{flags, number, writePresence, readPresence, allUsable, setFlags}
-use Rattle.rules.specs.Record.{Category}
-use Rattle.rules.specs.Catalogue.{categories}
-use Rattle.rules.specs.Entry.{over}
-
--- the category with an index; any other index has no profile and no messages
-abbrev pub categoryIn : List Category → ℕ → Category
-categoryIn [] i = record { cat = 0; time = 0; untimed = []; profile = []; messages = [] }
-categoryIn (c ∷ cs) zero = c
-categoryIn (c ∷ cs) (suc i) = categoryIn cs i
-
-unfoldable pub categoryAt : ℕ → Category
-categoryAt i = categoryIn categories i
-
--- the number of a set whose flags are given from FRN 1 on
-unfoldable pub bitsOf : List Bool → ℕ
-bitsOf ts = number (over (false ∷ ts) (replicate 64 false))
+use Rattle.rules.specs.Presence.{flags, writePresence, readPresence, allUsable, setFlags}
+pub use Rattle.tables.specs.Profiles.{categoryIn}
+unfoldable pub use Rattle.tables.specs.Profiles.{categoryAt, bitsOf}
 
 -- the FRNs whose flags are set, the first flag's FRN given
 abbrev pub frnsFrom : ℕ → List Bool → List ℕ

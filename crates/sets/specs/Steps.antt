@@ -3,20 +3,20 @@
 use Prim.Native.Nat.{ℕ, zero, suc, _+_, _-_, _*_, _/_, _%_, _^_}
 use mathlib.Core.Bool.{Bool, false}
 use mathlib.Core.Option.{Option, none, some}
-use mathlib.Core.List.{List, [], _∷_, _++_, map}
+use mathlib.Core.List.{List, [], _∷_, _++_}
 use lib.Dec.{ltb, eqb}
 use lib.ListN.{getD}
 use Rattle.rules.specs.Answer.{Answer, ok, refused, _>>=_, need_or_then_, if_then_else_}
-use Rattle.rules.specs.Presence.{flags, present, has}
+use Rattle.rules.specs.Presence.{flags, has}
 use Rattle.rules.specs.Record.{Place, places, messageOf}
-use Rattle.tables.specs.Places.{frnAs}
+use Rattle.tables.specs.Profiles.{usableIn, frnIn}
 use Rattle.sets.specs.Sets.{categoryAt, bitsOf, within}
 
 -- ---- the FSPEC
 
 -- the FRNs that a profile has an item for
 unfoldable pub usableBits : ℕ → ℕ
-usableBits i = bitsOf (map present (places (categoryAt i)))
+usableBits i = usableIn (categoryAt i)
 
 -- a set and how many octets its FSPEC has, once the last octet x is read: 7, then 8
 unfoldable pub ended : ℕ → ℕ → ℕ → ℕ → Answer (ℕ × ℕ)
@@ -41,12 +41,8 @@ rowsLeft (suc l) n left = if eqb left 0 then n else rowsLeft l (n + 1) (left % 2
 -- ---- what the message type asks for
 
 -- the FRN of the message type item, I0nn/000
-abbrev pub orNone : Option ℕ → ℕ
-orNone none = 0
-orNone (some f) = f
-
 unfoldable pub typeFrn : ℕ → ℕ
-typeFrn i = orNone (frnAs 0 1 (places (categoryAt i)))
+typeFrn i = frnIn 0 (categoryAt i)
 
 -- of each place of a profile, whether its item is among references
 abbrev pub marks : List ℕ → List (Option Place) → List Bool

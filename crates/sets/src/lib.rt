@@ -4,6 +4,7 @@ mod messages;
 
 use messages::MessageRow;
 use messages::row_of;
+use tables::profile_row;
 ghost use mathlib.Core.Path.{_≡_};
 ghost use mathlib.Core.Bool.{true, false};
 ghost use Prim.Native.Nat.{_+_, _-_, _*_, _/_, _^_, _<_, _≤_, min};
@@ -30,25 +31,15 @@ pub enum SetRead {
 fn fspec_most(profile: usize) -> usize
     ensures { λ r. ⌜ r ≡ length (categoryAt profile .profile) ⌝ }
 {
-    match profile {
-        0 => 3,
-        1 => 5,
-        _ => 0,
-    }
+    profile_row(profile).octets as usize
 }
 
-// The FRNs that a profile has an item for: 1 to 15, and 1 to 35.
+// The FRNs that a profile has an item for.
 pub fn usable(profile: usize) -> ItemSet
     ensures { λ r. ⌜ r .bits ≡ usableBits profile ⌝ }
 {
-    match profile {
-        0 => ItemSet {
-            bits: 0x7FFF_0000_0000_0000,
-        },
-        1 => ItemSet {
-            bits: 0x7FFF_FFFF_F000_0000,
-        },
-        _ => ItemSet::empty(),
+    ItemSet {
+        bits: profile_row(profile).usable,
     }
 }
 
@@ -225,11 +216,7 @@ pub fn fspec_octet(profile: usize, set: ItemSet, place: usize) -> u8
 pub fn type_frn(profile: usize) -> usize
     ensures { λ r. ⌜ r ≡ typeFrn profile ⌝ }
 {
-    match profile {
-        0 => 3,
-        1 => 3,
-        _ => 0,
-    }
+    profile_row(profile).kind as usize
 }
 
 // Whether a record has the items that its message type asks for.

@@ -1,3 +1,4 @@
 pub mod TableLaws
 pub mod RuleLaws
+pub mod ProfileLaws
 pub mod Unique

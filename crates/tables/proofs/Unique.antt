@@ -4,11 +4,14 @@ use mathlib.Core.Path.{_≡_, sym, _∙_}
 use mathlib.Core.Bool.{Bool}
 use lib.ListN.{getD}
 use lib.Seq.{slice}
+use Rattle.rules.specs.Catalogue.{categories}
+use Rattle.tables.specs.declared.profiles.ProfileRow.{ProfileRow}
 use Rattle.tables.specs.declared.tables.FieldRow.{FieldRow}
 use Rattle.tables.specs.declared.tables.GroupRow.{GroupRow}
 use Rattle.tables.specs.declared.tables.LayoutRow.{LayoutRow}
 use Rattle.tables.specs.declared.tables.PlaceRow.{PlaceRow}
 use Rattle.tables.specs.Tables.{fieldAt, groupAt, layoutAt, placeRowAt}
+use Rattle.tables.specs.Profiles.{profileIn, profileRowAt}
 use Rattle.tables.specs.FieldRules.{allObeyed, rules, firstRule, singles}
 
 -- ---- rows
@@ -27,6 +30,12 @@ one-layout-row place a b p q = p ∙ sym q
 
 pub one-place-at : (place : ℕ) (a b : PlaceRow) → a ≡ placeRowAt place → b ≡ placeRowAt place → a ≡ b
 one-place-at place a b p q = p ∙ sym q
+
+pub one-profile-row : (profile : ℕ) (a b : ProfileRow) → a ≡ profileRowAt profile → b ≡ profileRowAt profile → a ≡ b
+one-profile-row profile a b p q = p ∙ sym q
+
+pub one-profile-of : (cat a b : ℕ) → a ≡ profileIn cat categories → b ≡ profileIn cat categories → a ≡ b
+one-profile-of cat a b p q = p ∙ sym q
 
 -- ---- the rules of fields
 

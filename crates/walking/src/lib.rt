@@ -2,9 +2,9 @@
 // first record (document 01, "Block, record, item" and "Refusal numbers and their order"). No block is checked as a whole.
 use blocks::HEAD;
 use blocks::HeadRead;
-use blocks::ProfileFound;
 use records::RecordChecked;
 use records::RecordMap;
+use tables::PROFILES;
 ghost use mathlib.Core.Path.{_≡_};
 ghost use Prim.Native.Nat.{_≤_};
 ghost use lib.ListN.{length};
@@ -144,10 +144,10 @@ fn record_at(recording: &[u8], from: Cursor, at: Cursor) -> Walked
     let place = at.place;
     let end = at.end;
     let category = at.category;
-    let found = blocks::profile_of(category);
-    let ProfileFound::Profile(profile) = found else {
+    let profile = tables::profile_of(category);
+    if PROFILES <= profile {
         return stayed(from, Met::Refused { number: 2, place });
-    };
+    }
     let offset = place - block;
     let walked = records::check_record(profile, &recording[place..end], offset);
     let checked = walked.checked;

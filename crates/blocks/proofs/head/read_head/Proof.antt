@@ -1,6 +1,6 @@
 -- `head::read_head` meets its contract: at each `return` the tests that led there say which case of the head's rule holds. Assumes nothing.
-use mathlib.Core.Path.{sym, ap, _∙_}
-use Rattle.blocks.specs.Answers.{profileOf}
+use mathlib.Core.Path.{sym}
+use Rattle.tables.proofs.ProfileLaws.{category-at, category-other}
 use Rattle.blocks.proofs.HeadLaws.{head-none, head-alien, head-less, head-good}
 use borrow.Author.Needs.{needs}
 use Rattle.blocks.proofs.head.read_head.Statement.{statement}
@@ -15,14 +15,8 @@ shared-slice-read-profile-of c = search needs
 profile-of-requires : tie.Need-profile-of-requires
 profile-of-requires c κs = search needs
 
-enum-known-found : tie.Need-enum-known-found
-enum-known-found c = search needs
-
-enum-told : tie.Need-enum-told
-enum-told c = search needs
-
 returns-2 : tie.Need-returns-2
-returns-2 c = sym (head-alien _ (c .before .before .before .before .if1 .left) (sym (c .before .before .profile-of .ensures) ∙ ap profileOf (c .enum-told .given .1)))
+returns-2 c = sym (head-alien _ (c .before .before .before .if1 .left) (category-other _ _ (c .before .profile-of .ensures) (c .if2 .taken)))
 
 shared-slice-read-wide : tie.Need-shared-slice-read-wide
 shared-slice-read-wide c = search needs
@@ -43,14 +37,14 @@ add-len : tie.Need-add-len
 add-len c = search needs
 
 returns-3 : tie.Need-returns-3
-returns-3 c = sym (head-less _ (c .before .before .before .before .before .before .before .before .before .before .if1 .left) _ _ _
-    (sym (c .before .before .before .before .before .before .before .before .profile-of .ensures) ∙ ap profileOf (c .before .before .before .before .before .before .found .given .1))
-    (c .before .before .before .wide .ensures .0) (c .before .wide2 .ensures .0) (c .if2 .taken))
+returns-3 c = sym (head-less _ (c .before .before .before .before .before .before .before .before .if1 .left) _ _ _
+    (category-at _ _ (c .before .before .before .before .before .before .profile-of .ensures) (c .before .before .before .before .before .if2 .left))
+    (c .before .before .before .wide .ensures .0) (c .before .wide2 .ensures .0) (c .if3 .taken))
 
 returns-4 : tie.Need-returns-4
-returns-4 c = sym (head-good _ (c .before .before .before .before .before .before .before .before .before .before .if1 .left) _ _ _
-    (sym (c .before .before .before .before .before .before .before .before .profile-of .ensures) ∙ ap profileOf (c .before .before .before .before .before .before .found .given .1))
-    (c .before .before .before .wide .ensures .0) (c .before .wide2 .ensures .0) (c .if2 .left))
+returns-4 c = sym (head-good _ (c .before .before .before .before .before .before .before .before .if1 .left) _ _ _
+    (category-at _ _ (c .before .before .before .before .before .before .profile-of .ensures) (c .before .before .before .before .before .if2 .left))
+    (c .before .before .before .wide .ensures .0) (c .before .wide2 .ensures .0) (c .if3 .left))
 
 pub read-head-spec : {M : Type 1} → statement M
 read-head-spec =
@@ -59,8 +53,6 @@ read-head-spec =
     returns
     shared-slice-read-profile-of
     profile-of-requires
-    enum-known-found
-    enum-told
     returns-2
     shared-slice-read-wide
     wide-requires

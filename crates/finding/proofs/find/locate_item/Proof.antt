@@ -17,7 +17,8 @@ use Rattle.blocks.specs.Answers.{checkedNumber, checkedPlace, openedBy}
 use Rattle.blocks.proofs.LoopLaws.{octets-each, to-end}
 use Rattle.blocks.proofs.OpenLaws.{Opens, opens, opens-records}
 use Rattle.finding.specs.Found.{seekAt, Located, itemSpan}
-use Rattle.finding.proofs.FindLaws.{NamedAt, frn-none, frn-some, profile-is, item-refused, item-unknown, LocatedAt, located, lost, no-record-at, index-in, absent-at, ThereAt, there-at}
+use Rattle.tables.proofs.ProfileLaws.{profile-at}
+use Rattle.finding.proofs.FindLaws.{NamedAt, frn-none, frn-some, item-refused, item-unknown, LocatedAt, located, lost, no-record-at, index-in, absent-at, ThereAt, there-at}
 use Rattle.finding.proofs.find.locate_item.Statement.{statement}
 use Rattle.finding.proofs.find.locate_item.Tie as tie
 
@@ -34,7 +35,7 @@ is-open c =
 named : (c : tie.After-known-told) → NamedAt (c .before .before .before .before .before .before .before .before .args .reference) 1 (places (opening (c .before .before .before .before) .category)) (c .before .named .given .0 .0)
 named c =
     frn-some _ 1 (places (opening (c .before .before .before .before) .category)) _
-    (ap (λ z. frnAs (c .before .before .before .before .before .before .before .before .args .reference) 1 (flatten z)) (profile-is (c .before .before .before .before .before .before .open-block .result .profile)) ∙ sym (c .before .before .before .frn-of .ensures) ∙ ap frnOf (c .before .named .given .1))
+    (ap (λ z. frnAs (c .before .before .before .before .before .before .before .before .args .reference) 1 (flatten z)) (profile-at (c .before .before .before .before .before .before .open-block .result .profile)) ∙ sym (c .before .before .before .frn-of .ensures) ∙ ap frnOf (c .before .named .given .1))
 
 -- the record that was sought
 sought : (c : tie.After-known-told2)
@@ -89,7 +90,7 @@ returns-2 c =
     ap itemSpan
     (sym (item-unknown _ _ _ (opening (c .before .before .before)) (is-open (c .before .before .before))
     (frn-none _ 1 (places (opening (c .before .before .before) .category))
-    (ap (λ z. frnAs (c .before .before .before .before .before .before .before .args .reference) 1 (flatten z)) (profile-is (c .before .before .before .before .before .open-block .result .profile)) ∙ sym (c .before .before .frn-of .ensures) ∙ ap frnOf (c .enum-told3 .given .1)))))
+    (ap (λ z. frnAs (c .before .before .before .before .before .before .before .args .reference) 1 (flatten z)) (profile-at (c .before .before .before .before .before .open-block .result .profile)) ∙ sym (c .before .before .frn-of .ensures) ∙ ap frnOf (c .enum-told3 .given .1)))))
 
 sub-seek-record : tie.Need-sub-seek-record
 sub-seek-record c = omega (arith, is-open (c .before .before .before .before) .room)
