@@ -1,5 +1,4 @@
 pub mod AddLaws
 pub mod SetLaws
 pub mod AddedLaws
-pub mod LeastLaws
 pub mod Unique

@@ -5,7 +5,7 @@ use mathlib.Core.Bool.{Bool, true, false}
 use mathlib.Core.List.{List}
 use Rattle.rules.specs.Answer.{Answer, ok, refused}
 use Rattle.rules.specs.Catalogue.{categories}
-use Rattle.rules.specs.Entry.{addRecord, leavesAdded, leastLength}
+use Rattle.rules.specs.Entry.{addRecord, leavesAdded}
 use Rattle.sets.specs.declared.ItemSet.{ItemSet}
 use Rattle.sets.specs.Sets.{frnsOf}
 use Rattle.adding.specs.declared.add.RecordAdded.{RecordAdded}
@@ -33,8 +33,3 @@ pub one-add-record : (out : List ℕ) (used : ℕ) (set : ItemSet) (items : List
     → addedOf b ≡ addedAs (addRecord categories out used (frnsOf (set .bits)) items) → right ≡ leavesAdded (addRecord categories out used (frnsOf (set .bits)) items) out
     → (a ≡ b) × (left ≡ right)
 one-add-record out used set items a b left right p l q r = (added-told a b (p ∙ sym q), l ∙ sym r)
-
--- ---- `least_length`
-
-pub one-least-length : (profile place octet a b : ℕ) → a ≡ leastLength categories profile place octet → b ≡ leastLength categories profile place octet → a ≡ b
-one-least-length profile place octet a b p q = p ∙ sym q

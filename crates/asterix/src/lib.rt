@@ -611,5 +611,5 @@ pub extern "C" fn asterix_add_record(
 pub extern "C" fn asterix_least_length(category: u8, place: usize, octet: u8) -> usize
     ensures { λ r. ⌜ r ≡ leastLength categories (profileIn category categories) place octet ⌝ }
 {
-    adding::least_length(tables::profile_of(category), place, octet)
+    lengths::least_length(tables::profile_of(category), place, octet)
 }

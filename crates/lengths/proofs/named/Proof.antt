@@ -1,11 +1,11 @@
--- `least::named` meets its contract. Assumes nothing.
+-- `lengths::named` meets its contract. Assumes nothing.
 use mathlib.Core.Path.{refl, sym, _∙_}
 use borrow.Author.Needs.{needs}
 use native.Mathlib.Omega.{arith}
 use borrow.Author.Tests.{le-leb, lt-leb}
 use Rattle.rules.proofs.AnswerLaws.{if-true, if-false}
-use Rattle.adding.proofs.least.named.Statement.{statement}
-use Rattle.adding.proofs.least.named.Tie as tie
+use Rattle.lengths.proofs.named.Statement.{statement}
+use Rattle.lengths.proofs.named.Tie as tie
 
 returns : tie.Need-returns
 returns c = (sym (if-false _ (lt-leb _ _ (c .if1 .taken)) refl), omega arith)

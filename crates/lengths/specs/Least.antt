@@ -1,8 +1,8 @@
 -- The least sizes of the items of each profile, as the code's table has them: profile after profile, FRN by FRN. Assumes nothing.
-use Prim.Native.Nat.{ℕ, zero, suc, _+_}
+use Prim.Native.Nat.{ℕ, _+_}
 use mathlib.Core.Option.{Option, none, some}
 use mathlib.Core.List.{List, [], _∷_, map}
-use lib.ListN.{length}
+use lib.ListN.{length, getD}
 use Rattle.rules.specs.Layout.{flatten, leastSize}
 use Rattle.rules.specs.Record.{Place, Category, places}
 use Rattle.rules.specs.Catalogue.{categories}
@@ -15,11 +15,14 @@ leastIn (some p) = leastSize (p .layout)
 unfoldable pub leasts : List ℕ
 leasts = flatten (map (λ c. map leastIn (places c)) categories)
 
--- where the profile with an index begins; 0 where there is none
-abbrev pub firstIn : ℕ → List Category → ℕ → ℕ
-firstIn k [] i = 0
-firstIn k (c ∷ cs) zero = k
-firstIn k (c ∷ cs) (suc i) = firstIn (k + length (places c)) cs i
+-- how many they are
+abbrev pub leastCount : ℕ
+leastCount = 56
+
+-- where each profile begins; 0 where there is none
+abbrev pub firstsFrom : ℕ → List Category → List ℕ
+firstsFrom k [] = []
+firstsFrom k (c ∷ cs) = k ∷ firstsFrom (k + length (places c)) cs
 
 unfoldable pub firstOf : ℕ → ℕ
-firstOf i = firstIn 0 categories i
+firstOf i = getD (firstsFrom 0 categories) i 0

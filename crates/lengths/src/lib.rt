@@ -1,5 +1,7 @@
 // The fewest octets that the items named by an octet of an FSPEC take (document 02, W-204): of a fixed item its length; of a list or a led item its
 // first octet; of an extended item its first part.
+use tables::PROFILES;
+use tables::profile_row;
 ghost use mathlib.Core.Path.{_≡_};
 ghost use Prim.Native.Nat.{_≤_, _<_, _+_, _*_};
 ghost use lib.Dec.{leb};
@@ -7,10 +9,13 @@ ghost use lib.ListN.{length, getD};
 ghost use Rattle.rules.specs.Answer.{if_then_else_};
 ghost use Rattle.rules.specs.Catalogue.{categories};
 ghost use Rattle.rules.specs.Entry.{profileAt, leastLength};
-ghost use Rattle.adding.specs.Least.{leasts, firstOf};
+ghost use Rattle.lengths.specs.Least.{leasts, leastCount, firstOf};
 
 // The FRNs of an octet.
 const FRNS: usize = 7;
+
+// Where the FRNs of each profile begin in the table.
+const FIRST: [u8; 2] = [0, 21];
 
 // By profile and FRN: the column "Length in octets" of each User Application Profile (5.3.1; 017: Table 2, 018: Table 9), 1 where it has 1+n or 3+.
 const LEAST: [u8; 56] = [
@@ -79,7 +84,7 @@ fn wide(x: u8) -> usize
 }
 
 fn size_at(index: usize) -> usize
-    requires { ⌜ index < 56 ⌝ }
+    requires { ⌜ index < leastCount ⌝ }
     ensures { λ r. ⌜ (r ≡ getD leasts index 0) × (r < 256) ⌝ }
 {
     wide(LEAST[index])
@@ -87,7 +92,7 @@ fn size_at(index: usize) -> usize
 
 // What the FRN at an index adds, where its bit is set.
 fn named(index: usize, bit: usize, left: usize) -> usize
-    requires { ⌜ index < 56 ⌝ }
+    requires { ⌜ index < leastCount ⌝ }
     ensures { λ r. ⌜ (r ≡ (if leb bit left then getD leasts index 0 else 0)) × (r < 256) ⌝ }
 {
     if left < bit {
@@ -103,21 +108,17 @@ struct ProfileRows {
 }
 
 fn rows_of(profile: usize) -> ProfileRows
-    ensures { λ r. ⌜ (r .first ≡ firstOf profile) × (r .octets ≡ length (profileAt categories profile)) × (r .first + 7 * r .octets ≤ 56) ⌝ }
+    ensures { λ r. ⌜ (r .first ≡ firstOf profile) × (r .octets ≡ length (profileAt categories profile)) × (r .first + 7 * r .octets ≤ leastCount) ⌝ }
 {
-    match profile {
-        0 => ProfileRows {
-            first: 0,
-            octets: 3,
-        },
-        1 => ProfileRows {
-            first: 21,
-            octets: 5,
-        },
-        _ => ProfileRows {
+    if PROFILES <= profile {
+        return ProfileRows {
             first: 0,
             octets: 0,
-        },
+        };
+    }
+    ProfileRows {
+        first: wide(FIRST[profile]),
+        octets: wide(profile_row(profile).octets),
     }
 }
 

@@ -1,11 +1,11 @@
--- `least::size_at` meets its contract: the table is the list of least sizes, entry by entry. Assumes nothing.
+-- `lengths::size_at` meets its contract: the table is the list of least sizes, entry by entry. Assumes nothing.
 use borrow.Author.Needs.{needs}
 use Rattle.rules.specs.Category017.{category017}
 use Rattle.rules.specs.Category018.{category018}
 use Rattle.rules.specs.Catalogue.{categories}
-use Rattle.adding.specs.Least.{leasts}
-use Rattle.adding.proofs.least.size_at.Statement.{statement}
-use Rattle.adding.proofs.least.size_at.Tie as tie
+use Rattle.lengths.specs.Least.{leasts}
+use Rattle.lengths.proofs.size_at.Statement.{statement}
+use Rattle.lengths.proofs.size_at.Tie as tie
 
 array-read-wide : tie.Need-array-read-wide
 array-read-wide c = search needs

@@ -1,4 +1,4 @@
--- `least::least_length` meets its contract. The loop's invariant: what is summed, with what the rest of the octet names, is the whole. The measure
+-- `lengths::least_length` meets its contract. The loop's invariant: what is summed, with what the rest of the octet names, is the whole. The measure
 -- is how many places are left. Assumes nothing.
 use Prim.Native.Nat.{_+_, _-_, _*_, _/_}
 use mathlib.Core.Path.{refl, sym, ap, _∙_}
@@ -12,10 +12,10 @@ use Rattle.rules.specs.Answer.{if_then_else_}
 use Rattle.rules.specs.Presence.{flags}
 use Rattle.rules.specs.Catalogue.{categories}
 use Rattle.rules.specs.Entry.{profileAt, sumLeast, leastLength}
-use Rattle.adding.specs.Least.{leasts}
-use Rattle.adding.proofs.LeastLaws.{size-is, no-octet, Summing, half-some, sum-again, sum-end}
-use Rattle.adding.proofs.least.least_length.Statement.{statement}
-use Rattle.adding.proofs.least.least_length.Tie as tie
+use Rattle.lengths.specs.Least.{leasts}
+use Rattle.lengths.proofs.LeastLaws.{size-is, no-octet, Summing, half-some, sum-again, sum-end}
+use Rattle.lengths.proofs.least_length.Statement.{statement}
+use Rattle.lengths.proofs.least_length.Tie as tie
 
 abbrev Inv-loop : tie.InvT-loop
 Inv-loop profile place octet octets first sum₀ full₀ left₀ k₀ sum full left k = Summing (getD (profileAt categories profile) place []) (leastLength categories profile place octet) sum full left k

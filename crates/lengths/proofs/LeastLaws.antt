@@ -11,18 +11,19 @@ use native.Mathlib.Omega.{arith}
 use native.Mathlib.Nat.{add-zero, zero-add, add-assoc, pow-suc, mul-div-cancel}
 use native.Mathlib.Numerals.{add-one}
 use lib.Dec.{leb, ltb, eqb}
-use borrow.Author.Tests.{eqb-true, ltb-true, ltb-false}
+use borrow.Author.Tests.{eqb-true, ltb-true, ltb-false, leb-true}
 use lib.Pow.{pow-pos}
 use lib.ListN.{length, drop, getD, List·getD-eq-default}
 use Rattle.rules.specs.Answer.{if_then_else_}
 use Rattle.rules.specs.Presence.{flags}
-use Rattle.rules.specs.Record.{Place}
+use Rattle.rules.specs.Record.{Place, Category, places}
 use Rattle.rules.specs.Category017.{category017}
 use Rattle.rules.specs.Category018.{category018}
 use Rattle.rules.specs.Catalogue.{categories}
 use Rattle.rules.specs.Entry.{profileAt, sumLeast, leastLength}
 use Rattle.rules.proofs.AnswerLaws.{both-left, both-right}
-use Rattle.adding.specs.Least.{leastIn, leasts, firstOf}
+use Rattle.tables.proofs.ProfileLaws.{profile-at, category-none}
+use Rattle.lengths.specs.Least.{leastIn, leasts, leastCount, firstsFrom, firstOf}
 
 -- ---- a test at every number below a bound
 
@@ -53,15 +54,29 @@ rowAt i k = getD (profileAt categories i) k []
 abbrev right : ℕ → ℕ → ℕ → Bool
 right i k j = eqb (getD leasts (firstOf i + k * 7 + j) 0) (leastIn (getD (rowAt i k) j none))
 
-all-right : below 2 (λ i. below (length (profileAt categories i)) (λ k. below 7 (λ j. right i k j))) ≡ true
+all-right : below (length categories) (λ i. below (length (profileAt categories i)) (λ k. below 7 (λ j. right i k j))) ≡ true
 unfolding leasts firstOf categories category017 category018
 all-right = refl
 
-no-profile : (i : ℕ) → 2 ≤ i → length (profileAt categories i) ≡ 0
+-- an index past the last has no octet, and the octets of any other lie within the list
+no-profile : (i : ℕ) → length categories ≤ i → length (profileAt categories i) ≡ 0
 unfolding categories
-no-profile zero l = absurd (omega arith)
-no-profile (suc zero) l = absurd (omega arith)
-no-profile (suc (suc i)) l = refl
+no-profile i l = ap length (sym (profile-at i) ∙ ap (λ c. c .profile) (category-none i l))
+
+all-within : below (length categories) (λ i. leb (firstOf i + 7 * length (profileAt categories i)) leastCount) ≡ true
+unfolding firstOf categories category017 category018
+all-within = refl
+
+pub rows-none : (i : ℕ) → length categories ≤ i → (0 ≡ firstOf i) × (0 ≡ length (profileAt categories i))
+unfolding firstOf
+rows-none i l = (sym (List·getD-eq-default (firstsFrom 0 categories) 0 (rw (firsts-length 0 categories) l)), sym (no-profile i l))
+  where
+    firsts-length : (k : ℕ) (cs : List Category) → length (firstsFrom k cs) ≡ length cs
+    firsts-length k [] = refl
+    firsts-length k (c ∷ cs) = ap suc (firsts-length (k + length (places c)) cs)
+
+pub rows-within : (i : ℕ) → i < length categories → firstOf i + 7 * length (profileAt categories i) ≤ leastCount
+rows-within i l = leb-true _ _ (below-at (length categories) (λ i. leb (firstOf i + 7 * length (profileAt categories i)) leastCount) all-within i l)
 
 pub size-is : (i k j : ℕ) → k < length (profileAt categories i) → j < 7 → getD leasts (firstOf i + k * 7 + j) 0 ≡ leastIn (getD (rowAt i k) j none)
 size-is i k j q r =
@@ -69,30 +84,15 @@ size-is i k j q r =
     (λ p.
     eqb-true _ _
     (below-at 7 (λ j. right i k j)
-    (below-at (length (profileAt categories i)) (λ k. below 7 (λ j. right i k j)) (below-at 2 (λ i. below (length (profileAt categories i)) (λ k. below 7 (λ j. right i k j))) all-right i p) k q)
+    (below-at (length (profileAt categories i)) (λ k. below 7 (λ j. right i k j)) (below-at (length categories) (λ i. below (length (profileAt categories i)) (λ k. below 7 (λ j. right i k j))) all-right i p) k q)
     j r))
     (λ p. absurd (omega (arith, no-profile i p)))
-    (below-or i 2)
+    (below-or i (length categories))
 
 -- an octet past the profile's FSPEC
 pub no-octet : (i k octet : ℕ) → length (profileAt categories i) ≤ k → leastLength categories i k octet ≡ 0
 unfolding leastLength
 no-octet i k octet l = ap (λ r. sumLeast r (flags 7 (octet / 2))) (List·getD-eq-default (profileAt categories i) [] l)
-
--- the rows of each profile
-pub rows-017 : (i : ℕ) → i ≡ 0 → (0 ≡ firstOf i) × (3 ≡ length (profileAt categories i))
-unfolding firstOf categories category017
-rows-017 i e = rw e (refl, refl)
-
-pub rows-018 : (i : ℕ) → i ≡ 1 → (21 ≡ firstOf i) × (5 ≡ length (profileAt categories i))
-unfolding firstOf categories category017 category018
-rows-018 i e = rw e (refl, refl)
-
-pub rows-other : (i : ℕ) → (i ≡ 0 → ⊥) → (i ≡ 1 → ⊥) → (0 ≡ firstOf i) × (0 ≡ length (profileAt categories i))
-unfolding firstOf categories
-rows-other zero p q = absurd (p refl)
-rows-other (suc zero) p q = absurd (q refl)
-rows-other (suc (suc i)) p q = (refl, refl)
 
 -- ---- a turn of the loop that sums
 

@@ -1,0 +1,45 @@
+-- `lengths::rows_of` meets its contract: where each profile begins is the list that the categories give, its octets are those of the table of
+-- profiles, and they end within the list of least sizes. Assumes nothing.
+use mathlib.Core.Path.{_≡_, ap, _∙_}
+use borrow.Author.Needs.{needs}
+use native.Mathlib.Omega.{arith}
+use lib.ListN.{length}
+use Rattle.rules.specs.Category017.{category017}
+use Rattle.rules.specs.Category018.{category018}
+use Rattle.rules.specs.Catalogue.{categories}
+use Rattle.rules.specs.Entry.{profileAt}
+use Rattle.tables.proofs.ProfileLaws.{row-octets, profile-at}
+use Rattle.lengths.specs.Least.{firstOf}
+use Rattle.lengths.proofs.LeastLaws.{rows-none, rows-within}
+use Rattle.lengths.proofs.rows_of.Statement.{statement}
+use Rattle.lengths.proofs.rows_of.Tie as tie
+
+returns : tie.Need-returns
+unfolding categories
+returns c = (rows-none _ (c .if1 .taken) .0, rows-none _ (c .if1 .taken) .1, omega arith)
+
+array-read-wide : tie.Need-array-read-wide
+array-read-wide c = search needs
+
+wide-requires : tie.Need-wide-requires
+wide-requires c κs = search needs
+
+profile-row-requires : tie.Need-profile-row-requires
+profile-row-requires c κs = search needs
+
+wide-requires-2 : tie.Need-wide-requires-2
+wide-requires-2 c κs = search needs
+
+begins : (c : tie.After-wide2) → c .before .before .wide .result ≡ firstOf (c .before .before .before .before .args .profile)
+unfolding firstOf categories category017 category018
+begins c = c .before .before .wide .ensures .0
+
+has : (c : tie.After-wide2) → c .wide2 .result ≡ length (profileAt categories (c .before .before .before .before .args .profile))
+has c = c .wide2 .ensures .0 ∙ ap (λ r. r .octets) (c .before .profile-row .ensures) ∙ row-octets _ ∙ ap length (profile-at _)
+
+returns-2 : tie.Need-returns-2
+unfolding categories
+returns-2 c = (begins c, has c, omega (arith, begins c, has c, rows-within _ (c .before .before .before .if1 .left)))
+
+pub rows-of-spec : {M : Type 1} → statement M
+rows-of-spec = tie.close (tie.spec returns array-read-wide wide-requires profile-row-requires wide-requires-2 returns-2)
