@@ -125,3 +125,85 @@ def single():
             word = place.item.octets if rows.all_free(place) else 8 + group_at[place.profile, place.frn]
         out.append((str(word), rows.at_frn(place)))
     return constant("SINGLE", "u8", out)
+
+
+# ---- crates/tables/src/profiles.rt and specs/Tables.antt
+
+def short(name, kind, words):
+    """A table of few words, as `rt fmt` has it: in one line where they take 60 columns at most, else each in its own."""
+    text = ", ".join(words)
+    head = "const %s: [%s; %d] = [" % (name, kind, len(words))
+    return [head + text + "];"] if len(text) <= 60 else [head] + ["    %s," % word for word in words] + ["];"]
+
+
+def usable(profile):
+    return rows.quads(rows.bits(place.frn for place in rows.places_of(profile) if place.item))
+
+
+def untimed(category):
+    """One more than the message type in which a time is none."""
+    return "0x%02X" % (1 + category.untimed[0]) if category.untimed else "0"
+
+
+def profiles():
+    each = range(len(PROFILES))
+    columns = [
+        short("CATS", "u8", [str(category.number) for category in PROFILES]),
+        short("OCTETS", "u8", [str(category.octets) for category in PROFILES]),
+        short("USABLE", "u64", [usable(profile) for profile in each]),
+        short("KINDS", "u8", [str(rows.type_frn(profile)) for profile in each]),
+        short("TIMES", "u8", [str(rows.time_frn(profile)) for profile in each]),
+        short("UNTIMED", "u8", [untimed(category) for category in PROFILES]),
+    ]
+    return columns[0] + [line for some in columns[1:] for line in [""] + some]
+
+
+def number_spec(name, number):
+    """The definition of a number."""
+    return ["abbrev pub %s : ℕ" % name, "%s = %d" % (name, number)]
+
+
+def profile_counts():
+    return number_spec("profileCount", len(PROFILES)) + [""] + number_spec("frnCount", FRNS)
+
+
+# ---- crates/sets/src/messages.rt: a message type is found by its profile and its number
+
+def messages():
+    out = []
+    for profile, category in enumerate(PROFILES):
+        out.append("// category %03d" % category.number)
+        for message in category.messages:
+            number = "%d" % message.number if profile == 0 and category.base == 10 else "0x%X_%02X" % (profile, message.number)
+            must, may = map(rows.quads, rows.must_and_may(profile, message))
+            out.append("%s => MessageRow::Known(%s, %s), // %s" % (number, must, may, rows.message_name(message)))
+    return [" " * 8 + line for line in out]
+
+
+# ---- crates/lengths
+
+def firsts():
+    """Where the FRNs of each profile begin in the table of least lengths."""
+    return short("FIRST", "u8", [str(sum(len(category.profile) for category in PROFILES[:profile])) for profile in range(len(PROFILES))])
+
+
+def least_octets(item):
+    """The fewest octets of an item."""
+    return item.octets if item.form == "fixed" else 1
+
+
+def least_rows():
+    out = []
+    for profile, category in enumerate(PROFILES):
+        for place in rows.places_of(profile):
+            says = rows.cited(place).rstrip() if place.item else place.says
+            out.append((str(least_octets(place.item)) if place.item else "0", "%03d  FRN %-2d  %s" % (category.number, place.frn, says)))
+    return out
+
+
+def leasts():
+    return constant("LEAST", "u8", least_rows())
+
+
+def least_count():
+    return number_spec("leastCount", len(least_rows()))

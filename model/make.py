@@ -34,6 +34,11 @@ Region = namedtuple("Region", "file name lines")
 
 TABLES = "crates/tables/src/tables.rt"
 FIELD_RULES = "crates/tables/src/field_rules.rt"
+TABLES_SPECS = "crates/tables/specs/Tables.antt"
+PROFILES = "crates/tables/src/profiles.rt"
+MESSAGES = "crates/sets/src/messages.rt"
+LENGTHS = "crates/lengths/src/lib.rt"
+LENGTHS_SPECS = "crates/lengths/specs/Least.antt"
 QUICK_ITEMS = "crates/quick_items/src/lib.rt"
 LENT = "crates/quick_records/src/lent.rt"
 SHAPES = "crates/measuring/src/shape.rt"
@@ -53,6 +58,12 @@ REGIONS = [
     Region(FIELD_RULES, "SIZES", code.group_sizes),
     Region(FIELD_RULES, "FIRST_RULES", code.first_rules),
     Region(FIELD_RULES, "SINGLE", code.single),
+    Region(TABLES_SPECS, "profileCount, frnCount", code.profile_counts),
+    Region(PROFILES, "the columns of profiles", code.profiles),
+    Region(MESSAGES, "the rows of message types", code.messages),
+    Region(LENGTHS, "FIRST", code.firsts),
+    Region(LENGTHS, "LEAST", code.leasts),
+    Region(LENGTHS_SPECS, "leastCount", code.least_count),
     Region(QUICK_ITEMS, "Steps", quick.steps_size),
     Region(QUICK_ITEMS, "steps", quick.steps),
     Region(LENT, "Types, Sets", quick.lent_sizes),

@@ -16,8 +16,11 @@ unfoldable pub leasts : List ℕ
 leasts = flatten (map (λ c. map leastIn (places c)) categories)
 
 -- how many they are
+-- ---- made by model/make.py: leastCount
 abbrev pub leastCount : ℕ
 leastCount = 56
+
+-- ---- end of what is made
 
 -- where each profile begins; 0 where there is none
 abbrev pub firstsFrom : ℕ → List Category → List ℕ

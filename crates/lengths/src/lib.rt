@@ -15,9 +15,12 @@ ghost use Rattle.lengths.specs.Least.{leasts, leastCount, firstOf};
 const FRNS: usize = 7;
 
 // Where the FRNs of each profile begin in the table.
+// ---- made by model/make.py: FIRST
 const FIRST: [u8; 2] = [0, 21];
+// ---- end of what is made
 
 // By profile and FRN: the column "Length in octets" of each User Application Profile (5.3.1; 017: Table 2, 018: Table 9), 1 where it has 1+n or 3+.
+// ---- made by model/make.py: LEAST
 const LEAST: [u8; 56] = [
     2, // 017  FRN 1   I017/010  5.2.2
     2, // 017  FRN 2   I017/012  5.2.3
@@ -39,7 +42,7 @@ const LEAST: [u8; 56] = [
     0, // 017  FRN 18  spare
     0, // 017  FRN 19  spare
     0, // 017  FRN 20  spare
-    0, // 017  FRN 21  special purpose
+    0, // 017  FRN 21  reserved for Special Purpose Indicator
     2, // 018  FRN 1   I018/036  5.2.34
     2, // 018  FRN 2   I018/037  5.2.35
     1, // 018  FRN 3   I018/000  5.2.1
@@ -76,6 +79,7 @@ const LEAST: [u8; 56] = [
     1, // 018  FRN 34  I018/012  5.2.12
     1, // 018  FRN 35  I018/013  5.2.13
 ];
+// ---- end of what is made
 
 fn wide(x: u8) -> usize
     ensures { λ r. ⌜ (r ≡ x) × (r < 256) ⌝ }

@@ -21,6 +21,7 @@ pub fn row_of(profile: usize, kind: u8) -> MessageRow
         return MessageRow::Unknown;
     }
     match profile * 256 + kind as usize {
+        // ---- made by model/make.py: the rows of message types
         // category 017
         0 => MessageRow::Known(0x7800_0000_0000_0000, 0x7800_0000_0000_0000), // Network information
         10 => MessageRow::Known(0x75F8_0000_0000_0000, 0x77FC_0000_0000_0000), // Track data
@@ -58,6 +59,7 @@ pub fn row_of(profile: usize, kind: u8) -> MessageRow
         0x1_41 => MessageRow::Known(0x7400_0000_0000_0000, 0x7408_0000_0000_0000), // Cancel_GICB_extraction
         0x1_42 => MessageRow::Known(0x7C00_0000_0000_0000, 0x7C08_0000_0000_0000), // GICB_extraction_ack
         0x1_43 => MessageRow::Known(0x7C0D_0000_0000_0000, 0x7C0F_0000_0000_0000), // GICB_response
+        // ---- end of what is made
         _ => MessageRow::Unknown,
     }
 }

@@ -54,11 +54,14 @@ abbrev pub layoutCount : ℕ
 layoutCount = suc (length layouts)
 
 -- the code counts with these two numbers: `profiles-long` has that they are the profiles, `profile-few` that each has room for its FRNs, 0 among them
+-- ---- made by model/make.py: profileCount, frnCount
 abbrev pub profileCount : ℕ
 profileCount = 2
 
 abbrev pub frnCount : ℕ
 frnCount = 36
+
+-- ---- end of what is made
 
 abbrev pub placeCount : ℕ
 placeCount = profileCount * frnCount

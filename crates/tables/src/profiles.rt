@@ -19,6 +19,7 @@ pub struct ProfileRow {
 
 // ---- the table, a column to an array: a constant is written out where it is read, so none is written that is not asked for
 
+// ---- made by model/make.py: the columns of profiles
 const CATS: [u8; 2] = [17, 18];
 
 const OCTETS: [u8; 2] = [3, 5];
@@ -30,6 +31,7 @@ const KINDS: [u8; 2] = [3, 3];
 const TIMES: [u8; 2] = [7, 15];
 
 const UNTIMED: [u8; 2] = [0, 0x41];
+// ---- end of what is made
 
 // The row of a profile, all zeros where there is none.
 pub fn profile_row(profile: usize) -> ProfileRow
