@@ -12,15 +12,18 @@ use native.Mathlib.Omega.{arith}
 use native.Mathlib.Nat.{mod-lt, mod-eq-of-lt, mod-eq-sub-mod, div-eq-of-lt, pow-suc, add-zero, one-mul}
 use lib.Count.{leadingZeros, leading-top}
 use lib.Pow.{pow-pos, pow-mono, split, high, low, shl-exact}
-use lib.Dec.{eqb, ltb, eqb·suc-zero}
+use lib.Dec.{leb, eqb, ltb}
 use lib.ListN.{length, getD}
-use borrow.Author.Tests.{le-leb, lt-leb, eq-eqb, ne-eqb}
+use borrow.Author.Tests.{leb-true, ltb-true, eqb-true, le-leb, lt-leb, eq-eqb, ne-eqb}
 use Rattle.rules.specs.Answer.{ok, if_then_else_}
 use Rattle.rules.specs.Presence.{flags}
 use Rattle.rules.specs.Catalogue.{categories}
-use Rattle.rules.proofs.AnswerLaws.{if-true, if-false, Octets}
+use Rattle.rules.specs.Category017.{category017}
+use Rattle.rules.specs.Category018.{category018}
+use Rattle.rules.proofs.AnswerLaws.{if-true, if-false, both-left, both-right, Octets}
 use Rattle.rules.proofs.PresenceLaws.{flags-length}
 use Rattle.layouts.proofs.ReadLaws.{le-or-lt}
+use Rattle.tables.specs.Tables.{profileCount, frnCount, groups, layouts, groupAt, layoutAt, placeRowAt}
 use Rattle.items.specs.Answers.{profileIn}
 use Rattle.sets.specs.Sets.{setAt}
 use Rattle.sets.specs.Answers.{setOf}
@@ -28,38 +31,38 @@ use Rattle.sets.specs.declared.ItemSet.{ItemSet}
 use Rattle.sets.specs.declared.SetRead.{SetRead}
 use Rattle.sets.specs.declared.SetRead.the-variants as set
 use Rattle.sets.proofs.FlagLaws.{flags-split}
-use Rattle.quick_items.specs.Told.{digitAt, digitOf}
-use Rattle.quick_items.proofs.ItemLaws.{octet-at}
-use Rattle.measuring.specs.Measure.{fixedOctets, variableOctets, octetsAt, endFrom, endOf, startOf, timeFrn, isIn, isUntimed, clockAt, timeIn, sized, measureBy, measureIn, measureOf}
+use Rattle.quick_items.specs.Item.{allBelow, octetsBy, rowOctets, isPlace, rowOf, octetsAt}
+use Rattle.quick_items.proofs.ItemLaws.{octet-at, all-below}
+use Rattle.measuring.specs.Measure.{endFrom, endOf, startOf, timeFrn, isIn, isUntimed, clockAt, timeIn, sized, measureBy, measureIn, measureOf}
+use Rattle.measuring.specs.Shape.{isFixed}
 
 -- ---- the octets of an item
 
-if-most : (t : Bool) (a b m : ℕ) → a ≤ m → b ≤ m → (if t then a else b) ≤ m
-unfolding if_then_else_
-if-most true a b m h k = h
-if-most false a b m h k = k
+-- of no item at a place of the tables more than 255 parts of four octets after the count
+few-at : allBelow profileCount (λ i. allBelow frnCount (λ f. allBelow 256 (λ x. leb (rowOctets (rowOf i f) x) 1_021))) ≡ true
+unfolding groupAt layoutAt placeRowAt groups layouts categories category017 category018
+few-at = refl
 
-digit-most : (w k : ℕ) → digitAt w k ≤ 1_021
-unfolding digitAt
-digit-most w k = if-most (ltb k 21) _ _ 1_021 (omega arith) (omega arith)
-
--- 255 parts of four octets after the count
 octets-most : (i f x : ℕ) → x < 256 → octetsAt i f x ≤ 1_021
-unfolding octetsAt fixedOctets variableOctets digitOf
-octets-most i f x h =
-    if-most (eqb (fixedOctets i f) 0) _ _ 1_021
-    (if-most (eqb i 0) _ _ 1_021
-    (if-most (eqb f 4) _ _ 1_021 (omega arith) (omega arith))
-    (if-most (eqb f 7) _ _ 1_021 (omega arith) (if-most (eqb f 9) _ _ 1_021 (omega arith) (if-most (eqb f 16) _ _ 1_021 (omega arith) (omega arith)))))
-    (if-most (eqb i 0) _ _ 1_021 (digit-most _ f) (if-most (ltb f 21) _ _ 1_021 (digit-most _ f) (digit-most _ (f - 21))))
+unfolding octetsAt if_then_else_
+octets-most i f x h = go (isPlace i f) refl
+  where
+    go : (p : Bool) → isPlace i f ≡ p → (if p then rowOctets (rowOf i f) x else 0) ≤ 1_021
+    go true e =
+        let j : i < profileCount = ltb-true i profileCount (both-left (ltb i profileCount) (ltb f frnCount) e) in
+        let k : f < frnCount = ltb-true f frnCount (both-right (ltb i profileCount) (ltb f frnCount) e) in
+        leb-true _ 1_021
+        (all-below 256 (λ y. leb (rowOctets (rowOf i f) y) 1_021) x
+        (all-below frnCount (λ g. allBelow 256 (λ y. leb (rowOctets (rowOf i g) y) 1_021)) f (all-below profileCount (λ j. allBelow frnCount (λ g. allBelow 256 (λ y. leb (rowOctets (rowOf j g) y) 1_021))) i few-at j) k) h)
+    go false e = omega arith
 
-pub fixed-is : (i f x : ℕ) {n : ℕ} → n ≡ fixedOctets i f → (n ≡ 0 → ⊥) → n ≡ octetsAt i f x
+-- one part has as many, whatever its first octet is
+pub octets-fixed : (i f x : ℕ) → isFixed i f ≡ true → octetsAt i f x ≡ octetsAt i f 0
 unfolding octetsAt
-fixed-is i f x e z = e ∙ sym (if-false _ (ne-eqb (fixedOctets i f) 0 (λ y. z (e ∙ y))) refl)
-
-pub variable-is : (i f x : ℕ) {n : ℕ} → n ≡ fixedOctets i f → n ≡ 0 → variableOctets i f x ≡ octetsAt i f x
-unfolding octetsAt
-variable-is i f x e z = sym (if-true _ (eq-eqb (fixedOctets i f) 0 (sym e ∙ z)) refl)
+octets-fixed i f x h = ap (λ k. if isPlace i f then octetsBy k (groupAt (rowOf i f .first) .octets) x else 0) e ∙ sym (ap (λ k. if isPlace i f then octetsBy k (groupAt (rowOf i f .first) .octets) 0 else 0) e)
+  where
+    e : rowOf i f .kind ≡ 1
+    e = eqb-true (rowOf i f .kind) 1 h
 
 -- ---- numbers as the code has them
 
@@ -213,20 +216,28 @@ module _ (i : ℕ) (bs : List ℕ) where
 
   -- ---- FRN 1 to 3
 
-  first-three : (x y z : ℕ) → octetsAt i 1 x + octetsAt i 2 y + octetsAt i 3 z ≡ 5
-  unfolding octetsAt fixedOctets digitOf digitAt if_then_else_
-  first-three x y z = go i
-    where
-      go : (i : ℕ) → octetsAt i 1 x + octetsAt i 2 y + octetsAt i 3 z ≡ 5
-      go zero = refl
-      go (suc i) = rw eqb·suc-zero
+  three-at : allBelow profileCount (λ j. isFixed j 1 && (isFixed j 2 && (isFixed j 3 && eqb (octetsAt j 1 0 + octetsAt j 2 0 + octetsAt j 3 0) 5))) ≡ true
+  unfolding octetsAt if_then_else_ groupAt layoutAt placeRowAt groups layouts categories category017 category018
+  three-at = refl
 
-  pub end-three : (bits at : ℕ) → bits / 2 ^ 60 ≡ 7 → endOf i (bits % 2 ^ 60) bs (at + 5) ≡ endOf i bits bs at
+  first-three : i < profileCount → (x y z : ℕ) → octetsAt i 1 x + octetsAt i 2 y + octetsAt i 3 z ≡ 5
+  first-three h x y z =
+      let a : Bool = isFixed i 1 in
+      let b : Bool = isFixed i 2 in
+      let c : Bool = isFixed i 3 in
+      let d : Bool = eqb (octetsAt i 1 0 + octetsAt i 2 0 + octetsAt i 3 0) 5 in
+      let t : a && (b && (c && d)) ≡ true = all-below profileCount (λ j. isFixed j 1 && (isFixed j 2 && (isFixed j 3 && eqb (octetsAt j 1 0 + octetsAt j 2 0 + octetsAt j 3 0) 5))) i three-at h in
+      let u : b && (c && d) ≡ true = both-right a (b && (c && d)) t in
+      let v : c && d ≡ true = both-right b (c && d) u in
+      omega
+      (arith, octets-fixed i 1 x (both-left a (b && (c && d)) t), octets-fixed i 2 y (both-left b (c && d) u), octets-fixed i 3 z (both-left c d v), eqb-true (octetsAt i 1 0 + octetsAt i 2 0 + octetsAt i 3 0) 5 (both-right c d v))
+
+  pub end-three : i < profileCount → (bits at : ℕ) → bits / 2 ^ 60 ≡ 7 → endOf i (bits % 2 ^ 60) bs (at + 5) ≡ endOf i bits bs at
   unfolding endOf endFrom flags
-  end-three bits at b =
+  end-three h bits at b =
       let to : ℕ = at + octetsAt i 1 (getD bs at 0) in
       let on : ℕ = to + octetsAt i 2 (getD bs to 0) in
-      let e : at + 5 ≡ on + octetsAt i 3 (getD bs on 0) = omega (arith, first-three (getD bs at 0) (getD bs to 0) (getD bs on 0)) in
+      let e : at + 5 ≡ on + octetsAt i 3 (getD bs on 0) = omega (arith, first-three h (getD bs at 0) (getD bs to 0) (getD bs on 0)) in
       end-blank 3 60 (bits % 2 ^ 60) 1 (at + 5) (mod-lt bits (pow-pos 60))
       ∙ ap (endFrom i (flags 60 (bits % 2 ^ 60)) 4 bs) e
       ∙ ap (λ x. endFrom i (flags 60 (bits % 2 ^ 60)) 4 bs (endFrom i (flags 3 x) 1 bs at)) (sym b)

@@ -23,7 +23,8 @@ use Rattle.records.specs.Walk.{Came, passed, walk, startAt, recordBy}
 use Rattle.records.specs.Answers.{recordAt}
 use Rattle.records.proofs.PlaceLaws.{check-within}
 use Rattle.records.proofs.RecordLaws.{record-law}
-use Rattle.measuring.specs.Measure.{octetsAt, endFrom, endOf, startOf, isIn}
+use Rattle.quick_items.specs.Item.{octetsAt}
+use Rattle.measuring.specs.Measure.{endFrom, endOf, startOf, isIn}
 use Rattle.measuring.proofs.EndLaws.{start-flags}
 use Rattle.measuring.proofs.SizeLaws.{size-law}
 

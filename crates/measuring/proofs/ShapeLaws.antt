@@ -21,13 +21,15 @@ use Rattle.items.specs.Answers.{profileIn}
 use Rattle.sets.specs.Sets.{categoryAt, setAt}
 use Rattle.sets.specs.Steps.{setFrom}
 use Rattle.sets.proofs.SetLaws.{octets-all}
-use Rattle.quick_items.specs.Told.{allBelow}
-use Rattle.quick_items.proofs.ToldLaws.{all-below}
+use Rattle.quick_items.specs.Item.{allBelow, octetsBy, isPlace, rowOf, octetsAt}
+use Rattle.tables.specs.Tables.{groupAt}
+use Rattle.quick_items.proofs.ItemLaws.{all-below}
 use Rattle.quick_records.specs.Shape.{lowNumber, lowOctets, usedOf, profileOf}
 use Rattle.quick_records.proofs.ShapeLaws.{cut-same, fspec-told}
-use Rattle.measuring.specs.Measure.{fixedOctets, variableOctets, octetsAt, endFrom, endOf, startOf, timeFrn, isIn, isUntimed, clockAt, timeIn, sized, measureBy, measureIn, measureOf}
+use Rattle.measuring.specs.Measure.{endFrom, endOf, startOf, timeFrn, isIn, isUntimed, clockAt, timeIn, sized, measureBy, measureIn, measureOf}
 use Rattle.measuring.specs.declared.record.Measured.{Measured}
 use Rattle.measuring.specs.Shape.{isFixed, partOctets, isEven, baseFrom, allFixed, oneList, flagsBefore, startsAt, timeAt, timeOf, baseOf, placeOf, partOf, rowBy, soundRow, soundShapes, Told}
+use Rattle.measuring.proofs.EndLaws.{octets-fixed}
 
 -- ---- an item, by its first octet
 
@@ -62,18 +64,15 @@ extended : Evenly (λ x. 1 + x % 2)
 extended = record { grow = λ e x. absurd (false≢true e) }
 
 octets-even : (i f : ℕ) → Evenly (octetsAt i f)
-unfolding octetsAt variableOctets
-octets-even i f =
-    either _ _ _
-    (either _ _ _ (either _ _ _ (counted 2) (counted 3)) (either _ _ _ (counted 4) (either _ _ _ led (either _ _ _ (counted 3) extended))))
-    (always (fixedOctets i f))
-
-octets-fixed : (i f x : ℕ) → isFixed i f ≡ true → octetsAt i f x ≡ octetsAt i f 0
 unfolding octetsAt
-octets-fixed i f x h = is x ∙ sym (is 0)
+octets-even i f = either (isPlace i f) _ _ (go (rowOf i f .kind) (groupAt (rowOf i f .first) .octets)) (always 0)
   where
-    is : (y : ℕ) → octetsAt i f y ≡ fixedOctets i f
-    is y = if-false _ (ne-eqb (fixedOctets i f) 0 (λ z. omega (arith, z, ltb-true 0 (fixedOctets i f) h))) refl
+    go : (k n : ℕ) → Evenly (octetsBy k n)
+    go zero n = always 0
+    go (suc zero) n = always n
+    go (suc (suc zero)) n = counted n
+    go (suc (suc (suc zero))) n = led
+    go (suc (suc (suc (suc k)))) n = extended
 
 -- ---- the items of flags
 

@@ -2,7 +2,7 @@
 --
 -- In order: parts by FX bits; the shapes; every place; the law. Assumes nothing.
 use Prim.Native.Nat.{ℕ, zero, suc, _+_, _-_, _*_, _%_, _≤_, _<_}
-use mathlib.Core.Path.{_≡_, refl, sym, ap, _∙_, subst}
+use mathlib.Core.Path.{_≡_, refl, sym, ap, ap₂, _∙_, subst}
 use mathlib.Core.Bool.{Bool, true, _&&_, _||_}
 use mathlib.Core.Logic.{⊎-elim}
 use mathlib.Core.Option.{none}
@@ -10,17 +10,17 @@ use mathlib.Core.List.{List, [], _∷_}
 use native.Mathlib.Omega.{arith}
 use lib.Dec.{eqb, ltb}
 use lib.ListN.{getD, take, drop}
-use borrow.Author.Tests.{eqb-true, eqb-false, le-ltb}
-use Rattle.rules.specs.Answer.{ok, if_then_else_}
+use borrow.Author.Tests.{eqb-true, eqb-false, lt-ltb, le-ltb}
+use Rattle.rules.specs.Answer.{ok}
 use Rattle.rules.specs.Layout.{joined}
 use Rattle.rules.specs.Presence.{placeAt}
 use Rattle.rules.specs.Record.{Place}
 use Rattle.rules.specs.Catalogue.{categories}
 use Rattle.rules.specs.Category017.{category017}
 use Rattle.rules.specs.Category018.{category018}
-use Rattle.rules.proofs.AnswerLaws.{refused-ok, ok-inj, bind-elim, need-elim, if-inv, expect-elim, none-some, both-left, both-right, Octets}
+use Rattle.rules.proofs.AnswerLaws.{if-true, refused-ok, ok-inj, bind-elim, need-elim, if-inv, expect-elim, none-some, both-left, both-right, Octets}
 use Rattle.tables.specs.declared.tables.LayoutRow.{LayoutRow}
-use Rattle.tables.specs.Tables.{groups, layouts, groupAt, layoutAt, placeRowAt}
+use Rattle.tables.specs.Tables.{profileCount, frnCount, groups, layouts, groupAt, layoutAt, placeRowAt}
 use Rattle.tables.proofs.TableLaws.{profile-past}
 use Rattle.layouts.specs.Read.{Shaped, chain, listShape, shapeBy, shapeOf, wholeSize}
 use Rattle.layouts.proofs.ReadLaws.{le-or-lt}
@@ -28,10 +28,8 @@ use Rattle.layouts.proofs.WholeLaws.{whole-shape}
 use Rattle.items.specs.Answers.{checkAt}
 use Rattle.items.proofs.CheckLaws.{check-place}
 use Rattle.records.proofs.PlaceLaws.{check-few}
-use Rattle.quick_items.specs.Told.{allBelow, digitAt, digitOf}
-use Rattle.quick_items.proofs.ItemLaws.{octet-at}
-use Rattle.quick_items.proofs.ToldLaws.{all-below, other}
-use Rattle.measuring.specs.Measure.{fixedOctets, variableOctets, octetsAt}
+use Rattle.quick_items.specs.Item.{allBelow, octetsBy, rowOctets, rowOf, octetsAt}
+use Rattle.quick_items.proofs.ItemLaws.{all-below, other}
 
 -- ---- parts by FX bits: two at most, of an octet each
 
@@ -72,14 +70,7 @@ chain-two a bs s one two h =
 
 -- ---- the shapes: the octets of an item by how its parts lie, its group and its first octet
 
-abbrev octetsBy : ℕ → ℕ → ℕ → ℕ
-octetsBy zero a x = 0
-octetsBy (suc zero) a x = groupAt a .octets
-octetsBy (suc (suc zero)) a x = 1 + x * groupAt a .octets
-octetsBy (suc (suc (suc zero))) a x = x
-octetsBy (suc (suc (suc (suc k)))) a x = 1 + x % 2
-
-shape-size : (k lo hi a e : ℕ) (bs : List ℕ) (s : Shaped) → (4 ≤ k → Short a e) → shapeBy k lo hi a e bs ≡ ok s → s .1 ≡ octetsBy k a (getD bs 0 0)
+shape-size : (k lo hi a e : ℕ) (bs : List ℕ) (s : Shaped) → (4 ≤ k → Short a e) → shapeBy k lo hi a e bs ≡ ok s → s .1 ≡ octetsBy k (groupAt a .octets) (getD bs 0 0)
 unfolding shapeBy listShape
 shape-size zero lo hi a e bs s w h = refused-ok h
 shape-size (suc zero) lo hi a e bs s w h =
@@ -101,13 +92,13 @@ shape-size (suc (suc (suc (suc k)))) lo hi a e bs s w h =
     let n : e - a ≡ 2 = omega (arith, v .0) in
     chain-two a bs s (v .1) (v .2) (subst (λ x. chain a x bs ≡ ok s) n h)
 
-row-size : (l : LayoutRow) (bs : List ℕ) (n : ℕ) → (4 ≤ l .kind → Short (l .first) (l .end)) → wholeSize l bs ≡ ok n → n ≡ octetsBy (l .kind) (l .first) (getD bs 0 0)
+row-size : (l : LayoutRow) (bs : List ℕ) (n : ℕ) → (4 ≤ l .kind → Short (l .first) (l .end)) → wholeSize l bs ≡ ok n → n ≡ rowOctets l (getD bs 0 0)
 unfolding wholeSize shapeOf
 row-size l bs n w h =
     bind-elim _ _ h λ s p h₁.
     sym (ok-inj h₁) ∙ shape-size (l .kind) (l .least) (l .most) (l .first) (l .end) bs s w (whole-shape l bs s p)
 
--- ---- every place: there is no item there, or its octets are those of its row
+-- ---- every place: there is no item there, or one of parts that are not by FX bits, or of two that are short
 
 abbrev isShort : ℕ → ℕ → Bool
 isShort a e = eqb (a + 2) e && (eqb (groupAt a .octets) 1 && eqb (groupAt (a + 1) .octets) 1)
@@ -119,33 +110,25 @@ short-of a e h =
     let g : b && d ≡ true = both-right (eqb (a + 2) e) (b && d) h in
     (eqb-true _ _ (both-left (eqb (a + 2) e) (b && d) h), eqb-true _ _ (both-left b d g), eqb-true _ _ (both-right b d g))
 
-abbrev rowOf : ℕ → ℕ → LayoutRow
-rowOf i f = layoutAt (placeRowAt (i * 36 + f) .layout)
+abbrev soundSize : LayoutRow → Bool
+soundSize l = eqb (l .kind) 0 || (ltb (l .kind) 4 || isShort (l .first) (l .end))
 
-abbrev sameOctets : ℕ → ℕ → LayoutRow → Bool
-sameOctets i f l = allBelow 256 (λ x. eqb (octetsAt i f x) (octetsBy (l .kind) (l .first) x))
-
-abbrev soundSize : ℕ → ℕ → LayoutRow → Bool
-soundSize i f l = eqb (l .kind) 0 || ((ltb (l .kind) 4 || isShort (l .first) (l .end)) && sameOctets i f l)
-
-all-sizes : allBelow 2 (λ i. allBelow 36 (λ f. soundSize i f (rowOf i f))) ≡ true
-unfolding octetsAt fixedOctets variableOctets digitOf digitAt if_then_else_ groupAt layoutAt placeRowAt groups layouts categories category017 category018
+all-sizes : allBelow profileCount (λ i. allBelow frnCount (λ f. soundSize (rowOf i f))) ≡ true
+unfolding groupAt layoutAt placeRowAt groups layouts categories category017 category018
 all-sizes = refl
 
 -- ---- the law
 
-size-here : (i f : ℕ) (bs : List ℕ) (n : ℕ) → i < 2 → f < 36 → Octets bs → checkAt i f bs ≡ ok n → n ≡ octetsAt i f (getD bs 0 0)
-unfolding wholeSize shapeOf shapeBy
+size-here : (i f : ℕ) (bs : List ℕ) (n : ℕ) → i < profileCount → f < frnCount → Octets bs → checkAt i f bs ≡ ok n → n ≡ octetsAt i f (getD bs 0 0)
+unfolding wholeSize shapeOf shapeBy octetsAt
 size-here i f bs n h k o c =
     let l : LayoutRow = rowOf i f in
     let w : wholeSize l bs ≡ ok n = check-place i f bs h k o ∙ c in
-    let t : soundSize i f l ≡ true =
-    all-below 36 (λ g. soundSize i g (rowOf i g)) f (all-below 2 (λ j. allBelow 36 (λ g. soundSize j g (rowOf j g))) i all-sizes h) k in
+    let t : soundSize l ≡ true = all-below frnCount (λ g. soundSize (rowOf i g)) f (all-below profileCount (λ j. allBelow frnCount (λ g. soundSize (rowOf j g))) i all-sizes h) k in
     let a : Bool = ltb (l .kind) 4 || isShort (l .first) (l .end) in
-    let g : a && sameOctets i f l ≡ true = other (eqb (l .kind) 0) (a && sameOctets i f l) t (λ e. none-there l (eqb-true (l .kind) 0 e) w) in
-    row-size l bs n (λ m. short-of (l .first) (l .end) (other (ltb (l .kind) 4) (isShort (l .first) (l .end)) (both-left a (sameOctets i f l) g) (λ e. at-least (l .kind) m e))) w
-    ∙ sym
-    (eqb-true _ _ (all-below 256 (λ x. eqb (octetsAt i f x) (octetsBy (l .kind) (l .first) x)) (getD bs 0 0) (both-right a (sameOctets i f l) g) (octet-at bs o 0)))
+    let g : a ≡ true = other (eqb (l .kind) 0) a t (λ e. none-there l (eqb-true (l .kind) 0 e) w) in
+    row-size l bs n (λ m. short-of (l .first) (l .end) (other (ltb (l .kind) 4) (isShort (l .first) (l .end)) g (λ e. at-least (l .kind) m e))) w
+    ∙ sym (if-true _ (ap₂ _&&_ (lt-ltb i profileCount h) (lt-ltb f frnCount k)) refl)
   where
     none-there : (l : LayoutRow) → l .kind ≡ 0 → wholeSize l bs ≡ ok n → ⊥
     none-there l e w =
@@ -159,12 +142,12 @@ pub size-law : (i f : ℕ) (bs : List ℕ) (n : ℕ) → Octets bs → checkAt i
 unfolding checkAt
 size-law i f bs n o c =
     ⊎-elim
-    (λ (h : 2 ≤ i).
+    (λ (h : profileCount ≤ i).
     bind-elim _ _ c λ p q _.
     expect-elim _ _ q λ e.
     none-some (sym (ap (λ ps. placeAt ps f) (profile-past i h) ∙ none-in f) ∙ e))
-    (λ (h : i < 2). size-here i f bs n h (omega (arith, check-few i f bs n c .1)) o c)
-    (le-or-lt 2 i)
+    (λ (h : i < profileCount). size-here i f bs n h (omega (arith, check-few i f bs n c .1)) o c)
+    (le-or-lt profileCount i)
   where
     none-in : (f : ℕ) → placeAt {P = Place} [] f ≡ none
     none-in zero = refl

@@ -1,7 +1,7 @@
 -- A record that is known to be legal, measured: how many octets it has, by its FSPEC and by the first octets of its items alone, and its time (document 02,
 -- W-201). No rule of a field is asked. Assumes nothing.
 --
--- In order: an item; the items of a set; the time; a record.
+-- In order: the items of a set; the time; a record.
 use Prim.Native.Nat.{ℕ, _+_, _-_, _*_, _/_, _%_, _^_}
 use mathlib.Core.Bool.{Bool, true, false, _&&_}
 use mathlib.Core.Option.{Option, none, some}
@@ -13,24 +13,8 @@ use Rattle.rules.specs.Presence.{flags}
 use Rattle.rules.specs.Catalogue.{categories}
 use Rattle.items.specs.Answers.{profileIn}
 use Rattle.sets.specs.Sets.{setAt}
-use Rattle.quick_items.specs.Told.{digitOf}
+use Rattle.quick_items.specs.Item.{octetsAt}
 use Rattle.measuring.specs.declared.record.Measured.{Measured}
-
--- ---- an item, at an FRN of a profile
-
--- its octets, where it is one part; 0 where it is a list, a led item or has FX bits
-unfoldable pub fixedOctets : ℕ → ℕ → ℕ
-fixedOctets i f = digitOf i f 0x2098_9669_8290 0x1008_7CC4_8111_9290 0x4A4_963E_6927
-
--- by its first octet, where it is not: a count and so many parts; a length that counts itself; FX
-unfoldable pub variableOctets : ℕ → ℕ → ℕ → ℕ
-variableOctets i f x =
-    if eqb i 0
-    then if eqb f 4 then 1 + x * 2 else 1 + x * 3
-    else if eqb f 7 then 1 + x * 4 else if eqb f 9 then x else if eqb f 16 then 1 + x * 3 else 1 + x % 2
-
-unfoldable pub octetsAt : ℕ → ℕ → ℕ → ℕ
-octetsAt i f x = if eqb (fixedOctets i f) 0 then variableOctets i f x else fixedOctets i f
 
 -- ---- the items that flags name, the first flag's FRN given, from a place on: where they end. What is past the end counts as 0
 

@@ -12,15 +12,16 @@ use Rattle.rules.specs.Answer.{Answer, ok, refused}
 use Rattle.rules.specs.Presence.{flags}
 use Rattle.sets.specs.Sets.{categoryAt}
 use Rattle.sets.specs.Steps.{setFrom}
-use Rattle.quick_items.specs.Told.{allBelow}
+use Rattle.quick_items.specs.Item.{allBelow, rowOf, octetsAt}
 use Rattle.quick_records.specs.Shape.{lowOctets, usedOf, profileOf}
-use Rattle.measuring.specs.Measure.{fixedOctets, octetsAt, timeFrn, isIn, measureIn}
+use Rattle.measuring.specs.Measure.{timeFrn, isIn, measureIn}
 use Rattle.measuring.specs.declared.record.Measured.{Measured}
 
 -- ---- an item, at an FRN of a profile
 
+-- it is one part
 abbrev pub isFixed : ℕ → ℕ → Bool
-isFixed i f = ltb 0 (fixedOctets i f)
+isFixed i f = eqb (rowOf i f .kind) 1
 
 -- how many octets it has more for each 1 of its first octet; and that they are as many for each, which FX does not have
 abbrev pub partOctets : ℕ → ℕ → ℕ

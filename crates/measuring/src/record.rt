@@ -1,15 +1,21 @@
 // Item by item, in one pass: where there is a time, the items before it, and from there on the others.
-use quick_items::digit_of;
+use quick_items::EXTENDED;
+use quick_items::Steps;
 use quick_items::octet;
+use quick_items::steps;
+use quick_items::word_of;
 use sets::ItemSet;
 use sets::SetRead;
+use tables::PROFILES;
 use tables::profile_of;
 ghost use mathlib.Core.Path.{_≡_};
+ghost use mathlib.Core.Bool.{true};
 ghost use mathlib.Core.Option.{none};
 ghost use Prim.Native.Nat.{_-_, _*_, _/_, _^_, _≤_, _<_};
 ghost use lib.ListN.{getD};
 ghost use Rattle.rules.specs.Answer.{ok};
-ghost use Rattle.measuring.specs.Measure.{fixedOctets, variableOctets, octetsAt, endOf, startOf, timeFrn, isUntimed, clockAt, timeIn, sized, measureBy, measureOf};
+ghost use Rattle.quick_items.specs.Item.{exactSteps, octetsAt};
+ghost use Rattle.measuring.specs.Measure.{endOf, startOf, timeFrn, isUntimed, clockAt, timeIn, sized, measureBy, measureOf};
 
 // How many octets a record has, 0 where it has no FSPEC of its category or ends past what is lent; and its time of day, in 1/128 s, where it counts as
 // timed, 0 where not.
@@ -17,42 +23,6 @@ pub struct Measured {
     pub size: usize,
     pub timed: bool,
     pub time: u64,
-}
-
-// The octets of the item at an FRN where it is one part; 0 where it is not.
-fn fixed_octets(profile: usize, frn: usize) -> usize
-    ensures { λ r. ⌜ r ≡ fixedOctets profile frn ⌝ }
-{
-    digit_of(
-        profile,
-        frn,
-        0x2098_9669_8290,
-        0x1008_7CC4_8111_9290,
-        0x4A4_963E_6927,
-    )
-}
-
-// By its first octet, where it is not.
-fn variable_octets(profile: usize, frn: usize, x: usize) -> usize
-    requires { ⌜ x < 256 ⌝ }
-    ensures { λ r. ⌜ r ≡ variableOctets profile frn x ⌝ }
-{
-    if profile == 0 {
-        if frn == 4 {
-            return 1 + x * 2; // I017/350  5.2.14
-        }
-        return 1 + x * 3; // I017/210  5.2.9
-    }
-    if frn == 7 {
-        return 1 + x * 4; // I018/017  5.2.17
-    }
-    if frn == 9 {
-        return x; // I018/019  5.2.19
-    }
-    if frn == 16 {
-        return 1 + x * 3; // I018/006  5.2.6
-    }
-    1 + x % 2
 }
 
 // The octet at a place, 0 past the end.
@@ -65,41 +35,48 @@ pub fn octet_at(part: &[u8], at: usize) -> usize
     octet(part[at])
 }
 
-// Of the item at an FRN that starts at a place.
-fn octets_at(profile: usize, frn: usize, part: &[u8], at: usize) -> usize
+// The octets of the item at an FRN that starts at a place: by its word, and where it is not one part by its first octet.
+fn octets_at(t: &Steps, profile: usize, frn: usize, part: &[u8], at: usize) -> usize
+    requires { ⌜ exactSteps (now t) ≡ true ⌝ }
     ensures { λ r. ⌜ r ≡ octetsAt profile frn (getD (now (part .entry)) at 0) ⌝ }
 {
-    let n = fixed_octets(profile, frn);
-    if n != 0 {
-        return n;
+    let w = word_of(t, profile, frn);
+    if w < 8 {
+        return w;
     }
-    variable_octets(profile, frn, octet_at(part, at))
+    let x = octet_at(part, at);
+    if w / 256 % 16 == EXTENDED {
+        return 1 + x % 2;
+    }
+    w % 16 + x * (w / 16 % 16)
 }
 
 // Where the items of a set end, from a place on.
-fn items_from(profile: usize, bits: u64, part: &[u8], from: usize) -> usize
-    requires { ⌜ (bits < 2 ^ 63) × (from < 0x8000_0000_0001_0000) ⌝ }
+fn items_from(t: &Steps, profile: usize, bits: u64, part: &[u8], from: usize) -> usize
+    requires { ⌜ (bits < 2 ^ 63) × (from < 0x8000_0000_0001_0000) × (exactSteps (now t) ≡ true) ⌝ }
     ensures { λ r. ⌜ r ≡ endOf profile bits (now (part .entry)) from ⌝ }
 {
     let mut left = bits;
     let mut at = from;
     while left != 0 {
         let frn = u64::leading_zeros(left) as usize;
-        at = at + octets_at(profile, frn, part, at);
+        at = at + octets_at(t, profile, frn, part, at);
         left = left - (1u64 << (63 - frn));
     }
     at
 }
 
 // The same; FRN 1 to 3 have five octets together.
-fn items_end(profile: usize, bits: u64, part: &[u8], from: usize) -> usize
-    requires { ⌜ (bits < 2 ^ 63) × (from < 2 ^ 63) ⌝ }
+fn items_end(t: &Steps, profile: usize, bits: u64, part: &[u8], from: usize) -> usize
+    requires { ⌜ (bits < 2 ^ 63) × (from < 2 ^ 63) × (exactSteps (now t) ≡ true) ⌝ }
     ensures { λ r. ⌜ r ≡ endOf profile bits (now (part .entry)) from ⌝ }
 {
-    if bits >> 60 == 7 {
-        return items_from(profile, bits % 0x1000_0000_0000_0000, part, from + 5);
+    if profile < PROFILES {
+        if bits >> 60 == 7 {
+            return items_from(t, profile, bits % 0x1000_0000_0000_0000, part, from + 5);
+        }
     }
-    items_from(profile, bits, part, from)
+    items_from(t, profile, bits, part, from)
 }
 
 // Those of a set that stand before an FRN.
@@ -111,14 +88,14 @@ fn before(bits: u64, frn: usize) -> u64
 }
 
 // Whether the record is a GICB_extraction of category 018.
-fn is_untimed(profile: usize, bits: u64, part: &[u8], from: usize) -> bool
-    requires { ⌜ (bits < 2 ^ 63) × (from < 2 ^ 63) ⌝ }
+fn is_untimed(t: &Steps, profile: usize, bits: u64, part: &[u8], from: usize) -> bool
+    requires { ⌜ (bits < 2 ^ 63) × (from < 2 ^ 63) × (exactSteps (now t) ≡ true) ⌝ }
     ensures { λ r. ⌜ r ≡ isUntimed profile (getD (now (part .entry)) (startOf profile 3 bits (now (part .entry)) from) 0) ⌝ }
 {
     if profile != 1 {
         return false;
     }
-    octet_at(part, items_from(profile, before(bits, 3), part, from)) == 64
+    octet_at(part, items_from(t, profile, before(bits, 3), part, from)) == 64
 }
 
 // A record of so many octets that is not timed.
@@ -162,11 +139,11 @@ fn time_frn(profile: usize) -> usize
 }
 
 // A record that is not timed, whose set has been read.
-fn measure_untimed(profile: usize, bits: u64, part: &[u8], from: usize) -> Measured
-    requires { ⌜ (bits < 2 ^ 63) × (from < 2 ^ 63) × (timeIn profile bits (now part) from ≡ none) ⌝ }
+fn measure_untimed(t: &Steps, profile: usize, bits: u64, part: &[u8], from: usize) -> Measured
+    requires { ⌜ (bits < 2 ^ 63) × (from < 2 ^ 63) × (timeIn profile bits (now part) from ≡ none) × (exactSteps (now t) ≡ true) ⌝ }
     ensures { λ r. ⌜ r ≡ measureBy profile (now (part .entry)) (ok (bits, from)) ⌝ }
 {
-    let end = items_end(profile, bits, part, from);
+    let end = items_end(t, profile, bits, part, from);
     if part.len() < end {
         return untimed(0);
     }
@@ -174,20 +151,20 @@ fn measure_untimed(profile: usize, bits: u64, part: &[u8], from: usize) -> Measu
 }
 
 // Any record whose set has been read: most have no time, and need no look for it.
-fn measure_set(profile: usize, bits: u64, part: &[u8], from: usize) -> Measured
-    requires { ⌜ (bits < 2 ^ 63) × (from < 2 ^ 63) ⌝ }
+fn measure_set(t: &Steps, profile: usize, bits: u64, part: &[u8], from: usize) -> Measured
+    requires { ⌜ (bits < 2 ^ 63) × (from < 2 ^ 63) × (exactSteps (now t) ≡ true) ⌝ }
     ensures { λ r. ⌜ r ≡ measureBy profile (now (part .entry)) (ok (bits, from)) ⌝ }
 {
     let frn = time_frn(profile);
     if (bits >> (63 - frn)) % 2 != 1 {
-        return measure_untimed(profile, bits, part, from);
+        return measure_untimed(t, profile, bits, part, from);
     }
-    if is_untimed(profile, bits, part, from) {
-        return measure_untimed(profile, bits, part, from);
+    if is_untimed(t, profile, bits, part, from) {
+        return measure_untimed(t, profile, bits, part, from);
     }
     let early = before(bits, frn);
-    let start = items_end(profile, early, part, from);
-    let end = items_from(profile, bits - early, part, start);
+    let start = items_end(t, profile, early, part, from);
+    let end = items_from(t, profile, bits - early, part, start);
     if part.len() < end {
         return untimed(0);
     }
@@ -202,5 +179,6 @@ pub fn measure(category: u8, part: &[u8]) -> Measured
     let SetRead::Items { set, octets } = ItemSet::from_octets(profile, part) else {
         return untimed(0);
     };
-    measure_set(profile, set.bits, part, octets)
+    let t = steps();
+    measure_set(&t, profile, set.bits, part, octets)
 }

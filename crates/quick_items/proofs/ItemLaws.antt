@@ -1,32 +1,32 @@
 -- What a word of the table tells of an item is what the exact check answers.
 --
--- In order: what is told; the words of the table; a free item; the first three octets of a part; a rule; one part with a rule; a list or a led item;
--- an extended item. Assumes nothing.
+-- In order: tests of all numbers below another; what is told; the words of the table; a free item; the item of a profile at an FRN; the first three octets of a part; a rule; one part with a rule; a list or a led item;
+-- an extended item; the octets of an item that is legal. Assumes nothing.
 use Prim.Native.Nat.{ℕ, zero, suc, _+_, _-_, _*_, _/_, _%_, _<_, _≤_, _^_}
-use mathlib.Core.Path.{_≡_, refl, sym, ap, _∙_, subst}
-use mathlib.Core.Bool.{Bool, true, false, cond, _&&_, false≢true}
+use mathlib.Core.Path.{_≡_, refl, sym, ap, ap₂, _∙_, subst}
+use mathlib.Core.Bool.{Bool, true, false, cond, _&&_, _||_, false≢true}
 use mathlib.Core.List.{List, [], _∷_}
 use mathlib.Core.Logic.{⊎-elim}
 use native.Mathlib.Omega.{arith}
-use native.Mathlib.Nat.{le-of-suc-le-suc, not-suc-le-zero, mul-le-mul-left}
+use native.Mathlib.Nat.{le-of-suc-le-suc, not-suc-le-zero, mul-le-mul-left, mul-zero}
 use lib.Dec.{leb, ltb, eqb, lit<, eqb·suc-zero}
 use lib.ListN.{length, getD, take, drop, length-drop, List·getD-eq-default}
 use lib.Seq.{slice, take-all}
 use lib.Pow.{shr-le, shr-shr, shl-shr, high, field}
-use borrow.Author.Tests.{leb-true, ltb-true, eqb-true, eq-eqb, ne-eqb}
-use Rattle.rules.specs.Answer.{Answer, ok}
+use borrow.Author.Tests.{leb-true, ltb-true, eqb-true, eq-eqb, ne-eqb, lt-ltb, le-ltb}
+use Rattle.rules.specs.Answer.{Answer, ok, if_then_else_}
 use Rattle.rules.specs.Category017.{category017}
 use Rattle.rules.specs.Category018.{category018}
 use Rattle.rules.specs.Catalogue.{categories}
 use Rattle.rules.specs.Layout.{joined}
-use Rattle.rules.proofs.AnswerLaws.{Octets, both-left, both-right}
+use Rattle.rules.proofs.AnswerLaws.{if-true, if-false, Octets, both-left, both-right}
 use Rattle.tables.specs.declared.tables.LayoutRow.{LayoutRow}
 use Rattle.tables.specs.declared.tables.PlaceRow.{PlaceRow}
 use Rattle.items.specs.Answers.{checkAt}
 use Rattle.tables.specs.FieldRules.{Rule, obeys, allObeyed, rules, firstRule, singleOf, singles}
-use Rattle.quick_items.specs.Item.{Plainly, firstThree, downOf, addedOf, upOf, limitOf, asks, sameRule, sameRules, soundRule, lowAt, highAt, asked, soundRow, soundFree, soundSingle, soundCounted, soundExtended, samePair, soundTwice, soundBy, soundWord, soundWords, soundSteps}
+use Rattle.quick_items.specs.Item.{allBelow, Plainly, ruleIn, nextIn, firstThree, downOf, addedOf, upOf, limitOf, asks, sameRule, sameRules, soundRule, lowAt, highAt, asked, soundRow, soundFree, soundSingle, soundCounted, soundExtended, samePair, soundTwice, soundBy, soundWord, soundWords, soundSteps, rowOctets, wordOctets, exactWord, exactSteps, isPlace, wordFor, rowOf, octetsAt}
 use Rattle.layouts.specs.Read.{rowsAt, partAt, legal, partSound, partsLegal, chain, listShape, shapeOf, wholeSize, rowSound}
-use Rattle.tables.specs.Tables.{groupCount, groupAt, layoutAt, nowhere, profileRows, placeRowAt}
+use Rattle.tables.specs.Tables.{profileCount, frnCount, placeCount, groupCount, groupAt, layoutAt, nowhere, profileRows, placeRowAt}
 use Rattle.items.proofs.CheckLaws.{Single, single-is, single-size, single-sound, single-legal, free-of, free-there, check-whole, check-place}
 use Rattle.layouts.proofs.WholeLaws.{equal-free, chain-legal}
 use Rattle.layouts.proofs.OctetLaws.{joined-suc, joined-nil}
@@ -36,7 +36,25 @@ use Rattle.layouts.proofs.ShapeLaws.{rowed, Chaining, chain-begun, chain-group,
 use Rattle.layouts.proofs.SoundLaws.{layout-sound}
 use Rattle.tables.proofs.TableLaws.{place-row}
 
--- ---- what is told
+-- ---- tests of all numbers below another
+
+pub all-below : (n : ℕ) (p : ℕ → Bool) (j : ℕ) → allBelow n p ≡ true → j < n → p j ≡ true
+all-below zero p j h l = absurd (omega arith)
+all-below (suc n) p j h l =
+    ⊎-elim
+    (λ (k : n ≤ j). let e : n ≡ j = omega arith in subst (λ x. p x ≡ true) e (both-left (p n) (allBelow n p) h))
+    (λ (k : j < n). all-below n p j (both-right (p n) (allBelow n p) h) k)
+    (le-or-lt n j)
+
+pub other : (a b : Bool) → a || b ≡ true → (a ≡ true → ⊥) → b ≡ true
+other true b h n = absurd (n refl)
+other false b h n = h
+
+-- ---- what is told is what the exact check answers
+
+pub told : (n : ℕ) (a : Answer ℕ) → Plainly n a → (n ≡ 0 → ⊥) → a ≡ ok n
+told zero a h z = absurd (z refl)
+told (suc n) a h z = h
 
 pub plainly : (n : ℕ) {a : Answer ℕ} → ok n ≡ a → Plainly n a
 plainly zero e = tt
@@ -51,12 +69,12 @@ words-each t (w ∷ ws) [] i h k = absurd (not-suc-le-zero k)
 words-each t (w ∷ ws) (p ∷ ps) zero h k = both-left (soundWord t w (layoutAt (p .layout))) (soundWords t ws ps) h
 words-each t (w ∷ ws) (p ∷ ps) (suc i) h k = words-each t ws ps i (both-right (soundWord t w (layoutAt (p .layout))) (soundWords t ws ps) h) (le-of-suc-le-suc k)
 
-places-long : length (profileRows 1 categories) ≡ 72
+places-long : length (profileRows 1 categories) ≡ placeCount
 unfolding categories category017 category018
 places-long = refl
 
 -- the word of a place is sound, by its second digit
-pub word-sound : (t : List ℕ) (i k : ℕ) {w : ℕ} → soundSteps t ≡ true → i < 72 → w ≡ getD t i 0 → w / 256 % 16 ≡ k → soundBy k t (getD t i 0) (layoutAt (placeRowAt i .layout)) ≡ true
+pub word-sound : (t : List ℕ) (i k : ℕ) {w : ℕ} → soundSteps t ≡ true → i < placeCount → w ≡ getD t i 0 → w / 256 % 16 ≡ k → soundBy k t (getD t i 0) (layoutAt (placeRowAt i .layout)) ≡ true
 unfolding soundSteps soundWord placeRowAt
 word-sound t i k s h e d =
     subst (λ x. soundBy x t (getD t i 0) (layoutAt (placeRowAt i .layout)) ≡ true) (ap (λ w. w / 256 % 16) (sym e) ∙ d)
@@ -70,13 +88,18 @@ free-told l (suc n) bs r o s h k =
     let e : suc n ≡ singleOf l = eqb-true (suc n) (singleOf l) (subst (λ b. cond b true (eqb (suc n) (singleOf l)) ≡ true) (eqb·suc-zero n) s) in
     plainly (suc n) (free-there l (suc n) bs r o (free-of l (suc n) e (omega arith) h) k)
 
-pub free-check : (profile frn n : ℕ) (bs : List ℕ) → profile < 2 → frn < 36 → Octets bs → getD singles (profile * 36 + frn) 0 ≡ n → 0 < n → n < 8 → n ≤ length bs
+pub free-check : (profile frn n : ℕ) (bs : List ℕ) → profile < profileCount → frn < frnCount → Octets bs → getD singles (profile * frnCount + frn) 0 ≡ n → 0 < n → n < 8 → n ≤ length bs
     → checkAt profile frn bs ≡ ok n
 free-check profile frn n bs h k o e a b l =
-    let at : ℕ = profile * 36 + frn in
+    let at : ℕ = profile * frnCount + frn in
     sym
     (free-there (layoutAt (placeRowAt at .layout)) n bs (layout-sound (placeRowAt at .layout) (place-row at)) o (free-of (layoutAt (placeRowAt at .layout)) n (sym e ∙ single-is at) a b) l
     ∙ check-place profile frn bs h k o)
+
+-- ---- the item of a profile at an FRN
+
+pub at-place : (profile frn n : ℕ) (bs : List ℕ) → profile < profileCount → frn < frnCount → Octets bs → Plainly n (wholeSize (layoutAt (placeRowAt (profile * frnCount + frn) .layout)) bs) → Plainly n (checkAt profile frn bs)
+at-place profile frn n bs h k o p = subst (Plainly n) (check-place profile frn bs h k o) p
 
 -- ---- the first three octets of a part
 
@@ -231,13 +254,13 @@ module _ (l : LayoutRow) (w : ℕ) (bs : List ℕ) (r : rowSound l ≡ true) (o 
   unfolding soundSingle
   ruled-told low high s e = single-told (soundRule low high 0 (l .first)) s (λ p q k d. asked-legal low high 0 (l .first) bs o p q k d e)
 
-  pub twice-told : (t : List ℕ) → soundTwice t w l ≡ true → asked t (w / 4_096 % 16) (firstThree bs) ≡ true → asked t ((w / 4_096 + 1) % 16) (firstThree bs) ≡ true
+  pub twice-told : (t : List ℕ) → soundTwice t w l ≡ true → asked t (ruleIn w) (firstThree bs) ≡ true → asked t (nextIn w) (firstThree bs) ≡ true
       → Plainly (w % 16) (wholeSize l bs)
   unfolding soundTwice
   twice-told t s e f =
       let rs = slice (firstRule (l .first)) (firstRule (l .first + 1)) rules in
-      single-told (samePair t (w / 4_096 % 16) ((w / 4_096 + 1) % 16) (groupAt (l .first) .octets) rs) s
-      (λ p q k d. obeyed-legal 0 (l .first) bs o p q k (asked-pair t (w / 4_096 % 16) ((w / 4_096 + 1) % 16) (groupAt (l .first) .octets) bs o k rs d e f))
+      single-told (samePair t (ruleIn w) (nextIn w) (groupAt (l .first) .octets) rs) s
+      (λ p q k d. obeyed-legal 0 (l .first) bs o p q k (asked-pair t (w / 4_096 % 16) (nextIn w) (groupAt (l .first) .octets) bs o k rs d e f))
 
 -- ---- a list or a led item
 
@@ -303,8 +326,8 @@ pub record Extended (t : List ℕ) (w : ℕ) (l : LayoutRow) : Type 0 where
   pub ends : l .first + 2 ≡ l .end
   pub one : 1 ≡ groupAt (l .first) .octets
   pub two : 1 ≡ groupAt (l .first + 1) .octets
-  pub first : soundRow t (w / 4_096 % 16) 1 (l .first) ≡ true
-  pub second : soundRow t ((w / 4_096 + 1) % 16) 1 (l .first + 1) ≡ true
+  pub first : soundRow t (ruleIn w) 1 (l .first) ≡ true
+  pub second : soundRow t (nextIn w) 1 (l .first + 1) ≡ true
 
 extended-of : (t : List ℕ) (w : ℕ) (l : LayoutRow) → soundExtended t w l ≡ true → Extended t w l
 unfolding soundExtended
@@ -313,8 +336,8 @@ extended-of t w l s =
     let b = eqb (l .first + 2) (l .end) in
     let c = eqb (groupAt (l .first) .octets) 1 in
     let d = eqb (groupAt (l .first + 1) .octets) 1 in
-    let e = soundRow t (w / 4_096 % 16) 1 (l .first) in
-    let f = soundRow t ((w / 4_096 + 1) % 16) 1 (l .first + 1) in
+    let e = soundRow t (ruleIn w) 1 (l .first) in
+    let f = soundRow t (nextIn w) 1 (l .first + 1) in
     let u : a && b && c && d && e ≡ true = both-left (a && b && c && d && e) f s in
     let v : a && b && c && d ≡ true = both-left (a && b && c && d) e u in
     let x : a && b && c ≡ true = both-left (a && b && c) d v in
@@ -328,7 +351,7 @@ extended-of t w l s =
       second = both-right (a && b && c && d && e) f s;
     }
 
-module _ (t : List ℕ) (l : LayoutRow) (w : ℕ) (bs : List ℕ) (r : rowSound l ≡ true) (o : Octets bs) (h : 1 ≤ length bs) (s : soundExtended t w l ≡ true) (e : asked t (w / 4_096 % 16) (firstThree bs) ≡ true) where
+module _ (t : List ℕ) (l : LayoutRow) (w : ℕ) (bs : List ℕ) (r : rowSound l ≡ true) (o : Octets bs) (h : 1 ≤ length bs) (s : soundExtended t w l ≡ true) (e : asked t (ruleIn w) (firstThree bs) ≡ true) where
   x : Extended t w l
   x = extended-of t w l s
 
@@ -341,7 +364,7 @@ module _ (t : List ℕ) (l : LayoutRow) (w : ℕ) (bs : List ℕ) (r : rowSound 
   first-legal : legal (rowsAt (l .first)) (partAt 1 (l .first) bs) ≡ true
   first-legal =
       let g = chain-group (l .first) (l .end) bs (l .first) 0 0 begun more (x .one) in
-      asked-legal (lowAt t (w / 4_096 % 16)) (highAt t (w / 4_096 % 16)) 1 (l .first) bs o (g .inside) (g .sound) (omega (arith, x .one)) (x .first) e
+      asked-legal (lowAt t (ruleIn w)) (highAt t (ruleIn w)) 1 (l .first) bs o (g .inside) (g .sound) (omega (arith, x .one)) (x .first) e
 
   extended-whole : (c long : ℕ) → ok (c, long) ≡ chain (l .first) (l .end - l .first) bs → partsLegal 1 (l .first) c bs ≡ true → wholeSize l bs ≡ ok long
   extended-whole c long q p = sym (check-whole l bs c long (chain-legal l bs c long (sym (q ∙ chain-shape l bs (x .kind))) r o (x .kind) refl p))
@@ -350,7 +373,7 @@ module _ (t : List ℕ) (l : LayoutRow) (w : ℕ) (bs : List ℕ) (r : rowSound 
   unfolding partsLegal
   extended-one f = extended-whole 1 1 (chain-last (l .first) (l .end) bs (l .first) 0 0 begun more (x .one) (omega arith) (eq-eqb (getD bs 0 0 % 2) 0 f)) (rw first-legal)
 
-  module _ (f : ¬ (getD bs 0 0 % 2 ≡ 0)) (k : 2 ≤ length bs) (q : asked t ((w / 4_096 + 1) % 16) (firstThree (drop 1 bs)) ≡ true) where
+  module _ (f : ¬ (getD bs 0 0 % 2 ≡ 0)) (k : 2 ≤ length bs) (q : asked t (nextIn w) (firstThree (drop 1 bs)) ≡ true) where
     next : Chaining (l .first) (l .end) bs (l .first + 1) 1 1
     next = chain-more (l .first) (l .end) bs (l .first) 0 0 begun more (x .one) (omega arith) (ne-eqb (getD bs 0 0 % 2) 0 f)
 
@@ -360,10 +383,57 @@ module _ (t : List ℕ) (l : LayoutRow) (w : ℕ) (bs : List ℕ) (r : rowSound 
     second-legal : legal (rowsAt (l .first + 1)) (partAt 1 (l .first + 1) (drop 1 bs)) ≡ true
     second-legal =
         let g = chain-group (l .first) (l .end) bs (l .first + 1) 1 1 next last (x .two) in
-        asked-legal (lowAt t ((w / 4_096 + 1) % 16)) (highAt t ((w / 4_096 + 1) % 16)) 1 (l .first + 1) (drop 1 bs) (octets-drop 1 bs o) (g .inside) (g .sound) (omega (arith, x .two, length-drop 1 bs)) (x .second) q
+        asked-legal (lowAt t (nextIn w)) (highAt t (nextIn w)) 1 (l .first + 1) (drop 1 bs) (octets-drop 1 bs o) (g .inside) (g .sound) (omega (arith, x .two, length-drop 1 bs)) (x .second) q
 
     pub extended-two : getD bs 1 0 % 2 ≡ 0 → wholeSize l bs ≡ ok 2
     unfolding partsLegal
     extended-two z =
         extended-whole 2 2 (chain-last (l .first) (l .end) bs (l .first + 1) 1 1 next last (x .two) (omega arith) (eq-eqb (getD bs 1 0 % 2) 0 z))
         (rw (first-legal, ← x .one, second-legal))
+
+-- ---- the octets of an item that is legal, by its first octet
+
+small-octets : (w x : ℕ) → w < 8 → w ≡ wordOctets w x
+unfolding wordOctets
+small-octets w x h =
+    let k : w / 256 % 16 ≡ 0 = omega arith in
+    let p : w / 16 % 16 ≡ 0 = omega arith in
+    sym (if-false _ (ap (λ y. eqb y 3) k) (ap (λ y. w % 16 + x * y) p ∙ ap (λ y. w % 16 + y) (mul-zero x) ∙ omega arith))
+
+module _ (t : List ℕ) (i f : ℕ) where
+  pub word-there : i < profileCount → f < frnCount → getD t (i * frnCount + f) 0 ≡ wordFor t i f
+  unfolding wordFor
+  word-there h k = sym (if-true _ (ap₂ _&&_ (lt-ltb i profileCount h) (lt-ltb f frnCount k)) refl)
+
+  pub word-past : profileCount ≤ i → 0 ≡ wordFor t i f
+  unfolding wordFor
+  word-past h = sym (if-false _ (ap (λ b. b && ltb f frnCount) (le-ltb i profileCount h)) refl)
+
+  pub word-beyond : i < profileCount → frnCount ≤ f → 0 ≡ wordFor t i f
+  unfolding wordFor
+  word-beyond h k = sym (if-false _ (ap₂ _&&_ (lt-ltb i profileCount h) (le-ltb f frnCount k)) refl)
+
+  -- a word of a table that is exact says what the item at its place has
+  word-octets : exactSteps t ≡ true → (x : ℕ) → x < 256 → wordOctets (wordFor t i f) x ≡ octetsAt i f x
+  unfolding exactSteps wordFor octetsAt wordOctets if_then_else_
+  word-octets s x b = go (isPlace i f) refl
+    where
+      go : (p : Bool) → isPlace i f ≡ p → wordOctets (if p then getD t (i * frnCount + f) 0 else 0) x ≡ (if p then rowOctets (rowOf i f) x else 0)
+      go true e =
+          let h : i < profileCount = ltb-true i profileCount (both-left (ltb i profileCount) (ltb f frnCount) e) in
+          let k : f < frnCount = ltb-true f frnCount (both-right (ltb i profileCount) (ltb f frnCount) e) in
+          let at : ℕ = i * frnCount + f in
+          eqb-true _ _ (all-below 256 (λ y. eqb (wordOctets (getD t at 0) y) (rowOctets (rowOf i f) y)) x (all-below placeCount (λ j. exactWord (getD t j 0) (layoutAt (placeRowAt j .layout))) at s (omega arith)) b)
+      go false e = omega arith
+
+module _ (t : List ℕ) (i f : ℕ) (s : exactSteps t ≡ true) {w : ℕ} (e : w ≡ wordFor t i f) where
+  pub free-octets : (x : ℕ) → x < 256 → w < 8 → w ≡ octetsAt i f x
+  free-octets x b h = small-octets w x h ∙ ap (λ y. wordOctets y x) e ∙ word-octets t i f s x b
+
+  pub extended-octets : {x : ℕ} → x < 256 → w / 256 % 16 ≡ 3 → 1 + x % 2 ≡ octetsAt i f x
+  unfolding wordOctets
+  extended-octets {x} b k = sym (if-true _ (eq-eqb _ 3 k) refl) ∙ ap (λ y. wordOctets y x) e ∙ word-octets t i f s x b
+
+  pub counted-octets : {x : ℕ} → x < 256 → (w / 256 % 16 ≡ 3 → ⊥) → w % 16 + x * (w / 16 % 16) ≡ octetsAt i f x
+  unfolding wordOctets
+  counted-octets {x} b k = sym (if-false _ (ne-eqb _ 3 k) refl) ∙ ap (λ y. wordOctets y x) e ∙ word-octets t i f s x b

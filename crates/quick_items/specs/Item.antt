@@ -7,12 +7,17 @@ use mathlib.Core.List.{List, [], _∷_}
 use lib.Dec.{leb, ltb, eqb}
 use lib.ListN.{getD}
 use lib.Seq.{slice}
-use Rattle.rules.specs.Answer.{Answer, ok}
+use Rattle.rules.specs.Answer.{Answer, ok, if_then_else_}
 use Rattle.rules.specs.Catalogue.{categories}
 use Rattle.tables.specs.declared.tables.LayoutRow.{LayoutRow}
 use Rattle.tables.specs.declared.tables.PlaceRow.{PlaceRow}
-use Rattle.tables.specs.Tables.{groupAt, layoutAt, profileRows}
+use Rattle.tables.specs.Tables.{profileCount, frnCount, placeCount, groupAt, layoutAt, profileRows, placeRowAt}
 use Rattle.tables.specs.FieldRules.{Rule, rules, firstRule, singleOf}
+
+-- a test of every number below another
+abbrev pub allBelow : ℕ → (ℕ → Bool) → Bool
+allBelow zero p = true
+allBelow (suc n) p = p n && allBelow n p
 
 -- 0 tells nothing of an answer, and any other number that the answer is that number
 abbrev pub Plainly : ℕ → Answer ℕ → Type 0
@@ -54,12 +59,19 @@ sameRules low high step size (r ∷ (q ∷ rs)) = false
 unfoldable pub soundRule : ℕ → ℕ → ℕ → ℕ → Bool
 soundRule low high step g = sameRules low high step (groupAt g .octets) (slice (firstRule g) (firstRule (g + 1)) rules)
 
--- the rules of the table, 16 of them
+-- how many rules the table has rows for, and how many words it has: one for each place, two for each rule
+abbrev pub ruleRows : ℕ
+ruleRows = 16
+
+abbrev pub stepCount : ℕ
+stepCount = placeCount + 2 * ruleRows
+
+-- the rules of the table
 abbrev pub lowAt : List ℕ → ℕ → ℕ
-lowAt t i = getD t (72 + i) 0
+lowAt t i = getD t (placeCount + i) 0
 
 abbrev pub highAt : List ℕ → ℕ → ℕ
-highAt t i = getD t (88 + i) 0
+highAt t i = getD t (placeCount + ruleRows + i) 0
 
 abbrev pub asked : List ℕ → ℕ → ℕ → Bool
 asked t i n = asks (lowAt t i) (highAt t i) n
@@ -67,7 +79,14 @@ asked t i n = asks (lowAt t i) (highAt t i) n
 abbrev pub soundRow : List ℕ → ℕ → ℕ → ℕ → Bool
 soundRow t i step g = soundRule (lowAt t i) (highAt t i) step g
 
--- ---- words: four digits, of 16 each
+-- ---- words: digits of 16 each
+
+-- the row of a rule, and the one that follows it
+abbrev pub ruleIn : ℕ → ℕ
+ruleIn w = w / 4_096 % ruleRows
+
+abbrev pub nextIn : ℕ → ℕ
+nextIn w = (w / 4_096 + 1) % ruleRows
 
 -- one free part: its octets; or nothing
 abbrev pub soundFree : ℕ → LayoutRow → Bool
@@ -78,7 +97,7 @@ unfoldable pub soundSingle : ℕ → ℕ → ℕ → LayoutRow → Bool
 soundSingle low high w l = eqb (l .kind) 1 && eqb (groupAt (l .first) .octets) (w % 16) && soundRule low high 0 (l .first)
 
 abbrev pub soundRuled : List ℕ → ℕ → LayoutRow → Bool
-soundRuled t w l = soundSingle (lowAt t (w / 4_096 % 16)) (highAt t (w / 4_096 % 16)) w l
+soundRuled t w l = soundSingle (lowAt t (ruleIn w)) (highAt t (ruleIn w)) w l
 
 -- a list of free parts: its least count, 2, the octets of a part, 1; a led item: its least length, 2, 1, 0
 unfoldable pub soundCounted : ℕ → LayoutRow → Bool
@@ -92,7 +111,7 @@ soundCounted w l =
 unfoldable pub soundExtended : List ℕ → ℕ → LayoutRow → Bool
 soundExtended t w l =
     eqb (l .kind) 4 && eqb (l .first + 2) (l .end) && eqb (groupAt (l .first) .octets) 1 && eqb (groupAt (l .first + 1) .octets) 1
-    && soundRow t (w / 4_096 % 16) 1 (l .first) && soundRow t ((w / 4_096 + 1) % 16) 1 (l .first + 1)
+    && soundRow t (ruleIn w) 1 (l .first) && soundRow t (nextIn w) 1 (l .first + 1)
 
 -- two rows ask all that a group of so many octets does, which has two rules
 abbrev pub samePair : List ℕ → ℕ → ℕ → ℕ → List Rule → Bool
@@ -105,7 +124,7 @@ samePair t i j size (r ∷ (q ∷ (p ∷ rs))) = false
 unfoldable pub soundTwice : List ℕ → ℕ → LayoutRow → Bool
 soundTwice t w l =
     eqb (l .kind) 1 && eqb (groupAt (l .first) .octets) (w % 16)
-    && samePair t (w / 4_096 % 16) ((w / 4_096 + 1) % 16) (groupAt (l .first) .octets) (slice (firstRule (l .first)) (firstRule (l .first + 1)) rules)
+    && samePair t (ruleIn w) (nextIn w) (groupAt (l .first) .octets) (slice (firstRule (l .first)) (firstRule (l .first + 1)) rules)
 
 -- by the second digit
 abbrev pub soundBy : ℕ → List ℕ → ℕ → LayoutRow → Bool
@@ -126,3 +145,40 @@ soundWords t (w ∷ ws) (p ∷ ps) = soundWord t w (layoutAt (p .layout)) && sou
 
 unfoldable pub soundSteps : List ℕ → Bool
 soundSteps t = soundWords t t (profileRows 1 categories)
+
+-- ---- octets: how many an item has that is legal, by its first octet
+
+-- by how its parts lie and the octets of a part: one part; a count and so many parts; a length that counts itself; two parts at most, of an octet each, by FX
+abbrev pub octetsBy : ℕ → ℕ → ℕ → ℕ
+octetsBy zero n x = 0
+octetsBy (suc zero) n x = n
+octetsBy (suc (suc zero)) n x = 1 + x * n
+octetsBy (suc (suc (suc zero))) n x = x
+octetsBy (suc (suc (suc (suc k)))) n x = 1 + x % 2
+
+abbrev pub rowOctets : LayoutRow → ℕ → ℕ
+rowOctets l x = octetsBy (l .kind) (groupAt (l .first) .octets) x
+
+-- as a word says; and that the words of a table do so of every place
+unfoldable pub wordOctets : ℕ → ℕ → ℕ
+wordOctets w x = if eqb (w / 256 % 16) 3 then 1 + x % 2 else w % 16 + x * (w / 16 % 16)
+
+abbrev pub exactWord : ℕ → LayoutRow → Bool
+exactWord w l = allBelow 256 (λ x. eqb (wordOctets w x) (rowOctets l x))
+
+unfoldable pub exactSteps : List ℕ → Bool
+exactSteps t = allBelow placeCount (λ k. exactWord (getD t k 0) (layoutAt (placeRowAt k .layout)))
+
+-- the place of a profile's item at an FRN, and what stands there in a table; outside of the tables nothing
+abbrev pub isPlace : ℕ → ℕ → Bool
+isPlace i f = ltb i profileCount && ltb f frnCount
+
+unfoldable pub wordFor : List ℕ → ℕ → ℕ → ℕ
+wordFor t i f = if isPlace i f then getD t (i * frnCount + f) 0 else 0
+
+-- how many octets the item at an FRN has that is legal, by its first octet; 0 where there is none
+abbrev pub rowOf : ℕ → ℕ → LayoutRow
+rowOf i f = layoutAt (placeRowAt (i * frnCount + f) .layout)
+
+unfoldable pub octetsAt : ℕ → ℕ → ℕ → ℕ
+octetsAt i f x = if isPlace i f then rowOctets (rowOf i f) x else 0

@@ -1,26 +1,30 @@
 // The check of an item that accepts only, with few looks: by a table that the caller lends, since a constant is written out where it is read. What it
-// does not tell is left to the exact check.
-mod told;
-
-pub use told::digit_of;
-pub use told::told_item;
+// does not tell is left to the exact check. The same table says how many octets an item has that was checked.
+use tables::FRNS;
+use tables::PROFILES;
 ghost use mathlib.Core.Path.{_≡_};
 ghost use mathlib.Core.Bool.{true};
 ghost use Prim.Native.Nat.{_≤_, _<_, _^_};
 ghost use lib.ListN.{length, getD};
 ghost use Rattle.items.specs.Answers.{checkAt};
-ghost use Rattle.quick_items.specs.Item.{Plainly, firstThree, asks, asked, soundFree, soundRuled, soundCounted, soundExtended, soundTwice, soundSteps};
+ghost use Rattle.quick_items.specs.Item.{Plainly, ruleRows, stepCount, firstThree, asks, asked, soundFree, soundRuled, soundCounted, soundExtended, soundTwice, soundSteps, exactSteps, wordFor};
 ghost use Rattle.layouts.specs.Read.{wholeSize};
-ghost use Rattle.tables.specs.Tables.{layoutAt, placeRowAt};
+ghost use Rattle.tables.specs.Tables.{placeCount, layoutAt, placeRowAt};
 
-// A word for each place of the profiles, 36 to a profile; then, for each of 16 rules, how many bits stand below its field _ what is added to the
-// field's code; then how many bits of 64 the field has not _ the greatest sum that is legal.
+// How many rules there are rows for: a power of 2, since a word's rule is taken modulo this.
+const RULES: usize = 16;
+
+// Where the first and the second words of the rules start.
+const LOWS: usize = PROFILES * FRNS;
+
+const HIGHS: usize = LOWS + RULES;
+
+// A word for each place of the profiles; then, for each rule, how many bits stand below its field _ what is added to the field's code; then how many bits
+// of 64 the field has not _ the greatest sum that is legal.
 //
 // A word is the octets of an item with one free part; 0 tells nothing. Any other word has columns: the place of a rule, or the least count or
 // length _ how the parts lie _ the octets of each part _ the octets of one part, or those before the parts.
-// ---- made by model/make.py: Steps
-pub type Steps = [u32; 104];
-// ---- end of what is made
+pub type Steps = [u32; HIGHS + RULES];
 
 // How the parts lie: one with a rule; a count or length octet and free parts; two at most, of an octet each, as far as FX bits say;
 // one with two rules.
@@ -28,18 +32,14 @@ const RULED: usize = 1;
 
 const COUNTED: usize = 2;
 
-const EXTENDED: usize = 3;
+pub const EXTENDED: usize = 3;
 
 const TWICE: usize = 4;
-
-// How many profiles there are, and how many places each has: FRN 0 to 35.
-const PROFILES: usize = 2;
-
-const FRNS: usize = 36;
 
 // The table. A word says nothing that the item at its place does not have.
 pub fn steps() -> Steps
     ensures { λ r. ⌜ soundSteps r ≡ true ⌝ }
+    ensures { λ r. ⌜ exactSteps r ≡ true ⌝ }
 {
     [
         // ---- made by model/make.py: steps
@@ -158,10 +158,23 @@ fn wide(x: u32) -> usize
 }
 
 fn word_at(t: &Steps, at: usize) -> usize
-    requires { ⌜ at < 104 ⌝ }
+    requires { ⌜ at < stepCount ⌝ }
     ensures { λ r. ⌜ r ≡ getD (now (t .entry)) at 0 ⌝ }
 {
     wide(t[at])
+}
+
+// The word of a profile's item at an FRN, 0 where the tables have no such place.
+pub fn word_of(t: &Steps, profile: usize, frn: usize) -> usize
+    ensures { λ r. ⌜ r ≡ wordFor (now (t .entry)) profile frn ⌝ }
+{
+    if PROFILES <= profile {
+        return 0;
+    }
+    if FRNS <= frn {
+        return 0;
+    }
+    word_at(t, profile * FRNS + frn)
 }
 
 // ---- rules
@@ -200,17 +213,17 @@ pub fn is_kept(low: usize, high: usize, n: usize) -> bool
 
 // The same, of the rule at a row.
 fn is_asked(t: &Steps, rule: usize, n: usize) -> bool
-    requires { ⌜ (rule < 16) × (n < 2 ^ 24) ⌝ }
+    requires { ⌜ (rule < ruleRows) × (n < 2 ^ 24) ⌝ }
     ensures { λ r. ⌜ r ≡ asked (now (t .entry)) rule n ⌝ }
 {
-    is_kept(word_at(t, 72 + rule), word_at(t, 88 + rule), n)
+    is_kept(word_at(t, LOWS + rule), word_at(t, HIGHS + rule), n)
 }
 
 // ---- an item by the word of its place
 
 // One free part.
 fn free_size(t: &Steps, place: usize, part: &[u8]) -> usize
-    requires { ⌜ (place < 72) × (getD (now t) place 0 < 8) × (soundFree (getD (now t) place 0) (layoutAt (placeRowAt place .layout)) ≡ true) ⌝ }
+    requires { ⌜ (place < placeCount) × (getD (now t) place 0 < 8) × (soundFree (getD (now t) place 0) (layoutAt (placeRowAt place .layout)) ≡ true) ⌝ }
     ensures { λ r. ⌜ Plainly r (wholeSize (layoutAt (placeRowAt place .layout)) (now (part .entry))) ⌝ }
 {
     let size = word_at(t, place);
@@ -222,7 +235,7 @@ fn free_size(t: &Steps, place: usize, part: &[u8]) -> usize
 
 // One part with a rule.
 fn ruled_size(t: &Steps, place: usize, part: &[u8]) -> usize
-    requires { ⌜ (place < 72) × (1 ≤ length (now part)) × (soundRuled (now t) (getD (now t) place 0) (layoutAt (placeRowAt place .layout)) ≡ true) ⌝ }
+    requires { ⌜ (place < placeCount) × (1 ≤ length (now part)) × (soundRuled (now t) (getD (now t) place 0) (layoutAt (placeRowAt place .layout)) ≡ true) ⌝ }
     ensures { λ r. ⌜ Plainly r (wholeSize (layoutAt (placeRowAt place .layout)) (now (part .entry))) ⌝ }
 {
     let w = word_at(t, place);
@@ -230,7 +243,7 @@ fn ruled_size(t: &Steps, place: usize, part: &[u8]) -> usize
     if part.len() < size {
         return 0;
     }
-    if is_asked(t, w / 4096 % 16, first_three(part)) {
+    if is_asked(t, w / 4096 % RULES, first_three(part)) {
         return size;
     }
     0
@@ -238,7 +251,7 @@ fn ruled_size(t: &Steps, place: usize, part: &[u8]) -> usize
 
 // A count octet and free parts, or a length octet and contents.
 fn counted_size(t: &Steps, place: usize, part: &[u8]) -> usize
-    requires { ⌜ (place < 72) × (1 ≤ length (now part)) × (soundCounted (getD (now t) place 0) (layoutAt (placeRowAt place .layout)) ≡ true) ⌝ }
+    requires { ⌜ (place < placeCount) × (1 ≤ length (now part)) × (soundCounted (getD (now t) place 0) (layoutAt (placeRowAt place .layout)) ≡ true) ⌝ }
     ensures { λ r. ⌜ Plainly r (wholeSize (layoutAt (placeRowAt place .layout)) (now (part .entry))) ⌝ }
 {
     let w = word_at(t, place);
@@ -255,11 +268,11 @@ fn counted_size(t: &Steps, place: usize, part: &[u8]) -> usize
 
 // Parts as far as FX bits say, of one octet each and at most two.
 fn extended_size(t: &Steps, place: usize, part: &[u8]) -> usize
-    requires { ⌜ (place < 72) × (1 ≤ length (now part)) × (soundExtended (now t) (getD (now t) place 0) (layoutAt (placeRowAt place .layout)) ≡ true) ⌝ }
+    requires { ⌜ (place < placeCount) × (1 ≤ length (now part)) × (soundExtended (now t) (getD (now t) place 0) (layoutAt (placeRowAt place .layout)) ≡ true) ⌝ }
     ensures { λ r. ⌜ Plainly r (wholeSize (layoutAt (placeRowAt place .layout)) (now (part .entry))) ⌝ }
 {
     let w = word_at(t, place);
-    if !is_asked(t, w / 4096 % 16, first_three(part)) {
+    if !is_asked(t, w / 4096 % RULES, first_three(part)) {
         return 0;
     }
     if part[0] % 2 == 0 {
@@ -271,7 +284,7 @@ fn extended_size(t: &Steps, place: usize, part: &[u8]) -> usize
     if part[1] % 2 != 0 {
         return 0;
     }
-    if is_asked(t, (w / 4096 + 1) % 16, first_three(&part[1..])) {
+    if is_asked(t, (w / 4096 + 1) % RULES, first_three(&part[1..])) {
         return 2;
     }
     0
@@ -279,7 +292,7 @@ fn extended_size(t: &Steps, place: usize, part: &[u8]) -> usize
 
 // One part with two rules.
 fn twice_size(t: &Steps, place: usize, part: &[u8]) -> usize
-    requires { ⌜ (place < 72) × (1 ≤ length (now part)) × (soundTwice (now t) (getD (now t) place 0) (layoutAt (placeRowAt place .layout)) ≡ true) ⌝ }
+    requires { ⌜ (place < placeCount) × (1 ≤ length (now part)) × (soundTwice (now t) (getD (now t) place 0) (layoutAt (placeRowAt place .layout)) ≡ true) ⌝ }
     ensures { λ r. ⌜ Plainly r (wholeSize (layoutAt (placeRowAt place .layout)) (now (part .entry))) ⌝ }
 {
     let w = word_at(t, place);
@@ -288,18 +301,19 @@ fn twice_size(t: &Steps, place: usize, part: &[u8]) -> usize
         return 0;
     }
     let n = first_three(part);
-    if !is_asked(t, w / 4096 % 16, n) {
+    if !is_asked(t, w / 4096 % RULES, n) {
         return 0;
     }
-    if is_asked(t, (w / 4096 + 1) % 16, n) {
+    if is_asked(t, (w / 4096 + 1) % RULES, n) {
         return size;
     }
     0
 }
 
-// How many octets the item at a place of the tables takes, where it is plainly legal.
-fn quick_at(t: &Steps, place: usize, part: &[u8]) -> usize
-    requires { ⌜ (place < 72) × (soundSteps (now t) ≡ true) ⌝ }
+// How many octets the item at a place of the tables takes, where it is plainly legal: as most items are, in one part, or a count or length octet and free
+// parts. Short, so that it is compiled into both loops over a record's items.
+fn told_at(t: &Steps, place: usize, part: &[u8]) -> usize
+    requires { ⌜ (place < placeCount) × (soundSteps (now t) ≡ true) ⌝ }
     ensures { λ r. ⌜ Plainly r (wholeSize (layoutAt (placeRowAt place .layout)) (now (part .entry))) ⌝ }
 {
     let w = word_at(t, place);
@@ -310,12 +324,28 @@ fn quick_at(t: &Steps, place: usize, part: &[u8]) -> usize
         return 0;
     }
     let kind = w / 256 % 16;
-    if kind == RULED {
-        return ruled_size(t, place, part);
-    }
     if kind == COUNTED {
         return counted_size(t, place, part);
     }
+    if kind == RULED {
+        return ruled_size(t, place, part);
+    }
+    0
+}
+
+// The same, of any item.
+fn quick_at(t: &Steps, place: usize, part: &[u8]) -> usize
+    requires { ⌜ (place < placeCount) × (soundSteps (now t) ≡ true) ⌝ }
+    ensures { λ r. ⌜ Plainly r (wholeSize (layoutAt (placeRowAt place .layout)) (now (part .entry))) ⌝ }
+{
+    let n = told_at(t, place, part);
+    if n != 0 {
+        return n;
+    }
+    if part.len() < 1 {
+        return 0;
+    }
+    let kind = word_at(t, place) / 256 % 16;
     if kind == EXTENDED {
         return extended_size(t, place, part);
     }
@@ -333,6 +363,20 @@ pub fn quick_item(t: &Steps, profile: usize, frn: usize, part: &[u8]) -> usize
     if profile < PROFILES {
         if frn < FRNS {
             return quick_at(t, profile * FRNS + frn, part);
+        }
+    }
+    0
+}
+
+// The same of an item as most are, for who checks one record at a time and has the table written out for it: `quick_item` has one caller, into whose
+// loop it is compiled.
+pub fn told_item(t: &Steps, profile: usize, frn: usize, part: &[u8]) -> usize
+    requires { ⌜ soundSteps (now t) ≡ true ⌝ }
+    ensures { λ r. ⌜ Plainly r (checkAt profile frn (now (part .entry))) ⌝ }
+{
+    if profile < PROFILES {
+        if frn < FRNS {
+            return told_at(t, profile * FRNS + frn, part);
         }
     }
     0

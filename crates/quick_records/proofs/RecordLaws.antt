@@ -27,16 +27,15 @@ use Rattle.rules.proofs.PresenceLaws.{flags-length}
 use Rattle.items.specs.Answers.{checkAt}
 use Rattle.tables.specs.Places.{frnAs}
 use Rattle.tables.specs.FieldRules.{singles}
-use Rattle.quick_items.specs.Item.{Plainly}
+use Rattle.quick_items.specs.Item.{Plainly, allBelow}
 use Rattle.tables.specs.Tables.{layoutAt, layouts, groupAt, groups}
 use Rattle.layouts.proofs.ReadLaws.{le-or-lt, octets-drop}
-use Rattle.quick_items.proofs.ItemLaws.{free-check}
+use Rattle.quick_items.proofs.ItemLaws.{free-check, all-below, other}
 use Rattle.sets.specs.Sets.{categoryAt, setAt, within}
 use Rattle.sets.specs.Steps.{typeFrn, rowAt, judgeSet}
 use Rattle.records.specs.Walk.{Came, passed, walk, startAt, recordBy}
 use Rattle.sets.specs.Answers.{setOf}
 use Rattle.records.specs.Answers.{recordAt}
-use Rattle.quick_items.specs.Told.{allBelow}
 use Rattle.quick_records.specs.Record.{typeSets, isRow, soundRow, free, allFree, freeSum, soundSum, soundTypes, Content, Goes, Later, Walks, Passed, endAt}
 use Rattle.sets.specs.declared.ItemSet.{ItemSet}
 use Rattle.sets.specs.declared.SetRead.{SetRead}
@@ -44,7 +43,6 @@ use Rattle.sets.specs.declared.SetRead.the-variants as set
 use Rattle.sets.proofs.FlagLaws.{flags-split, has-bit}
 use Rattle.sets.proofs.SetLaws.{octets-all, to-end}
 use Rattle.records.proofs.PlaceLaws.{check-within}
-use Rattle.quick_items.proofs.ToldLaws.{all-below, other}
 use Rattle.records.proofs.WalkLaws.{walk-none}
 use Rattle.sets.proofs.JudgeLaws.{judge-right}
 use Rattle.records.proofs.RecordLaws.{record-law, record-read, RecordRead}

@@ -32,13 +32,10 @@ use Rattle.sets.specs.Steps.{rowAt, judgeSet, ended, setFrom}
 use Rattle.sets.specs.declared.SetRead.the-variants as set
 use Rattle.sets.proofs.SetLaws.{set-law, octets-all, to-end}
 use Rattle.records.proofs.WalkLaws.{walk-none}
-use Rattle.quick_items.specs.Item.{Plainly, firstThree, asks, soundSingle, soundCounted}
-use Rattle.quick_items.specs.Told.{allBelow}
+use Rattle.quick_items.specs.Item.{Plainly, firstThree, asks, soundSingle, soundCounted, allBelow}
 use Rattle.quick_records.specs.Record.{typeSets, soundTypes, free, Content, Goes, Later, Walks, Passed, endAt}
 use Rattle.quick_records.specs.Shape.{lowNumber, lowOctets, usedOf, startOf, tailOf, profileOf, typesOf, wordOf, soundType, soundMask, isFree, runSum, runLeft, soundSpecial, soundFirst, soundThen, soundItems, shapeBy, bounded, soundShape, soundShapeAt, soundSets, Front, Fronts, Listed, OfType}
-use Rattle.quick_items.proofs.ItemLaws.{octet-at, cut, free-check, ruled-told, counted-told}
-use Rattle.quick_items.proofs.ToldLaws.{told}
-use Rattle.quick_items.proofs.ToldLaws.{all-below, other}
+use Rattle.quick_items.proofs.ItemLaws.{octet-at, cut, free-check, ruled-told, counted-told, told, all-below, other}
 use Rattle.quick_records.proofs.RecordLaws.{row-under, row-read, blank, one, none-here, kind-stays, Skipped, third, first-three, third-here, third-kind, seven, content, quick-whole}
 
 octet-here : (n : ℕ) (xs bs : List ℕ) → xs ≡ drop n bs → getD xs 0 0 ≡ getD bs n 0

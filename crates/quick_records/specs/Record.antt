@@ -13,7 +13,7 @@ use Rattle.sets.specs.Steps.{markBits, rowAt}
 use Rattle.records.specs.Walk.{Came, walk, startAt}
 use Rattle.sets.specs.Sets.{categoryAt}
 use Rattle.records.specs.Answers.{recordAt}
-use Rattle.quick_items.specs.Told.{allBelow}
+use Rattle.quick_items.specs.Item.{allBelow}
 
 -- ---- the tables
 

@@ -12,8 +12,7 @@ use Rattle.tables.specs.declared.tables.LayoutRow.{LayoutRow}
 use Rattle.tables.specs.Tables.{layoutAt, placeRowAt}
 use Rattle.sets.specs.Sets.{categoryAt, within}
 use Rattle.sets.specs.Steps.{setFrom, rowAt}
-use Rattle.quick_items.specs.Item.{firstThree, asks, soundSingle, soundCounted}
-use Rattle.quick_items.specs.Told.{allBelow}
+use Rattle.quick_items.specs.Item.{firstThree, asks, soundSingle, soundCounted, allBelow}
 use Rattle.quick_records.specs.Record.{typeSets, free}
 
 -- ---- octets as a number, the first one lowest

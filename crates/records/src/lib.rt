@@ -2,6 +2,8 @@
 // numbers and their order"). Profile 0 is category 017, edition 1.3; profile 1 is category 018, edition 1.6.
 use items::ItemCheck;
 use items::check_item;
+use quick_items::Steps;
+use quick_items::steps;
 use quick_items::told_item;
 use sets::ItemSet;
 use sets::Judgement;
@@ -13,12 +15,14 @@ use sets::set_number;
 use sets::type_frn;
 use sets::usable;
 ghost use mathlib.Core.Path.{_≡_};
+ghost use mathlib.Core.Bool.{true};
 ghost use Prim.Native.Nat.{_+_, _^_, _<_};
 ghost use lib.ListN.{length, getD};
 ghost use lib.Dec.{eqb};
 ghost use Rattle.rules.specs.Answer.{if_then_else_};
 ghost use Rattle.rules.specs.Presence.{flags};
 ghost use Rattle.items.specs.Answers.{checkAt, checkedOf};
+ghost use Rattle.quick_items.specs.Item.{soundSteps};
 ghost use Rattle.records.specs.Walk.{walk, startAt};
 ghost use Rattle.records.specs.Answers.{itemNumber, itemPlace, cameOf, absent, checkedNumber, checkedPlace, Walked, recordAt, newOf, newAt};
 
@@ -110,11 +114,12 @@ fn type_octet(of: usize, frn: usize, kind: u8, item: &[u8]) -> u8
     item[0]
 }
 
-// The item at an FRN: at once where that tells it, and else by the exact check.
-fn item_check(profile: usize, frn: usize, part: &[u8]) -> ItemCheck
+// The item at an FRN: at once where the table tells it, and else by the exact check.
+fn item_check(t: &Steps, profile: usize, frn: usize, part: &[u8]) -> ItemCheck
+    requires { ⌜ soundSteps (now t) ≡ true ⌝ }
     ensures { λ r. ⌜ checkedOf r ≡ checkAt profile frn (now (part .entry)) ⌝ }
 {
-    let n = told_item(profile, frn, part);
+    let n = told_item(t, profile, frn, part);
     if n != 0 {
         return ItemCheck::Whole(n);
     }
@@ -127,6 +132,7 @@ fn walk_items(profile: usize, set: ItemSet, part: &[u8], at: usize) -> ItemsWalk
     requires { ⌜ at + length (now part) < 2 ^ 63 ⌝ }
     ensures { λ r. ⌜ cameOf r ≡ walk profile (flags 63 (set .bits)) 1 (now (part .entry)) (startAt at) ⌝ }
 {
+    let t = steps();
     let of = type_frn(profile);
     let mut left = set.bits;
     let mut bit: u64 = 0x4000_0000_0000_0000;
@@ -142,7 +148,7 @@ fn walk_items(profile: usize, set: ItemSet, part: &[u8], at: usize) -> ItemsWalk
             frn = frn + 1;
             continue;
         }
-        let c = item_check(profile, frn, rest);
+        let c = item_check(&t, profile, frn, rest);
         let ItemCheck::Whole(n) = c else {
             return stopped(item_number(c), here + item_place(c));
         };

@@ -1,9 +1,7 @@
 -- `quick_items::quick_item` meets its contract: the row of the place says what the profile has there. Assumes nothing.
 use native.Mathlib.Omega.{arith}
-use mathlib.Core.Path.{subst}
-use Rattle.quick_items.specs.Item.{Plainly}
 use Rattle.layouts.proofs.OctetLaws.{octets-known}
-use Rattle.items.proofs.CheckLaws.{check-place}
+use Rattle.quick_items.proofs.ItemLaws.{at-place}
 use borrow.Author.Needs.{needs}
 use Rattle.quick_items.proofs.quick_item.Statement.{statement}
 use Rattle.quick_items.proofs.quick_item.Tie as tie
@@ -18,7 +16,9 @@ quick-at-requires : tie.Need-quick-at-requires
 quick-at-requires c κs = search needs
 
 returns : tie.Need-returns
-returns c = subst (Plainly (c .quick-at .result)) (check-place _ _ _ (c .before .before .if1 .taken) (c .before .if2 .taken) (octets-known (c .before .before .before .before .args .part .now) (λ i. omega (arith, c .before .before .before .shared-slice-known .given i)))) (c .quick-at .ensures)
+returns c =
+    at-place _ _ (c .quick-at .result) _ (c .before .before .if1 .taken) (c .before .if2 .taken)
+    (octets-known (c .before .before .before .before .args .part .now) (λ i. omega (arith, c .before .before .before .shared-slice-known .given i))) (c .quick-at .ensures)
 
 returns-2 : tie.Need-returns-2
 returns-2 c = search needs

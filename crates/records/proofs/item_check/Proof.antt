@@ -1,7 +1,7 @@
 -- `records::item_check` meets its contract: what is told at once is what the exact check answers. Assumes nothing.
 use mathlib.Core.Path.{sym}
 use borrow.Author.Needs.{needs}
-use Rattle.quick_items.proofs.ToldLaws.{told}
+use Rattle.quick_items.proofs.ItemLaws.{told}
 use Rattle.records.proofs.item_check.Statement.{statement}
 use Rattle.records.proofs.item_check.Tie as tie
 

@@ -12,7 +12,8 @@ before-requires : tie.Need-before-requires
 before-requires c κs = search needs
 
 items-from-requires : tie.Need-items-from-requires
-items-from-requires c κs = omega (arith, early-few _ 3 (c .before2 .ensures), c .before .before .before .pre .0, c .before .before .before .pre .1)
+items-from-requires c κs =
+    (omega (arith, early-few _ 3 (c .before2 .ensures), c .before .before .before .pre .0), omega (arith, c .before .before .before .pre .1), c .before .before .before .pre .2)
 
 octet-at-requires : tie.Need-octet-at-requires
 octet-at-requires c κs = search needs

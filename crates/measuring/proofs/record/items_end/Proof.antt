@@ -12,7 +12,7 @@ items-from-requires : tie.Need-items-from-requires
 items-from-requires c κs = search needs
 
 returns : tie.Need-returns
-returns c = c .items-from .ensures ∙ end-three _ _ _ _ (c .before .if1 .taken)
+returns c = c .items-from .ensures ∙ end-three _ _ (c .before .before .if1 .taken) _ _ (c .before .if2 .taken)
 
 items-from-requires-2 : tie.Need-items-from-requires-2
 items-from-requires-2 c κs = search needs

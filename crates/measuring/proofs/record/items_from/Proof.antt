@@ -11,10 +11,10 @@ use Rattle.measuring.proofs.record.items_from.Statement.{statement}
 use Rattle.measuring.proofs.record.items_from.Tie as tie
 
 abbrev Inv-loop : tie.InvT-loop
-Inv-loop profile bits part from left₀ at₀ left at = Standing profile part bits from left at
+Inv-loop t profile bits part from left₀ at₀ left at = Standing profile part bits from left at
 
 abbrev μ-loop : tie.MeasureT-loop
-μ-loop profile bits part from left₀ at₀ left at = left
+μ-loop t profile bits part from left₀ at₀ left at = left
 
 loop-holds : tie.Need-loop-holds Inv-loop μ-loop
 loop-holds c = stand-first _ _ _ _ (c .before .pre .0)

@@ -32,11 +32,14 @@ returns c = c .untimed .ensures ∙ measure-no-set _ _ _ (c .before .before .bef
 bounds : (c : tie.After-known-told) → (c .before .set .given .0 .0 .bits < 2 ^ 63) × (c .before .set .given .0 .1 .0 ≤ length (c .before .before .before .before .before .before .args .part .now))
 bounds c = set-bounds _ _ _ _ (sym (c .before .before .before .from-octets .ensures) ∙ ap setOf (c .before .set .given .1))
 
+steps-requires : tie.Need-steps-requires
+steps-requires c κs = search needs
+
 measure-set-requires : tie.Need-measure-set-requires
-measure-set-requires c κs = (bounds c .0, omega (arith, bounds c .1))
+measure-set-requires c κs = (bounds (c .before .before) .0, omega (arith, bounds (c .before .before) .1), c .before .steps .ensures .1)
 
 returns-2 : tie.Need-returns-2
-returns-2 c = c .measure-set .ensures ∙ measure-items _ _ _ (c .before .before .before .before .before .profile-of .ensures) (c .before .before .before .before .from-octets .ensures) _ _ (c .before .before .set .given .1)
+returns-2 c = c .measure-set .ensures ∙ measure-items _ _ _ (c .before .before .before .before .before .before .before .profile-of .ensures) (c .before .before .before .before .before .before .from-octets .ensures) _ _ (c .before .before .before .before .set .given .1)
 
 pub measure-spec : {M : Type 1} → statement M
 measure-spec =
@@ -48,5 +51,6 @@ measure-spec =
     enum-told
     untimed-requires
     returns
+    steps-requires
     measure-set-requires
     returns-2)

@@ -19,7 +19,7 @@ shr-if1 : tie.Need-shr-if1
 shr-if1 c = search needs
 
 measure-untimed-requires : tie.Need-measure-untimed-requires
-measure-untimed-requires c κs = (c .before .before .before .pre .0, c .before .before .before .pre .1, time-absent _ (c .before .before .before .args .part .now) _ _ (c .before .time-frn .ensures) (c .if1 .taken))
+measure-untimed-requires c κs = (c .before .before .before .pre .0, c .before .before .before .pre .1, time-absent _ (c .before .before .before .args .part .now) _ _ (c .before .time-frn .ensures) (c .if1 .taken), c .before .before .before .pre .2)
 
 returns : tie.Need-returns
 returns c = search needs
@@ -29,7 +29,7 @@ is-untimed-requires c κs = search needs
 
 measure-untimed-requires-2 : tie.Need-measure-untimed-requires-2
 measure-untimed-requires-2 c κs =
-    (c .before .before .before .before .before .pre .0, c .before .before .before .before .before .pre .1, time-none _ (c .before .before .before .before .before .args .part .now) _ _ (c .before .before .before .time-frn .ensures) (c .before .before .if1 .left) (c .before .is-untimed .ensures) (c .if2 .taken))
+    (c .before .before .before .before .before .pre .0, c .before .before .before .before .before .pre .1, time-none _ (c .before .before .before .before .before .args .part .now) _ _ (c .before .before .before .time-frn .ensures) (c .before .before .if1 .left) (c .before .is-untimed .ensures) (c .if2 .taken), c .before .before .before .before .before .pre .2)
 
 returns-2 : tie.Need-returns-2
 returns-2 c = search needs
@@ -38,7 +38,7 @@ before-requires : tie.Need-before-requires
 before-requires c κs = (frn-few (c .before .before .before .before .before .args .profile) (c .before .before .before .time-frn .ensures) .0, omega (arith, frn-few (c .before .before .before .before .before .args .profile) (c .before .before .before .time-frn .ensures) .1))
 
 items-end-requires : tie.Need-items-end-requires
-items-end-requires c κs = omega (arith, early-few _ _ (c .before2 .ensures), c .before .before .before .before .before .before .pre .0)
+items-end-requires c κs = (omega (arith, early-few _ _ (c .before2 .ensures), c .before .before .before .before .before .before .pre .0), c .before .before .before .before .before .before .pre .1, c .before .before .before .before .before .before .pre .2)
 
 sub-items-from : tie.Need-sub-items-from
 sub-items-from c = early-few _ _ (c .before .before2 .ensures)
@@ -57,7 +57,7 @@ end-is c =
     ends _ (c .before .before .before .before .before .before .before .before .args .part .now) _ _ (c .before .before .before .before .before .before .time-frn .ensures) (c .before .before .before2 .ensures) (c .before .items-end .ensures) (c .before .before .before .before .before .before .before .before .pre .0) (c .items-from .ensures)
 
 items-from-requires : tie.Need-items-from-requires
-items-from-requires c κs = omega (arith, c .before .before .before .before .before .before .before .pre .0, c .before .before .before .before .before .before .before .pre .1, near c)
+items-from-requires c κs = (omega (arith, c .before .before .before .before .before .before .before .pre .0), omega (arith, c .before .before .before .before .before .before .before .pre .1, near c), c .before .before .before .before .before .before .before .pre .2)
 
 untimed-requires : tie.Need-untimed-requires
 untimed-requires c κs = search needs

@@ -7,14 +7,14 @@ use Rattle.rules.specs.Category018.{category018}
 use Rattle.rules.specs.Catalogue.{categories}
 use Rattle.sets.specs.Sets.{categoryAt, bitsOf}
 use Rattle.sets.specs.Steps.{usableBits, ended, setFrom}
-use Rattle.quick_items.specs.Told.{digitAt, digitOf}
-use Rattle.measuring.specs.Measure.{fixedOctets, variableOctets, octetsAt}
+use Rattle.tables.specs.Tables.{groups, layouts, groupAt, layoutAt, placeRowAt}
+use Rattle.quick_items.specs.Item.{octetsAt}
 use Rattle.measuring.specs.Shape.{soundRow, soundShapes}
 use Rattle.measuring.proofs.shape.shapes.Statement.{statement}
 use Rattle.measuring.proofs.shape.shapes.Tie as tie
 
 returns : tie.Need-returns
-unfolding soundShapes soundRow fixedOctets variableOctets octetsAt digitAt digitOf setFrom ended usableBits need_or_then_ if_then_else_ flags number categoryAt categories category017 category018 bitsOf
+unfolding soundShapes soundRow octetsAt groupAt layoutAt placeRowAt groups layouts setFrom ended usableBits need_or_then_ if_then_else_ flags number categoryAt categories category017 category018 bitsOf
 returns c = refl
 
 pub shapes-spec : {M : Type 1} → statement M

@@ -10,7 +10,7 @@ use borrow.Author.Needs.{needs}
 use Rattle.rules.specs.Answer.{ok}
 use Rattle.quick_items.specs.Item.{Plainly}
 use Rattle.quick_records.specs.Record.{endAt}
-use Rattle.quick_items.proofs.ToldLaws.{told}
+use Rattle.quick_items.proofs.ItemLaws.{told}
 use Rattle.quick_records.proofs.RecordLaws.{end-anywhere, end-within}
 use Rattle.quick_records.proofs.end.record_end.Statement.{statement}
 use Rattle.quick_records.proofs.end.record_end.Tie as tie

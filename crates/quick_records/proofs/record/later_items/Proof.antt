@@ -9,7 +9,7 @@ use borrow.Author.Needs.{needs}
 use Rattle.rules.specs.Answer.{ok}
 use Rattle.items.specs.Answers.{checkAt}
 use Rattle.records.proofs.PlaceLaws.{check-within}
-use Rattle.quick_items.proofs.ToldLaws.{told}
+use Rattle.quick_items.proofs.ItemLaws.{told}
 use Rattle.quick_records.proofs.RecordLaws.{Standing, stand-first, Next, next, weight-there, stand-next, stand-end}
 use Rattle.quick_records.proofs.record.later_items.Statement.{statement}
 use Rattle.quick_records.proofs.record.later_items.Tie as tie
