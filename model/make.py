@@ -41,6 +41,7 @@ LENGTHS = "crates/lengths/src/lib.rt"
 LENGTHS_SPECS = "crates/lengths/specs/Least.antt"
 QUICK_ITEMS = "crates/quick_items/src/lib.rt"
 LENT = "crates/quick_records/src/lent.rt"
+LENT_SPECS = "crates/quick_records/specs/Record.antt"
 SHAPES = "crates/measuring/src/shape.rt"
 
 REGIONS = [
@@ -64,9 +65,9 @@ REGIONS = [
     Region(LENGTHS, "FIRST", code.firsts),
     Region(LENGTHS, "LEAST", code.leasts),
     Region(LENGTHS_SPECS, "leastCount", code.least_count),
-    Region(QUICK_ITEMS, "Steps", quick.steps_size),
     Region(QUICK_ITEMS, "steps", quick.steps),
-    Region(LENT, "Types, Sets", quick.lent_sizes),
+    Region(LENT, "KINDS, ROWS", quick.lent_sizes),
+    Region(LENT_SPECS, "kindCount, rowCount", quick.lent_sizes_spec),
     Region(LENT, "TYPES", quick.types),
     Region(LENT, "SETS", quick.sets),
     Region(SHAPES, "SHAPES", quick.measured_shapes),

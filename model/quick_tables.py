@@ -14,7 +14,7 @@ import re
 from collections import namedtuple
 
 import rows
-from code_tables import aligned
+from code_tables import aligned, number_spec
 from rows import PROFILES
 
 CRATES = pathlib.Path(__file__).resolve().parents[1] / "crates"
@@ -110,10 +110,6 @@ class Rules:
         return [("0x%02X_%06X" % (word >> 24, word & 0xFFFFFF), "rule %X   %s" % (n, says)) for n, (word, says) in enumerate(out)]
 
 
-def steps_size():
-    return ["pub type Steps = [u32; %d];" % len(steps())]
-
-
 def steps():
     out, rules = [], Rules()
     for place in rows.places():
@@ -131,6 +127,7 @@ def steps():
 # ---- message types and their sets, crates/quick_records/src/lent.rt
 
 KINDS = 1 + max(message.number for category in PROFILES for message in category.messages)
+ROWS = 1 + max(len(category.messages) for category in PROFILES)
 FIRST_ITEMS = range(4, 8)  # FRNs of the first FSPEC octet that may be missing
 
 
@@ -141,18 +138,18 @@ def has_front(profile):
 
 
 def numbered():
-    """Every message type, with its profile; the first is number 1."""
-    return [(profile, message) for profile, category in enumerate(PROFILES) for message in category.messages]
+    """Every message type, with its profile and its row there, from 1 on."""
+    return [(profile, row, message) for profile, category in enumerate(PROFILES) for row, message in enumerate(category.messages, 1)]
 
 
 def type_rows():
     """By profile and number of the message type, its row, 0 where it is unknown."""
-    row_of = {(profile, message.number): (n, message) for n, (profile, message) in enumerate(numbered(), 1)}
+    row_of = {(profile, message.number): (row, message) for profile, row, message in numbered()}
     for profile, category in enumerate(PROFILES):
         cited = rows.cited(rows.places_of(profile)[rows.type_frn(profile) - 1]).rstrip()
         for number in range(KINDS):
-            n, message = row_of.get((profile, number), (0, None))
-            yield "    %d," % n + (" // %s  %s  %s" % (cited, rows.kind(category, number), rows.message_name(message)) if n else "")
+            row, message = row_of.get((profile, number), (0, None))
+            yield "    %d," % row + (" // %s  %s  %s" % (cited, rows.kind(category, number), rows.message_name(message)) if row else "")
 
 
 def first_octets():
@@ -167,29 +164,30 @@ def first_octets():
 
 
 def lent_sizes():
-    types, sets = len(types_rows()), len(set_rows())
-    return ["pub type Types = [u8; %d];" % types, "", "pub type Sets = [u64; %d];" % sets]
+    return ["pub const KINDS: usize = %d;" % KINDS, "", "pub const ROWS: usize = %d;" % ROWS]
 
 
-def types_rows():
-    return list(type_rows()) + list(first_octets())
+def lent_sizes_spec():
+    return number_spec("kindCount", KINDS) + [""] + number_spec("rowCount", ROWS)
 
 
 def types():
-    return ["const TYPES: Types = ["] + types_rows() + ["];"]
+    return ["const TYPES: Types = ["] + list(type_rows()) + list(first_octets()) + ["];"]
 
 
-def set_rows():
-    out = ["    0,", "    0,"]
-    for profile, message in numbered():
-        category = PROFILES[profile]
+def set_rows(profile):
+    """The sets of a profile's message types, ROWS pairs of them, the first of which is no type's."""
+    category = PROFILES[profile]
+    out = ["    0, // category %03d: no message type" % category.number, "    0,"]
+    for message in category.messages:
         must, may = map(rows.quads, rows.must_and_may(profile, message))
         out += ["    %s, // I%03d/000 type %s  %s" % (must, category.number, rows.kind(category, message.number), rows.message_name(message)), "    %s," % may]
-    return out + shape_lines(checked)
+    over = 2 * ROWS - len(out)
+    return out + ["    0, // category %03d: no more" % category.number] * (over > 0) + ["    0,"] * (over - 1)
 
 
 def sets():
-    return ["const SETS: Sets = ["] + set_rows() + ["];"]
+    return ["const SETS: Sets = ["] + [line for profile in range(len(PROFILES)) for line in set_rows(profile)] + shape_lines(checked) + ["];"]
 
 
 # ---- shapes: FSPECs that are legal for some message type of at most six optional items; each stands where
@@ -198,13 +196,13 @@ def sets():
 SLOTS = 64
 MOST_OPTIONAL = 6
 
-# One shape: its FRNs, and the message types that have it, by number and as their document prints them.
+# One shape: its FRNs, and the message types that have it, by row and as their document prints them.
 Shape = namedtuple("Shape", "profile frns types")
 
 
 def shapes():
     out = {}
-    for number, (profile, message) in enumerate(numbered(), 1):
+    for profile, row, message in numbered():
         optional = rows.frns_of(profile, message.optional)
         if len(optional) > MOST_OPTIONAL:
             continue
@@ -212,7 +210,7 @@ def shapes():
         for count in range(len(optional) + 1):
             for some in itertools.combinations(optional, count):
                 frns = tuple(sorted(must + list(some)))
-                out.setdefault((profile, frns), []).append((number, rows.kind(PROFILES[profile], message.number)))
+                out.setdefault((profile, frns), []).append((row, rows.kind(PROFILES[profile], message.number)))
     return [Shape(profile, frns, some) for (profile, frns), some in out.items()]
 
 
@@ -226,13 +224,13 @@ def said(shape):
 def factor():
     """By what an FSPEC is multiplied to find its place, and how far the product is moved down, as the code has it."""
     code = (CRATES / "quick_records" / "src" / "shape.rt").read_text()
-    return tuple(map(int, re.search(r"\* (\d+) >> (\d+)\) %% %d" % SLOTS, code).groups()))
+    return tuple(map(int, re.search(r"\* (\d+) >> (\d+)\) % SLOTS", code).groups()))
 
 
 def slot_of(shape):
     """Where a shape is looked for."""
     times, down = factor()
-    return ((rows.fspec(shape.frns)[0] + shape.profile % 2) * times >> down) % SLOTS
+    return ((rows.fspec(shape.frns)[0] + shape.profile % 16) * times >> down) % SLOTS
 
 
 def slotted(some):
@@ -295,7 +293,7 @@ def checked(shape):
         at, word, (low, high), tail = used, (0, 0, 0, 0), ANY_BITS, before
     return (
         "0x%X_%02X_%02X_%X_%010X" % (shape.profile, tail, at, used, raw),
-        "0x%X%X%X%X_%010X" % (*word, sum(1 << number for number, _ in shape.types)),
+        "0x%X%X%X%X_%010X" % (*word, sum(1 << row for row, _ in shape.types)),
         "0x%02X_%06X_%02X_%06X" % (high >> 24, high & 0xFFFFFF, low >> 24, low & 0xFFFFFF),
         quads_of_set(left),
     )

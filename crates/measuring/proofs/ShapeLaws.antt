@@ -24,7 +24,7 @@ use Rattle.sets.proofs.SetLaws.{octets-all}
 use Rattle.quick_items.specs.Item.{allBelow, octetsBy, isPlace, rowOf, octetsAt}
 use Rattle.tables.specs.Tables.{groupAt}
 use Rattle.quick_items.proofs.ItemLaws.{all-below}
-use Rattle.quick_records.specs.Shape.{lowNumber, lowOctets, usedOf, profileOf}
+use Rattle.quick_records.specs.Shape.{shapeCount, lowNumber, lowOctets, usedOf, profileOf}
 use Rattle.quick_records.proofs.ShapeLaws.{cut-same, fspec-told}
 use Rattle.measuring.specs.Measure.{endFrom, endOf, startOf, timeFrn, isIn, isUntimed, clockAt, timeIn, sized, measureBy, measureIn, measureOf}
 use Rattle.measuring.specs.declared.record.Measured.{Measured}
@@ -185,7 +185,7 @@ parts-fit x k h =
 
 -- ---- the table
 
-module _ (t : List ℕ) (s : soundShapes t ≡ true) (k a b : ℕ) (l : k < 64) (ea : a ≡ getD t (2 * k) 0) (eb : b ≡ getD t (2 * k + 1) 0) where
+module _ (t : List ℕ) (s : soundShapes t ≡ true) (k a b : ℕ) (l : k < shapeCount) (ea : a ≡ getD t (2 * k) 0) (eb : b ≡ getD t (2 * k + 1) 0) where
   abbrev read : Answer (ℕ × ℕ)
   read = setFrom (profileOf a) (length (categoryAt (profileOf a) .profile)) (lowOctets (usedOf a) a) 0 0
 
@@ -194,7 +194,7 @@ module _ (t : List ℕ) (s : soundShapes t ≡ true) (k a b : ℕ) (l : k < 64) 
 
   row : soundRow a b ≡ true
   unfolding soundShapes
-  row = rw (ea, eb) (all-below 64 (λ j. soundRow (getD t (2 * j) 0) (getD t (2 * j + 1) 0)) k s l)
+  row = rw (ea, eb) (all-below shapeCount (λ j. soundRow (getD t (2 * j) 0) (getD t (2 * j + 1) 0)) k s l)
 
   pub shape-some : 0 < usedOf a
   unfolding soundRow

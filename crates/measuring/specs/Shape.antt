@@ -13,7 +13,7 @@ use Rattle.rules.specs.Presence.{flags}
 use Rattle.sets.specs.Sets.{categoryAt}
 use Rattle.sets.specs.Steps.{setFrom}
 use Rattle.quick_items.specs.Item.{allBelow, rowOf, octetsAt}
-use Rattle.quick_records.specs.Shape.{lowOctets, usedOf, profileOf}
+use Rattle.quick_records.specs.Shape.{shapeCount, lowOctets, usedOf, profileOf}
 use Rattle.measuring.specs.Measure.{timeFrn, isIn, measureIn}
 use Rattle.measuring.specs.declared.record.Measured.{Measured}
 
@@ -94,7 +94,7 @@ soundRow a b =
 -- ---- the table
 
 unfoldable pub soundShapes : List ℕ → Bool
-soundShapes t = allBelow 64 (λ k. soundRow (getD t (2 * k) 0) (getD t (2 * k + 1) 0))
+soundShapes t = allBelow shapeCount (λ k. soundRow (getD t (2 * k) 0) (getD t (2 * k + 1) 0))
 
 -- ---- what an answer tells: nothing where its size is 0
 

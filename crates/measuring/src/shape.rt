@@ -5,6 +5,7 @@ use super::record::octet_at;
 use super::record::timed;
 use super::record::untimed;
 use quick_items::octet;
+use quick_records::SLOTS;
 use quick_records::first_five;
 use quick_records::long;
 use quick_records::slot_of;
@@ -14,9 +15,9 @@ ghost use mathlib.Core.Bool.{true};
 ghost use Rattle.measuring.specs.Measure.{isUntimed, measureOf};
 ghost use Rattle.measuring.specs.Shape.{soundShapes, Told};
 
-pub type Shapes = [u64; 128];
+pub type Shapes = [u64; 2 * SLOTS];
 
-// 64 shapes, made by model/make.py, each where `quick_records::slot_of` looks for it: those of `quick_records` that have no item with FX bits, one list or
+// Shapes, made by model/make.py, each where `quick_records::slot_of` looks for it: those of `quick_records` that have no item with FX bits, one list or
 // led item at most, and no time after that. A shape has two words, with columns: the category, less 17; nothing; the octets of the FSPEC; the FSPEC, its
 // first octet lowest _ where in the record the time stands; the octets of the record without the parts of its list; where the list stands; the octets
 // of a part. A led item is a list of octets, its length octet among them. Where there is no time or no list, its columns are 0.

@@ -28,7 +28,7 @@ use Rattle.items.specs.Answers.{checkAt}
 use Rattle.tables.specs.Places.{frnAs}
 use Rattle.tables.specs.FieldRules.{singles}
 use Rattle.quick_items.specs.Item.{Plainly, allBelow}
-use Rattle.tables.specs.Tables.{layoutAt, layouts, groupAt, groups}
+use Rattle.tables.specs.Tables.{profileCount, frnCount, layoutAt, layouts, groupAt, groups}
 use Rattle.layouts.proofs.ReadLaws.{le-or-lt, octets-drop}
 use Rattle.quick_items.proofs.ItemLaws.{free-check, all-below, other}
 use Rattle.sets.specs.Sets.{categoryAt, setAt, within}
@@ -36,7 +36,7 @@ use Rattle.sets.specs.Steps.{typeFrn, rowAt, judgeSet}
 use Rattle.records.specs.Walk.{Came, passed, walk, startAt, recordBy}
 use Rattle.sets.specs.Answers.{setOf}
 use Rattle.records.specs.Answers.{recordAt}
-use Rattle.quick_records.specs.Record.{typeSets, isRow, soundRow, free, allFree, freeSum, soundSum, soundTypes, Content, Goes, Later, Walks, Passed, endAt}
+use Rattle.quick_records.specs.Record.{kindCount, rowCount, wayCount, typeSets, mustAt, mayAt, isRow, soundRow, free, allFree, freeSum, soundSum, soundTypes, Content, Goes, Later, Walks, Passed, endAt}
 use Rattle.sets.specs.declared.ItemSet.{ItemSet}
 use Rattle.sets.specs.declared.SetRead.{SetRead}
 use Rattle.sets.specs.declared.SetRead.the-variants as set
@@ -49,55 +49,51 @@ use Rattle.records.proofs.RecordLaws.{record-law, record-read, RecordRead}
 
 -- ---- the tables
 
-pub type-three : (i : ℕ) → i < 2 → 3 ≡ typeFrn i
+pub type-three : (i : ℕ) → i < profileCount → 3 ≡ typeFrn i
 unfolding typeFrn frnAs if_then_else_ categoryAt categories category017 category018
-type-three zero h = refl
-type-three (suc zero) h = refl
-type-three (suc (suc i)) h = absurd (omega arith)
+type-three i h =
+    let t : allBelow profileCount (λ j. eqb 3 (typeFrn j)) ≡ true = refl in
+    eqb-true 3 (typeFrn i) (all-below profileCount (λ j. eqb 3 (typeFrn j)) i t h)
 
-pub sets-long : length typeSets ≡ 72
-unfolding typeSets categoryAt categories category017 category018
-sets-long = refl
-
-module _ (ts : List ℕ) (i : ℕ) (s : soundTypes ts ≡ true) (h : i < 2) where
+module _ (ts : List ℕ) (i : ℕ) (s : soundTypes ts ≡ true) (h : i < profileCount) where
   abbrev rowsOf : ℕ → Bool
-  rowsOf t = soundRow i t (getD ts (i * 112 + t) 0)
+  rowsOf t = soundRow i t (getD ts (i * kindCount + t) 0)
 
   abbrev sumsOf : ℕ → Bool
-  sumsOf v = soundSum i v (getD ts (224 + i * 16 + v) 0)
+  sumsOf v = soundSum i v (getD ts (profileCount * kindCount + i * wayCount + v) 0)
 
-  sound-both : allBelow 112 rowsOf && allBelow 16 sumsOf ≡ true
+  sound-both : allBelow kindCount rowsOf && allBelow wayCount sumsOf ≡ true
   unfolding soundTypes
-  sound-both = all-below 2 (λ i. allBelow 112 (λ t. soundRow i t (getD ts (i * 112 + t) 0)) && allBelow 16 (λ v. soundSum i v (getD ts (224 + i * 16 + v) 0))) i s h
+  sound-both = all-below profileCount (λ i. allBelow kindCount (λ t. soundRow i t (getD ts (i * kindCount + t) 0)) && allBelow wayCount (λ v. soundSum i v (getD ts (profileCount * kindCount + i * wayCount + v) 0))) i s h
 
-  row-sound : (t r : ℕ) → t < 112 → getD ts (i * 112 + t) 0 ≡ r → (r ≡ 0 → ⊥) → ltb r 36 && isRow (rowAt i t) (getD typeSets (2 * r) 0) (getD typeSets (2 * r + 1) 0) ≡ true
+  row-sound : (t r : ℕ) → t < kindCount → getD ts (i * kindCount + t) 0 ≡ r → (r ≡ 0 → ⊥) → ltb r rowCount && isRow (rowAt i t) (mustAt i r) (mayAt i r) ≡ true
   row-sound t r k e n =
-      other (eqb r 0) _ (subst (λ x. soundRow i t x ≡ true) e (all-below 112 rowsOf t (both-left (allBelow 112 rowsOf) (allBelow 16 sumsOf) sound-both) k)) (λ q. n (eqb-true r 0 q))
+      other (eqb r 0) _ (subst (λ x. soundRow i t x ≡ true) e (all-below kindCount rowsOf t (both-left (allBelow kindCount rowsOf) (allBelow wayCount sumsOf) sound-both) k)) (λ q. n (eqb-true r 0 q))
 
-  pub row-few : (t r : ℕ) → t < 112 → getD ts (i * 112 + t) 0 ≡ r → (r ≡ 0 → ⊥) → r < 36
-  row-few t r k e n = ltb-true r 36 (both-left (ltb r 36) _ (row-sound t r k e n))
+  pub row-few : (t r : ℕ) → t < kindCount → getD ts (i * kindCount + t) 0 ≡ r → (r ≡ 0 → ⊥) → r < rowCount
+  row-few t r k e n = ltb-true r rowCount (both-left (ltb r rowCount) _ (row-sound t r k e n))
 
-  pub row-under : (t r : ℕ) → t < 112 → getD ts (i * 112 + t) 0 ≡ r → r < 36
+  pub row-under : (t r : ℕ) → t < kindCount → getD ts (i * kindCount + t) 0 ≡ r → r < rowCount
   row-under t r k e = ⊎-elim (λ (z : r ≤ 0). omega arith) (λ (p : 0 < r). row-few t r k e (λ z. omega arith)) (le-or-lt r 0)
 
   -- a row that the table has for a type
-  pub row-read : (t r : ℕ) → t < 112 → getD ts (i * 112 + t) 0 ≡ r → (r ≡ 0 → ⊥) → rowAt i t ≡ ok (getD typeSets (2 * r) 0, getD typeSets (2 * r + 1) 0)
+  pub row-read : (t r : ℕ) → t < kindCount → getD ts (i * kindCount + t) 0 ≡ r → (r ≡ 0 → ⊥) → rowAt i t ≡ ok (mustAt i r, mayAt i r)
   row-read t r k e n =
-      go (rowAt i t) (both-right (ltb r 36) _ (row-sound t r k e n))
+      go (rowAt i t) (both-right (ltb r rowCount) _ (row-sound t r k e n))
     where
-      go : (a : Answer (ℕ × ℕ)) → isRow a (getD typeSets (2 * r) 0) (getD typeSets (2 * r + 1) 0) ≡ true → a ≡ ok (getD typeSets (2 * r) 0, getD typeSets (2 * r + 1) 0)
+      go : (a : Answer (ℕ × ℕ)) → isRow a (mustAt i r) (mayAt i r) ≡ true → a ≡ ok (mustAt i r, mayAt i r)
       go (ok (a, b)) q =
-          ap₂ (λ x y. ok (x, y)) (eqb-true a (getD typeSets (2 * r) 0) (both-left _ _ q)) (eqb-true b (getD typeSets (2 * r + 1) 0) (both-right (eqb a (getD typeSets (2 * r) 0)) _ q))
+          ap₂ (λ x y. ok (x, y)) (eqb-true a (mustAt i r) (both-left _ _ q)) (eqb-true b (mayAt i r) (both-right (eqb a (mustAt i r)) _ q))
       go (refused n p) q = absurd (false≢true q)
 
-  pub sum-read : (v m : ℕ) → v < 16 → getD ts (224 + i * 16 + v) 0 ≡ m → (m ≡ 0 → ⊥) → (allFree i 4 (flags 4 v) ≡ true) × (m ≡ 5 + freeSum i 4 (flags 4 v))
+  pub sum-read : (v m : ℕ) → v < wayCount → getD ts (profileCount * kindCount + i * wayCount + v) 0 ≡ m → (m ≡ 0 → ⊥) → (allFree i 4 (flags 4 v) ≡ true) × (m ≡ 5 + freeSum i 4 (flags 4 v))
   sum-read v m k e n =
       let q : allFree i 4 (flags 4 v) && eqb m (5 + freeSum i 4 (flags 4 v)) ≡ true =
-      other (eqb m 0) _ (subst (λ x. soundSum i v x ≡ true) e (all-below 16 sumsOf v (both-right (allBelow 112 rowsOf) (allBelow 16 sumsOf) sound-both) k)) (λ q. n (eqb-true m 0 q)) in
+      other (eqb m 0) _ (subst (λ x. soundSum i v x ≡ true) e (all-below wayCount sumsOf v (both-right (allBelow kindCount rowsOf) (allBelow wayCount sumsOf) sound-both) k)) (λ q. n (eqb-true m 0 q)) in
       (both-left _ _ q, eqb-true m _ (both-right (allFree i 4 (flags 4 v)) _ q))
 
 -- the message type is content
-pub content : (i bits kind must may : ℕ) {a b : Bool} → i < 2 → bits / 2 ^ 60 ≡ 7 → rowAt i kind ≡ ok (must, may)
+pub content : (i bits kind must may : ℕ) {a b : Bool} → i < profileCount → bits / 2 ^ 60 ≡ 7 → rowAt i kind ≡ ok (must, may)
     → a ≡ within (flags 64 must) (flags 64 bits) → not a ≡ false → b ≡ within (flags 64 bits) (flags 64 may) → Content b (judgeSet i bits kind)
 content i bits kind must may {b = true} h e r g m k =
     let l : bits < 2 ^ 64 = omega arith in
@@ -137,7 +133,7 @@ unfolding walk
 none-here i f ts bs w = refl
 
 -- an item after the message type item leaves the type as it is
-pub kind-stays : (i f n : ℕ) (item : List ℕ) (w : Came) → i < 2 → 3 < f → passed i f n item w .kind ≡ w .kind
+pub kind-stays : (i f n : ℕ) (item : List ℕ) (w : Came) → i < profileCount → 3 < f → passed i f n item w .kind ≡ w .kind
 unfolding if_then_else_
 kind-stays i f n item w h k = rw (← type-three i h, ne-eqb f 3 (λ e. omega arith))
 
@@ -147,7 +143,7 @@ pub record Skipped (i f t : ℕ) (us : List Bool) (bs : List ℕ) (w : Came) (a 
   pub here : came .here ≡ w .here + t
   pub kind : came .kind ≡ w .kind
 
-skip-free : (i f : ℕ) (ts us : List Bool) (bs : List ℕ) (w : Came) → i < 2 → 3 < f → f + length ts ≤ 36 → Octets bs → allFree i f ts ≡ true → freeSum i f ts ≤ length bs
+skip-free : (i f : ℕ) (ts us : List Bool) (bs : List ℕ) (w : Came) → i < profileCount → 3 < f → f + length ts ≤ frnCount → Octets bs → allFree i f ts ≡ true → freeSum i f ts ≤ length bs
     → Skipped i (f + length ts) (freeSum i f ts) us bs w (walk i (ts ++ us) f bs w)
 skip-free i f [] us bs w h k l o a b = record { came = w; walks = ap (λ x. walk i us x bs w) (sym (add-zero f)); here = sym (add-zero (w .here)); kind = refl }
 skip-free i f (false ∷ ts) us bs w h k l o a b =
@@ -171,13 +167,18 @@ skip-free i f (true ∷ ts) us bs w h k l o a b =
 
 -- ---- the first three items: source, destination, message type
 
-free-one : (i : ℕ) → i < 2 → (free i 1 ≡ 2) × (free i 2 ≡ 2) × (free i 3 ≡ 1)
+free-one : (i : ℕ) → i < profileCount → (free i 1 ≡ 2) × (free i 2 ≡ 2) × (free i 3 ≡ 1)
 unfolding singles layoutAt layouts groupAt groups categories category017 category018
-free-one zero h = (refl, refl, refl)
-free-one (suc zero) h = (refl, refl, refl)
-free-one (suc (suc i)) h = absurd (omega arith)
+free-one i h =
+    let each : ℕ → Bool = λ j. eqb (free j 1) 2 && (eqb (free j 2) 2 && eqb (free j 3) 1) in
+    let all : allBelow profileCount each ≡ true = refl in
+    let t : each i ≡ true = all-below profileCount each i all h in
+    let b : Bool = eqb (free i 2) 2 in
+    let c : Bool = eqb (free i 3) 1 in
+    let u : b && c ≡ true = both-right (eqb (free i 1) 2) (b && c) t in
+    (eqb-true (free i 1) 2 (both-left (eqb (free i 1) 2) (b && c) t), eqb-true (free i 2) 2 (both-left b c u), eqb-true (free i 3) 1 (both-right b c u))
 
-module _ (i : ℕ) (us : List Bool) (bs : List ℕ) (k : ℕ) (h : i < 2) (o : Octets bs) (b : 5 ≤ length bs) where
+module _ (i : ℕ) (us : List Bool) (bs : List ℕ) (k : ℕ) (h : i < profileCount) (o : Octets bs) (b : 5 ≤ length bs) where
   abbrev pub third : Came
   third = passed i 3 1 (take 1 (drop 4 bs)) (passed i 2 2 (take 2 (drop 2 bs)) (passed i 1 2 (take 2 bs) (startAt k)))
 
@@ -256,7 +257,7 @@ pub record Standing (i bits : ℕ) (part : List ℕ) (left : ℕ) (rest : List �
   pub fewer : length rest ≤ length part
   pub onward : (w : Came) → Onward i bits part left rest w
 
-module _ (i bits : ℕ) (part : List ℕ) (h : i < 2) where
+module _ (i bits : ℕ) (part : List ℕ) (h : i < profileCount) where
   pub stand-first : bits < 2 ^ 60 → Standing i bits part bits part
   stand-first b = record { below = b; fewer = omega arith; onward = λ w. record { came = w; walks = refl; here = omega arith; kind = refl } }
 
@@ -308,7 +309,7 @@ pub later-within : (i bits : ℕ) (bs : List ℕ) (n : ℕ) → Later i bits bs 
 later-within i bits bs zero l z = absurd (z refl)
 later-within i bits bs (suc n) l z = omega (arith, l .0)
 
-module _ (i bits : ℕ) (part : List ℕ) (h : i < 2) (o : Octets part) (b : bits / 2 ^ 60 ≡ 7) where
+module _ (i bits : ℕ) (part : List ℕ) (h : i < profileCount) (o : Octets part) (b : bits / 2 ^ 60 ≡ 7) where
   bits-below : bits < 2 ^ (3 + 60)
   bits-below = omega arith
 
@@ -366,7 +367,7 @@ module _ (i bits : ℕ) (part : List ℕ) (h : i < 2) (o : Octets part) (b : bit
           kind = q .kind ∙ s .kind ∙ third-kind i (flags 60 (bits % 2 ^ 60)) part k h o five;
         }
 
-  pub pass-sum : (ts : List ℕ) (v n m : ℕ) → soundTypes ts ≡ true → v ≡ bits / 2 ^ 56 % 16 → n ≡ getD ts (224 + i * 16 + v) 0 → (n ≡ 0 → ⊥) → n ≤ length part
+  pub pass-sum : (ts : List ℕ) (v n m : ℕ) → soundTypes ts ≡ true → v ≡ bits / 2 ^ 56 % 16 → n ≡ getD ts (profileCount * kindCount + i * wayCount + v) 0 → (n ≡ 0 → ⊥) → n ≤ length part
       → Later i (bits % 2 ^ 56) (take (length part - n) (drop n part)) m → (m ≡ 0 → ⊥) → Passed i bits part (n + m - 1)
   pass-sum ts v n zero t ev en z l g y = absurd (y refl)
   pass-sum ts v zero (suc m) t ev en z l g y = absurd (z refl)

@@ -20,7 +20,7 @@ use Rattle.rules.proofs.AnswerLaws.{refused-ok, both-left, both-right, Octets}
 use Rattle.rules.proofs.PresenceLaws.{flags-length, flags-number, number-lt}
 use Rattle.tables.specs.declared.tables.LayoutRow.{LayoutRow}
 use Rattle.layouts.specs.Read.{wholeSize, rowSound}
-use Rattle.tables.specs.Tables.{layoutAt, placeRowAt}
+use Rattle.tables.specs.Tables.{profileCount, frnCount, layoutAt, placeRowAt}
 use Rattle.layouts.proofs.ReadLaws.{octets-drop}
 use Rattle.layouts.proofs.SoundLaws.{layout-sound}
 use Rattle.tables.proofs.TableLaws.{place-row}
@@ -33,8 +33,8 @@ use Rattle.sets.specs.declared.SetRead.the-variants as set
 use Rattle.sets.proofs.SetLaws.{set-law, octets-all, to-end}
 use Rattle.records.proofs.WalkLaws.{walk-none}
 use Rattle.quick_items.specs.Item.{Plainly, firstThree, asks, soundSingle, soundCounted, allBelow}
-use Rattle.quick_records.specs.Record.{typeSets, soundTypes, free, Content, Goes, Later, Walks, Passed, endAt}
-use Rattle.quick_records.specs.Shape.{lowNumber, lowOctets, usedOf, startOf, tailOf, profileOf, typesOf, wordOf, soundType, soundMask, isFree, runSum, runLeft, soundSpecial, soundFirst, soundThen, soundItems, shapeBy, bounded, soundShape, soundShapeAt, soundSets, Front, Fronts, Listed, OfType}
+use Rattle.quick_records.specs.Record.{kindCount, rowCount, typeSets, mustAt, mayAt, soundTypes, free, Content, Goes, Later, Walks, Passed, endAt}
+use Rattle.quick_records.specs.Shape.{shapeCount, setCount, lowNumber, lowOctets, usedOf, startOf, tailOf, profileOf, typesOf, wordOf, soundType, soundMask, isFree, runSum, runLeft, soundSpecial, soundFirst, soundThen, soundItems, shapeBy, bounded, soundShape, soundShapeAt, soundSets, Front, Fronts, Listed, OfType}
 use Rattle.quick_items.proofs.ItemLaws.{octet-at, cut, free-check, ruled-told, counted-told, told, all-below, other}
 use Rattle.quick_records.proofs.RecordLaws.{row-under, row-read, blank, one, none-here, kind-stays, Skipped, third, first-three, third-here, third-kind, seven, content, quick-whole}
 
@@ -102,21 +102,21 @@ fspec-told i n a word bs r o l m w e h =
 
 -- ---- the message type
 
-type-told : (i bits types kind r : ℕ) → i < 2 → bits / 2 ^ 60 ≡ 7 → soundMask bits types ≡ true → r < 36 → types / 2 ^ r % 2 ≡ 1
-    → ((r ≡ 0 → ⊥) → rowAt i kind ≡ ok (getD typeSets (2 * r) 0, getD typeSets (2 * r + 1) 0)) → Content true (judgeSet i bits kind)
+type-told : (i bits types kind r : ℕ) → i < profileCount → bits / 2 ^ 60 ≡ 7 → soundMask i bits types ≡ true → r < rowCount → types / 2 ^ r % 2 ≡ 1
+    → ((r ≡ 0 → ⊥) → rowAt i kind ≡ ok (mustAt i r, mayAt i r)) → Content true (judgeSet i bits kind)
 unfolding soundMask
 type-told i bits types kind r h e s l t is =
-    let none : types % 2 ≡ 0 = eqb-true _ _ (both-left (eqb (types % 2) 0) (allBelow 36 (soundType bits types)) s) in
+    let none : types % 2 ≡ 0 = eqb-true _ _ (both-left (eqb (types % 2) 0) (allBelow rowCount (soundType i bits types)) s) in
     let some : r ≡ 0 → ⊥ = λ z. (let q : types / 2 ^ 0 % 2 ≡ 1 = subst (λ x. types / 2 ^ x % 2 ≡ 1) z t in omega (arith, q, none)) in
-    let a = within (flags 64 (getD typeSets (2 * r) 0)) (flags 64 bits) in
-    let b = within (flags 64 bits) (flags 64 (getD typeSets (2 * r + 1) 0)) in
+    let a = within (flags 64 (mustAt i r)) (flags 64 bits) in
+    let b = within (flags 64 bits) (flags 64 (mayAt i r)) in
     let w : a && b ≡ true =
-    other (eqb (types / 2 ^ r % 2) 0) (a && b) (all-below 36 (soundType bits types) r (both-right (eqb (types % 2) 0) (allBelow 36 (soundType bits types)) s) l)
+    other (eqb (types / 2 ^ r % 2) 0) (a && b) (all-below rowCount (soundType i bits types) r (both-right (eqb (types % 2) 0) (allBelow rowCount (soundType i bits types)) s) l)
     (λ z. omega (arith, t, eqb-true (types / 2 ^ r % 2) 0 z)) in
-    content i bits kind (getD typeSets (2 * r) 0) (getD typeSets (2 * r + 1) 0) {a = true} {b = true} h e (is some) (sym (both-left a b w)) refl (sym (both-right a b w))
+    content i bits kind (mustAt i r) (mayAt i r) {a = true} {b = true} h e (is some) (sym (both-left a b w)) refl (sym (both-right a b w))
 
 -- by the bit of its row
-pub listed-told : (ts : List ℕ) (i kind types r : ℕ) (t : Bool) → soundTypes ts ≡ true → i < 2 → kind < 112 → r ≡ getD ts (i * 112 + kind) 0 → t ≡ eqb (types / 2 ^ r % 2) 1 → OfType t i types kind
+pub listed-told : (ts : List ℕ) (i kind types r : ℕ) (t : Bool) → soundTypes ts ≡ true → i < profileCount → kind < kindCount → r ≡ getD ts (i * kindCount + kind) 0 → t ≡ eqb (types / 2 ^ r % 2) 1 → OfType t i types kind
 listed-told ts i kind types r false s h k e q = tt
 listed-told ts i kind types r true s h k e q = record { row = r; few = row-under ts i s h kind r k (sym e); there = eqb-true _ _ (sym q); is = row-read ts i s h kind r k (sym e) }
 
@@ -149,29 +149,29 @@ front-told a w rule bs there fits least ex ey ez et k = record {
   kept = ap (asks rule (rule / 2 ^ 32)) (sym (three-at (startOf a) bs ex ey ez)) ∙ sym et ∙ k;
 }
 
-special-told : (i f w rule n : ℕ) (bs : List ℕ) → i < 2 → f < 36 → Octets bs → soundSpecial w rule (layoutAt (placeRowAt (i * 36 + f) .layout)) ≡ true → 1 ≤ length bs
+special-told : (i f w rule n : ℕ) (bs : List ℕ) → i < profileCount → f < frnCount → Octets bs → soundSpecial w rule (layoutAt (placeRowAt (i * frnCount + f) .layout)) ≡ true → 1 ≤ length bs
     → getD bs 0 0 < 256 → n ≡ w % 16 + getD bs 0 0 * (w / 16 % 16) → n ≤ length bs → w / 4_096 % 16 ≤ getD bs 0 0 → asks rule (rule / 2 ^ 32) (firstThree bs) ≡ true
     → checkAt i f bs ≡ ok n
 special-told i f w rule n bs h k o s long b e l least asked =
-    let lay : LayoutRow = layoutAt (placeRowAt (i * 36 + f) .layout) in
+    let lay : LayoutRow = layoutAt (placeRowAt (i * frnCount + f) .layout) in
     let min : Bool = ltb 0 (w % 16 + w / 4_096 % 16 * (w / 16 % 16)) in
     let more : w / 4_096 % 16 * (w / 16 % 16) ≤ getD bs 0 0 * (w / 16 % 16) = mul-le-mul-right (w / 16 % 16) least in
     let first : 0 < w % 16 + w / 4_096 % 16 * (w / 16 % 16) = ltb-true 0 _ (both-left min _ s) in
     let some : n ≡ 0 → ⊥ = λ z. omega (arith, first, more) in
-    let sound = layout-sound (placeRowAt (i * 36 + f) .layout) (place-row (i * 36 + f)) in
+    let sound = layout-sound (placeRowAt (i * frnCount + f) .layout) (place-row (i * frnCount + f)) in
     sym (check-place i f bs h k o) ∙ told n (wholeSize lay bs) (go sound (eqb (w / 256 % 16) 1) (both-right min _ s)) some
   where
-    go : rowSound (layoutAt (placeRowAt (i * 36 + f) .layout)) ≡ true → (t : Bool) → cond t (eqb (w / 16 % 16) 0 && soundSingle rule (rule / 2 ^ 32) w (layoutAt (placeRowAt (i * 36 + f) .layout))) (soundCounted w (layoutAt (placeRowAt (i * 36 + f) .layout))) ≡ true
-        → Plainly n (wholeSize (layoutAt (placeRowAt (i * 36 + f) .layout)) bs)
+    go : rowSound (layoutAt (placeRowAt (i * frnCount + f) .layout)) ≡ true → (t : Bool) → cond t (eqb (w / 16 % 16) 0 && soundSingle rule (rule / 2 ^ 32) w (layoutAt (placeRowAt (i * frnCount + f) .layout))) (soundCounted w (layoutAt (placeRowAt (i * frnCount + f) .layout))) ≡ true
+        → Plainly n (wholeSize (layoutAt (placeRowAt (i * frnCount + f) .layout)) bs)
     go sound true q =
         let z : w / 16 % 16 ≡ 0 = eqb-true _ _ (both-left (eqb (w / 16 % 16) 0) _ q) in
         let y : w % 16 + getD bs 0 0 * 0 ≡ w % 16 = omega arith in
         let m : n ≡ w % 16 = e ∙ ap (λ x. w % 16 + getD bs 0 0 * x) z ∙ y in
-        subst (λ x. Plainly x (wholeSize (layoutAt (placeRowAt (i * 36 + f) .layout)) bs)) (sym m)
-        (ruled-told (layoutAt (placeRowAt (i * 36 + f) .layout)) w bs sound o (omega (arith, m)) rule (rule / 2 ^ 32) (both-right (eqb (w / 16 % 16) 0) _ q) asked)
+        subst (λ x. Plainly x (wholeSize (layoutAt (placeRowAt (i * frnCount + f) .layout)) bs)) (sym m)
+        (ruled-told (layoutAt (placeRowAt (i * frnCount + f) .layout)) w bs sound o (omega (arith, m)) rule (rule / 2 ^ 32) (both-right (eqb (w / 16 % 16) 0) _ q) asked)
     go sound false q =
-        subst (λ x. Plainly x (wholeSize (layoutAt (placeRowAt (i * 36 + f) .layout)) bs)) (sym e)
-        (counted-told (layoutAt (placeRowAt (i * 36 + f) .layout)) w bs sound o long q refl b least (omega (arith, e)))
+        subst (λ x. Plainly x (wholeSize (layoutAt (placeRowAt (i * frnCount + f) .layout)) bs)) (sym e)
+        (counted-told (layoutAt (placeRowAt (i * frnCount + f) .layout)) w bs sound o long q refl b least (omega (arith, e)))
 
 -- ---- runs of free items
 
@@ -187,7 +187,7 @@ run-fewer i f (true ∷ ts) = go (isFree i f) (run-fewer i (f + 1) ts)
 abbrev Ran : ℕ → ℕ → List Bool → ℕ → List Bool → List ℕ → Came → Type 0
 Ran i f ts s us bs w = Skipped i (64 - length us) s us bs w (walk i ts f bs w)
 
-run-skip : (i f : ℕ) (ts : List Bool) (bs : List ℕ) (w : Came) → i < 2 → 3 < f → f + length ts ≡ 64 → Octets bs → runSum i f ts ≤ length bs → Ran i f ts (runSum i f ts) (runLeft i f ts) bs w
+run-skip : (i f : ℕ) (ts : List Bool) (bs : List ℕ) (w : Came) → i < profileCount → 3 < f → f + length ts ≡ 64 → Octets bs → runSum i f ts ≤ length bs → Ran i f ts (runSum i f ts) (runLeft i f ts) bs w
 run-skip i f [] bs w h k l o b =
     let e : f ≡ 64 - 0 = omega (arith, l) in
     record { came = w; walks = ap (λ x. walk i [] x bs w) e; here = sym (add-zero (w .here)); kind = refl }
@@ -204,8 +204,8 @@ run-skip i f (true ∷ ts) bs w h k l o b = go (isFree i f) refl b (λ v q. run-
         record { came = w; walks = ap (λ x. walk i (true ∷ ts) x bs w) m; here = sym (add-zero (w .here)); kind = refl }
     go true e q r =
         let n : ℕ = free i f in
-        let y : ltb 0 n && ltb n 8 ≡ true = both-right (ltb f 36) _ e in
-        let c : checkAt i f bs ≡ ok n = free-check i f n bs h (ltb-true f 36 (both-left (ltb f 36) _ e)) o refl (ltb-true 0 n (both-left _ _ y)) (ltb-true n 8 (both-right (ltb 0 n) _ y)) (omega (arith, q)) in
+        let y : ltb 0 n && ltb n 8 ≡ true = both-right (ltb f frnCount) _ e in
+        let c : checkAt i f bs ≡ ok n = free-check i f n bs h (ltb-true f frnCount (both-left (ltb f frnCount) _ e)) o refl (ltb-true 0 n (both-left _ _ y)) (ltb-true n 8 (both-right (ltb 0 n) _ y)) (omega (arith, q)) in
         let v : Came = passed i f n (take n bs) w in
         let s : Ran i (f + 1) ts (runSum i (f + 1) ts) (runLeft i (f + 1) ts) (drop n bs) v = r v (omega (arith, q, length-drop n bs)) in
         record {
@@ -217,7 +217,7 @@ run-skip i f (true ∷ ts) bs w h k l o b = go (isFree i f) refl b (λ v q. run-
 
 -- ---- the walk: how far it has come, the flags that are left
 
-module _ (i bits : ℕ) (items : List ℕ) (h : i < 2) (o : Octets items) where
+module _ (i bits : ℕ) (items : List ℕ) (h : i < profileCount) (o : Octets items) where
   record Reached (us : List Bool) (n k : ℕ) : Type 0 where
     came : Came
     few : length us ≤ 60
@@ -293,7 +293,7 @@ later-none i bs = (omega arith, λ w. record { came = w; walks = walk-none i 60 
 
 -- ---- the items, by a row of the table
 
-module _ (i a b rule left n m bits : ℕ) (bs : List ℕ) (h : i < 2) (o : Octets bs) (top : bits / 2 ^ 60 ≡ 7) (front : Front a (wordOf b) rule bs n) (rest : Later i left (drop n bs) (suc m)) where
+module _ (i a b rule left n m bits : ℕ) (bs : List ℕ) (h : i < profileCount) (o : Octets bs) (top : bits / 2 ^ 60 ≡ 7) (front : Front a (wordOf b) rule bs n) (rest : Later i left (drop n bs) (suc m)) where
   abbrev items : List ℕ
   items = drop (usedOf a) bs
 
@@ -344,15 +344,15 @@ module _ (i a b rule left n m bits : ℕ) (bs : List ℕ) (h : i < 2) (o : Octet
       let w : ℕ = wordOf b in
       let head : ℕ = getD bs (startOf a) 0 in
       let x : ℕ = w % 16 + head * (w / 16 % 16) in
-      let p = ltb f 36 in
+      let p = ltb f frnCount in
       let q = eqb (startOf a) (usedOf a + 5 + s) in
-      let r = soundSpecial w rule (layoutAt (placeRowAt (i * 36 + f) .layout)) in
+      let r = soundSpecial w rule (layoutAt (placeRowAt (i * frnCount + f) .layout)) in
       let u = eqb (tailOf a) (runSum i g vs) in
       let v = eqb left (number (runLeft i g vs)) in
       let t₁ : p && q && r && u ≡ true = both-left (p && q && r && u) v t in
       let t₂ : p && q && r ≡ true = both-left (p && q && r) u t₁ in
       let t₃ : p && q ≡ true = both-left (p && q) r t₂ in
-      let few : f < 36 = ltb-true f 36 (both-left p q t₃) in
+      let few : f < frnCount = ltb-true f frnCount (both-left p q t₃) in
       let e₁ : startOf a ≡ usedOf a + 5 + s = eqb-true _ _ (both-right p q t₃) in
       let e₂ : tailOf a ≡ runSum i g vs = eqb-true _ _ (both-right (p && q && r) u t₁) in
       let e₃ : left ≡ number (runLeft i g vs) = eqb-true _ _ (both-right (p && q && r && u) v t) in
@@ -404,11 +404,11 @@ module _ (a b rule left : ℕ) (s : soundShape a b rule left ≡ true) where
   unfolding soundShape
   by-set = both-right (bounded a left) (shapeBy (profileOf a) a b rule left read) s
 
-  pub shape-known : profileOf a < 2
-  shape-known = ltb-true (profileOf a) 2 (both-left (ltb (profileOf a) 2) _ in-bounds)
+  pub shape-known : profileOf a < profileCount
+  shape-known = ltb-true (profileOf a) profileCount (both-left (ltb (profileOf a) profileCount) _ in-bounds)
 
   in-octets : ltb 0 (usedOf a) && (leb (usedOf a) 5 && (ltb left (2 ^ 60) && leb (usedOf a + 5) (startOf a + tailOf a))) ≡ true
-  in-octets = both-right (ltb (profileOf a) 2) _ in-bounds
+  in-octets = both-right (ltb (profileOf a) profileCount) _ in-bounds
 
   pub shape-some : 0 < usedOf a
   shape-some = ltb-true 0 (usedOf a) (both-left (ltb 0 (usedOf a)) _ in-octets)
@@ -442,7 +442,7 @@ module _ (a b rule left : ℕ) (s : soundShape a b rule left ≡ true) where
             let i : ℕ = profileOf a in
             let p = eqb used (usedOf a) in
             let q = eqb (bits / 2 ^ 60) 7 in
-            let r = soundMask bits (typesOf b) in
+            let r = soundMask i bits (typesOf b) in
             let u = soundItems i a b rule left (flags 60 (bits % 2 ^ 60)) in
             let y₁ : p && q && r ≡ true = both-left (p && q && r) u y in
             let y₂ : p && q ≡ true = both-left (p && q) r y₁ in
@@ -479,14 +479,14 @@ module _ (t : List ℕ) (s : soundSets t ≡ true) where
   sameSet k = eqb (getD t k 0) (getD typeSets k 0)
 
   abbrev shapeIn : ℕ → Bool
-  shapeIn k = soundShapeAt t (72 + 4 * k)
+  shapeIn k = soundShapeAt t (setCount + 4 * k)
 
   -- what message types must and may have
-  pub sets-read : (k : ℕ) → k < 72 → getD t k 0 ≡ getD typeSets k 0
+  pub sets-read : (k : ℕ) → k < setCount → getD t k 0 ≡ getD typeSets k 0
   unfolding soundSets
-  sets-read k l = eqb-true _ _ (all-below 72 sameSet k (both-left (allBelow 72 sameSet) (allBelow 64 shapeIn) s) l)
+  sets-read k l = eqb-true _ _ (all-below setCount sameSet k (both-left (allBelow setCount sameSet) (allBelow shapeCount shapeIn) s) l)
 
-  pub shape-read : (k : ℕ) {a b rule left : ℕ} → k < 64 → a ≡ getD t (72 + 4 * k) 0 → b ≡ getD t (72 + 4 * k + 1) 0 → rule ≡ getD t (72 + 4 * k + 2) 0 → left ≡ getD t (72 + 4 * k + 3) 0
+  pub shape-read : (k : ℕ) {a b rule left : ℕ} → k < shapeCount → a ≡ getD t (setCount + 4 * k) 0 → b ≡ getD t (setCount + 4 * k + 1) 0 → rule ≡ getD t (setCount + 4 * k + 2) 0 → left ≡ getD t (setCount + 4 * k + 3) 0
       → soundShape a b rule left ≡ true
   unfolding soundSets
-  shape-read k l ea eb er el = rw (ea, eb, er, el) (all-below 64 shapeIn k (both-right (allBelow 72 sameSet) (allBelow 64 shapeIn) s) l)
+  shape-read k l ea eb er el = rw (ea, eb, er, el) (all-below shapeCount shapeIn k (both-right (allBelow setCount sameSet) (allBelow shapeCount shapeIn) s) l)

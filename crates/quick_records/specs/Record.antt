@@ -4,10 +4,14 @@ use mathlib.Core.Path.{_≡_}
 use mathlib.Core.Bool.{Bool, true, false, _&&_, _||_}
 use mathlib.Core.List.{List, [], _∷_, _++_, map}
 use lib.Dec.{ltb, eqb}
-use lib.ListN.{length, getD}
+use lib.ListN.{length, getD, replicate}
 use Rattle.rules.specs.Answer.{Answer, ok, refused, _>>=_}
 use Rattle.rules.specs.Layout.{flatten}
 use Rattle.rules.specs.Presence.{flags}
+use Rattle.rules.specs.Record.{Category}
+use Rattle.rules.specs.Catalogue.{categories}
+use Rattle.rules.specs.Entry.{over}
+use Rattle.tables.specs.Tables.{profileCount, frnCount}
 use Rattle.tables.specs.FieldRules.{singles}
 use Rattle.sets.specs.Steps.{markBits, rowAt}
 use Rattle.records.specs.Walk.{Came, walk, startAt}
@@ -17,23 +21,49 @@ use Rattle.quick_items.specs.Item.{allBelow}
 
 -- ---- the tables
 
--- what each message type must have, and must or may have, after a row that is no type's
+-- how many message types a profile has a place for, by number; how many rows, one for each type after one that is no type's; how many ways FRN 4 to 7 can
+-- be there or not
+-- ---- made by model/make.py: kindCount, rowCount
+abbrev pub kindCount : ℕ
+kindCount = 112
+
+abbrev pub rowCount : ℕ
+rowCount = 24
+
+-- ---- end of what is made
+
+abbrev pub wayCount : ℕ
+wayCount = 16
+
+-- what each message type of a profile must have, and must or may have
 abbrev pub setsIn : ℕ → List ℕ
 setsIn i = flatten (map (λ m. markBits i (m .compulsory) ∷ markBits i (m .compulsory ++ m .optional) ∷ []) (categoryAt i .messages))
 
+-- the rows of the profiles, the first one's index given
+abbrev pub setsFrom : ℕ → List Category → List ℕ
+setsFrom i [] = []
+setsFrom i (c ∷ cs) = over (0 ∷ 0 ∷ setsIn i) (replicate (2 * rowCount) 0) ++ setsFrom (i + 1) cs
+
 unfoldable pub typeSets : List ℕ
-typeSets = 0 ∷ 0 ∷ (setsIn 0 ++ setsIn 1)
+typeSets = setsFrom 0 categories
+
+-- what the row of a profile has
+abbrev pub mustAt : ℕ → ℕ → ℕ
+mustAt i r = getD typeSets (2 * (i * rowCount + r)) 0
+
+abbrev pub mayAt : ℕ → ℕ → ℕ
+mayAt i r = getD typeSets (2 * (i * rowCount + r) + 1) 0
 
 abbrev pub isRow : Answer (ℕ × ℕ) → ℕ → ℕ → Bool
 isRow (ok x) must may = eqb (x .0) must && eqb (x .1) may
 isRow (refused n p) must may = false
 
 abbrev pub soundRow : ℕ → ℕ → ℕ → Bool
-soundRow i t r = eqb r 0 || (ltb r 36 && isRow (rowAt i t) (getD typeSets (2 * r) 0) (getD typeSets (2 * r + 1) 0))
+soundRow i t r = eqb r 0 || (ltb r rowCount && isRow (rowAt i t) (mustAt i r) (mayAt i r))
 
 -- the octets of a free item of one part, 0 for any other
 abbrev pub free : ℕ → ℕ → ℕ
-free i f = getD singles (i * 36 + f) 0
+free i f = getD singles (i * frnCount + f) 0
 
 -- the items that flags name are free, the first flag's FRN given; and how many octets they take
 abbrev pub allFree : ℕ → ℕ → List Bool → Bool
@@ -51,7 +81,9 @@ abbrev pub soundSum : ℕ → ℕ → ℕ → Bool
 soundSum i v s = eqb s 0 || (allFree i 4 (flags 4 v) && eqb s (5 + freeSum i 4 (flags 4 v)))
 
 unfoldable pub soundTypes : List ℕ → Bool
-soundTypes ts = allBelow 2 (λ i. allBelow 112 (λ t. soundRow i t (getD ts (i * 112 + t) 0)) && allBelow 16 (λ v. soundSum i v (getD ts (224 + i * 16 + v) 0)))
+soundTypes ts =
+    allBelow profileCount (λ i.
+    allBelow kindCount (λ t. soundRow i t (getD ts (i * kindCount + t) 0)) && allBelow wayCount (λ v. soundSum i v (getD ts (profileCount * kindCount + i * wayCount + v) 0)))
 
 -- ---- what the answers tell
 

@@ -9,11 +9,11 @@ use lib.ListN.{length, drop, getD}
 use Rattle.rules.specs.Answer.{Answer, ok, refused}
 use Rattle.rules.specs.Presence.{flags, number}
 use Rattle.tables.specs.declared.tables.LayoutRow.{LayoutRow}
-use Rattle.tables.specs.Tables.{layoutAt, placeRowAt}
+use Rattle.tables.specs.Tables.{profileCount, frnCount, layoutAt, placeRowAt}
 use Rattle.sets.specs.Sets.{categoryAt, within}
 use Rattle.sets.specs.Steps.{setFrom, rowAt}
 use Rattle.quick_items.specs.Item.{firstThree, asks, soundSingle, soundCounted, allBelow}
-use Rattle.quick_records.specs.Record.{typeSets, free}
+use Rattle.quick_records.specs.Record.{rowCount, typeSets, mustAt, mayAt, free}
 
 -- ---- octets as a number, the first one lowest
 
@@ -46,19 +46,18 @@ typesOf k = k % 2 ^ 40
 abbrev pub wordOf : ℕ → ℕ
 wordOf k = k / 2 ^ 40
 
--- ---- the message types, by the bits of their rows
+-- ---- the message types, by the bits of their rows in the profile
 
-abbrev pub soundType : ℕ → ℕ → ℕ → Bool
-soundType bits types r =
-    eqb (types / 2 ^ r % 2) 0 || (within (flags 64 (getD typeSets (2 * r) 0)) (flags 64 bits) && within (flags 64 bits) (flags 64 (getD typeSets (2 * r + 1) 0)))
+abbrev pub soundType : ℕ → ℕ → ℕ → ℕ → Bool
+soundType i bits types r = eqb (types / 2 ^ r % 2) 0 || (within (flags 64 (mustAt i r)) (flags 64 bits) && within (flags 64 bits) (flags 64 (mayAt i r)))
 
-unfoldable pub soundMask : ℕ → ℕ → Bool
-soundMask bits types = eqb (types % 2) 0 && allBelow 36 (soundType bits types)
+unfoldable pub soundMask : ℕ → ℕ → ℕ → Bool
+soundMask i bits types = eqb (types % 2) 0 && allBelow rowCount (soundType i bits types)
 
 -- ---- the items: free ones first, then one with a rule or a count, and free ones again
 
 abbrev pub isFree : ℕ → ℕ → Bool
-isFree i f = ltb f 36 && (ltb 0 (free i f) && ltb (free i f) 8)
+isFree i f = ltb f frnCount && (ltb 0 (free i f) && ltb (free i f) 8)
 
 -- how many octets the free items at the front take, the first flag's FRN given; and the flags from the first other item on
 abbrev pub runSum : ℕ → ℕ → List Bool → ℕ
@@ -85,7 +84,7 @@ abbrev pub soundThen : ℕ → ℕ → ℕ → ℕ → ℕ → ℕ → List Bool
 soundThen i a b rule left s [] = false
 soundThen i a b rule left s (false ∷ vs) = false
 soundThen i a b rule left s (true ∷ vs) =
-    ltb (63 - length vs) 36 && eqb (startOf a) (usedOf a + 5 + s) && soundSpecial (wordOf b) rule (layoutAt (placeRowAt (i * 36 + (63 - length vs)) .layout))
+    ltb (63 - length vs) frnCount && eqb (startOf a) (usedOf a + 5 + s) && soundSpecial (wordOf b) rule (layoutAt (placeRowAt (i * frnCount + (63 - length vs)) .layout))
     && eqb (tailOf a) (runSum i (64 - length vs) vs) && eqb left (number (runLeft i (64 - length vs) vs))
 
 abbrev pub soundItems : ℕ → ℕ → ℕ → ℕ → ℕ → List Bool → Bool
@@ -95,24 +94,30 @@ soundItems i a b rule left ts = soundFirst i a b left (runSum i 4 ts) (runLeft i
 
 abbrev pub shapeBy : ℕ → ℕ → ℕ → ℕ → ℕ → Answer (ℕ × ℕ) → Bool
 shapeBy i a b rule left (ok (bits, used)) =
-    eqb used (usedOf a) && eqb (bits / 2 ^ 60) 7 && soundMask bits (typesOf b) && soundItems i a b rule left (flags 60 (bits % 2 ^ 60))
+    eqb used (usedOf a) && eqb (bits / 2 ^ 60) 7 && soundMask i bits (typesOf b) && soundItems i a b rule left (flags 60 (bits % 2 ^ 60))
 shapeBy i a b rule left (refused n p) = false
 
 abbrev pub bounded : ℕ → ℕ → Bool
-bounded a left = ltb (profileOf a) 2 && (ltb 0 (usedOf a) && (leb (usedOf a) 5 && (ltb left (2 ^ 60) && leb (usedOf a + 5) (startOf a + tailOf a))))
+bounded a left = ltb (profileOf a) profileCount && (ltb 0 (usedOf a) && (leb (usedOf a) 5 && (ltb left (2 ^ 60) && leb (usedOf a + 5) (startOf a + tailOf a))))
 
 unfoldable pub soundShape : ℕ → ℕ → ℕ → ℕ → Bool
 soundShape a b rule left =
     bounded a left
     && shapeBy (profileOf a) a b rule left (setFrom (profileOf a) (length (categoryAt (profileOf a) .profile)) (lowOctets (usedOf a) a) 0 0)
 
--- ---- the table: what message types must and may have, then 64 shapes
+-- ---- the table: what message types must and may have, then shapes
+
+abbrev pub shapeCount : ℕ
+shapeCount = 64
+
+abbrev pub setCount : ℕ
+setCount = profileCount * (2 * rowCount)
 
 abbrev pub soundShapeAt : List ℕ → ℕ → Bool
 soundShapeAt t at = soundShape (getD t at 0) (getD t (at + 1) 0) (getD t (at + 2) 0) (getD t (at + 3) 0)
 
 unfoldable pub soundSets : List ℕ → Bool
-soundSets t = allBelow 72 (λ k. eqb (getD t k 0) (getD typeSets k 0)) && allBelow 64 (λ k. soundShapeAt t (72 + 4 * k))
+soundSets t = allBelow setCount (λ k. eqb (getD t k 0) (getD typeSets k 0)) && allBelow shapeCount (λ k. soundShapeAt t (setCount + 4 * k))
 
 -- ---- what the answers tell
 
@@ -132,9 +137,9 @@ Fronts a w rule bs (suc n) = Front a w rule bs (suc n)
 -- the row of a message type is among some, given by bits
 pub record Listed (i types kind : ℕ) : Type 0 where
   pub row : ℕ
-  pub few : row < 36
+  pub few : row < rowCount
   pub there : types / 2 ^ row % 2 ≡ 1
-  pub is : (row ≡ 0 → ⊥) → rowAt i kind ≡ ok (getD typeSets (2 * row) 0, getD typeSets (2 * row + 1) 0)
+  pub is : (row ≡ 0 → ⊥) → rowAt i kind ≡ ok (mustAt i row, mayAt i row)
 
 abbrev pub OfType : Bool → ℕ → ℕ → ℕ → Type 0
 OfType false i types kind = Unit {0}

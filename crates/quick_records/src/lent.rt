@@ -1,16 +1,32 @@
 // The tables that are lent: message types and what they ask for, the octets of the first items, shapes.
+use tables::PROFILES;
 ghost use mathlib.Core.Path.{_≡_};
 ghost use mathlib.Core.Bool.{true};
 ghost use Rattle.quick_records.specs.Record.{soundTypes};
 ghost use Rattle.quick_records.specs.Shape.{soundSets};
 
-// ---- made by model/make.py: Types, Sets
-pub type Types = [u8; 256];
+// How many message types each profile has a place for, by number; how many rows, one for each type after one that is no type's; how many ways FRN 4 to 7
+// can be there or not; how many shapes there are.
+// ---- made by model/make.py: KINDS, ROWS
+pub const KINDS: usize = 112;
 
-pub type Sets = [u64; 328];
+pub const ROWS: usize = 24;
 // ---- end of what is made
 
-// Message types, and the octets of the first items. A type's row, 0 where it is unknown, by profile and type, of which no known one is above 111; then, by
+const WAYS: usize = 16;
+
+pub const SLOTS: usize = 64;
+
+// Where the ways start in the one table, and the shapes in the other.
+pub const FIRST_WAY: usize = PROFILES * KINDS;
+
+pub const FIRST_SHAPE: usize = PROFILES * 2 * ROWS;
+
+pub type Types = [u8; FIRST_WAY + PROFILES * WAYS];
+
+pub type Sets = [u64; FIRST_SHAPE + 4 * SLOTS];
+
+// Message types, and the octets of the first items. A type's row in its profile, 0 where it is unknown, by profile and type; then, by
 // profile and the presence bits of FRN 4 to 7, the octets of FRN 1 to 7 where FRN 1 to 3 are there and all are free and fixed, else 0.
 // ---- made by model/make.py: TYPES
 const TYPES: Types = [
@@ -126,12 +142,12 @@ const TYPES: Types = [
     0,
     11, // I017/000  5.2.1  110  Move node to new cluster state
     12, // I017/000  5.2.1  111  Move node to new cluster state acknowledgement
-    13, // I018/000  5.2.1  0x00  Associate_req
-    14, // I018/000  5.2.1  0x01  Associate_resp
-    15, // I018/000  5.2.1  0x02  Release_req
-    16, // I018/000  5.2.1  0x03  Release_resp
-    17, // I018/000  5.2.1  0x04  Abort_req
-    18, // I018/000  5.2.1  0x05  Keep_alive
+    1, // I018/000  5.2.1  0x00  Associate_req
+    2, // I018/000  5.2.1  0x01  Associate_resp
+    3, // I018/000  5.2.1  0x02  Release_req
+    4, // I018/000  5.2.1  0x03  Release_resp
+    5, // I018/000  5.2.1  0x04  Abort_req
+    6, // I018/000  5.2.1  0x05  Keep_alive
     0,
     0,
     0,
@@ -142,43 +158,9 @@ const TYPES: Types = [
     0,
     0,
     0,
-    19, // I018/000  5.2.1  0x10  Aircraft_report
-    20, // I018/000  5.2.1  0x11  Aircraft_command
-    21, // I018/000  5.2.1  0x12  II_code_change
-    0,
-    0,
-    0,
-    0,
-    0,
-    0,
-    0,
-    0,
-    0,
-    0,
-    0,
-    0,
-    0,
-    22, // I018/000  5.2.1  0x20  Uplink_packet
-    23, // I018/000  5.2.1  0x21  Cancel_uplink_packet
-    24, // I018/000  5.2.1  0x22  Uplink_packet_ack
-    25, // I018/000  5.2.1  0x23  Downlink_packet
-    0,
-    0,
-    26, // I018/000  5.2.1  0x26  Data_XON
-    27, // I018/000  5.2.1  0x27  Data_XOFF
-    0,
-    0,
-    0,
-    0,
-    0,
-    0,
-    0,
-    0,
-    28, // I018/000  5.2.1  0x30  Uplink_broadcast
-    29, // I018/000  5.2.1  0x31  Cancel_uplink_broadcast
-    30, // I018/000  5.2.1  0x32  Uplink_broadcast_ack
-    0,
-    31, // I018/000  5.2.1  0x34  Downlink_broadcast
+    7, // I018/000  5.2.1  0x10  Aircraft_report
+    8, // I018/000  5.2.1  0x11  Aircraft_command
+    9, // I018/000  5.2.1  0x12  II_code_change
     0,
     0,
     0,
@@ -190,10 +172,44 @@ const TYPES: Types = [
     0,
     0,
     0,
-    32, // I018/000  5.2.1  0x40  GICB_extraction
-    33, // I018/000  5.2.1  0x41  Cancel_GICB_extraction
-    34, // I018/000  5.2.1  0x42  GICB_extraction_ack
-    35, // I018/000  5.2.1  0x43  GICB_response
+    0,
+    0,
+    10, // I018/000  5.2.1  0x20  Uplink_packet
+    11, // I018/000  5.2.1  0x21  Cancel_uplink_packet
+    12, // I018/000  5.2.1  0x22  Uplink_packet_ack
+    13, // I018/000  5.2.1  0x23  Downlink_packet
+    0,
+    0,
+    14, // I018/000  5.2.1  0x26  Data_XON
+    15, // I018/000  5.2.1  0x27  Data_XOFF
+    0,
+    0,
+    0,
+    0,
+    0,
+    0,
+    0,
+    0,
+    16, // I018/000  5.2.1  0x30  Uplink_broadcast
+    17, // I018/000  5.2.1  0x31  Cancel_uplink_broadcast
+    18, // I018/000  5.2.1  0x32  Uplink_broadcast_ack
+    0,
+    19, // I018/000  5.2.1  0x34  Downlink_broadcast
+    0,
+    0,
+    0,
+    0,
+    0,
+    0,
+    0,
+    0,
+    0,
+    0,
+    0,
+    20, // I018/000  5.2.1  0x40  GICB_extraction
+    21, // I018/000  5.2.1  0x41  Cancel_GICB_extraction
+    22, // I018/000  5.2.1  0x42  GICB_extraction_ack
+    23, // I018/000  5.2.1  0x43  GICB_response
     0,
     0,
     0,
@@ -273,15 +289,16 @@ const TYPES: Types = [
 ];
 // ---- end of what is made
 
-// Rows of message types: what the type must have; what it must or may have. The first row is no type's.
+// Rows of message types, by profile: what the type must have; what it must or may have. The first row is no type's. They say what those of `sets` say, by
+// whose row a record is judged exactly; here they are lent, and found with no search.
 //
-// Then 64 shapes, made by model/make.py, each where `slot_of` looks for it: FSPECs that are legal for some message type, all but those of Aircraft_report, with what follows
+// Then shapes, made by model/make.py, each where `slot_of` looks for it: FSPECs that are legal for some message type, all but those of Aircraft_report, with what follows
 // from them. A shape has four words, with columns, the right one first: the FSPEC, its first octet lowest; its octets; where in the record the item
 // stands that is looked into; how many octets the free items after it take; the category, less 17 _ the message types, bit n for row n; the item's word,
 // as in `quick_items::steps` _ the item's rule, as there _ the items that are left then. Where no item is looked into, the place is that of FRN 1, the word 0, the rule any bits.
 // ---- made by model/make.py: SETS
 const SETS: Sets = [
-    0,
+    0, // category 017: no message type
     0,
     0x7800_0000_0000_0000, // I017/000 type 0  Network information
     0x7800_0000_0000_0000,
@@ -307,6 +324,30 @@ const SETS: Sets = [
     0x7001_0000_0000_0000,
     0x7001_0000_0000_0000, // I017/000 type 111  Move node to new cluster state acknowledgement
     0x7001_0000_0000_0000,
+    0, // category 017: no more
+    0,
+    0,
+    0,
+    0,
+    0,
+    0,
+    0,
+    0,
+    0,
+    0,
+    0,
+    0,
+    0,
+    0,
+    0,
+    0,
+    0,
+    0,
+    0,
+    0,
+    0,
+    0, // category 018: no message type
+    0,
     0x7000_0000_0000_0000, // I018/000 type 0x00  Associate_req
     0x7000_0008_0000_0000,
     0x7800_0000_0000_0000, // I018/000 type 0x01  Associate_resp
@@ -354,71 +395,71 @@ const SETS: Sets = [
     0x7C0D_0000_0000_0000, // I018/000 type 0x43  GICB_response
     0x7C0F_0000_0000_0000,
     0x1_05_01_1_00000000E0, // no shape: category 018, FSPEC E0 again
-    0x0000_002006A000,
+    0x0000_000002006A,
     0x28_FFFFFF_00_000000,
     0,
     0x1_05_01_1_00000000E0, // no shape: category 018, FSPEC E0 again
-    0x0000_002006A000,
+    0x0000_000002006A,
     0x28_FFFFFF_00_000000,
     0,
     0x1_05_01_1_00000000E0, // no shape: category 018, FSPEC E0 again
-    0x0000_002006A000,
+    0x0000_000002006A,
     0x28_FFFFFF_00_000000,
     0,
     0x1_07_13_4_003C0101E1, // category 018, FSPEC E1 01 01 3C: type 0x30
-    0x0104_0010000000,
+    0x0104_0000010000,
     0x3B_000000_13_000000,
     0,
     0x1_00_10_3_0000800DE9, // category 018, FSPEC E9 0D 80: type 0x40
-    0x0103_0100000000,
+    0x0103_0000100000,
     0x28_A8BFFF_00_000000,
     0,
     0x1_00_0D_5_02012901E9, // category 018, FSPEC E9 01 29 01 02: type 0x11
-    0x0101_0000100000,
+    0x0101_0000000100,
     0x3C_000000_10_000000,
     0x0000_1000_1000_0000,
     0x1_0A_03_3_0000803DE9, // category 018, FSPEC E9 3D 80: type 0x40
-    0x0000_0100000000,
+    0x0000_0000100000,
     0x28_FFFFFF_00_000000,
     0x001D_0000_0000_0000,
     0x1_07_04_4_00020101F1, // category 018, FSPEC F1 01 01 02: type 0x01
-    0x0000_0000004000,
+    0x0000_0000000004,
     0x28_FFFFFF_00_000000,
     0,
     0x1_0D_02_2_0000000CE9, // category 018, FSPEC E9 0C: type 0x40
-    0x0000_0100000000,
+    0x0000_0000100000,
     0x28_FFFFFF_00_000000,
     0,
     0x1_0A_02_2_0000003CE9, // category 018, FSPEC E9 3C: type 0x40
-    0x0000_0100000000,
+    0x0000_0000100000,
     0x28_FFFFFF_00_000000,
     0x001C_0000_0000_0000,
     0x1_05_01_1_00000000E0, // no shape: category 018, FSPEC E0 again
-    0x0000_002006A000,
+    0x0000_000002006A,
     0x28_FFFFFF_00_000000,
     0,
     0x1_0A_04_4_00200101F1, // category 018, FSPEC F1 01 01 20: type 0x32
-    0x0000_0040000000,
+    0x0000_0000040000,
     0x28_FFFFFF_00_000000,
     0,
     0x1_05_01_1_00000000E0, // no shape: category 018, FSPEC E0 again
-    0x0000_002006A000,
+    0x0000_000002006A,
     0x28_FFFFFF_00_000000,
     0,
     0x1_05_01_1_00000000E0, // no shape: category 018, FSPEC E0 again
-    0x0000_002006A000,
+    0x0000_000002006A,
     0x28_FFFFFF_00_000000,
     0,
     0x1_00_18_3_0000800FF9, // category 018, FSPEC F9 0F 80: type 0x43
-    0x0103_0800000000,
+    0x0103_0000800000,
     0x28_A8BFFF_00_000000,
     0,
     0x1_00_0B_2_00000040F9, // category 018, FSPEC F9 40: type 0x23
-    0x3210_0002000000,
+    0x3210_0000002000,
     0x28_FFFFFF_00_000000,
     0,
     0x1_05_01_1_00000000E0, // no shape: category 018, FSPEC E0 again
-    0x0000_002006A000,
+    0x0000_000002006A,
     0x28_FFFFFF_00_000000,
     0,
     0x0_00_0A_2_000000FCEB, // category 017, FSPEC EB FC: type 10
@@ -426,15 +467,15 @@ const SETS: Sets = [
     0x28_A8BFFF_00_000000,
     0x00FC_0000_0000_0000,
     0x1_0C_02_2_00000008E9, // category 018, FSPEC E9 08: type 0x41
-    0x0000_0200000000,
+    0x0000_0000200000,
     0x28_FFFFFF_00_000000,
     0,
     0x1_05_01_1_00000000E0, // no shape: category 018, FSPEC E0 again
-    0x0000_002006A000,
+    0x0000_000002006A,
     0x28_FFFFFF_00_000000,
     0,
     0x1_00_11_3_0000800DF9, // category 018, FSPEC F9 0D 80: type 0x43
-    0x0103_0800000000,
+    0x0103_0000800000,
     0x28_A8BFFF_00_000000,
     0,
     0x0_00_0C_2_000000FCEF, // category 017, FSPEC EF FC: type 10
@@ -442,15 +483,15 @@ const SETS: Sets = [
     0x28_A8BFFF_00_000000,
     0x00FC_0000_0000_0000,
     0x1_05_01_1_00000000E0, // no shape: category 018, FSPEC E0 again
-    0x0000_002006A000,
+    0x0000_000002006A,
     0x28_FFFFFF_00_000000,
     0,
     0x1_05_01_1_00000000E0, // no shape: category 018, FSPEC E0 again
-    0x0000_002006A000,
+    0x0000_000002006A,
     0x28_FFFFFF_00_000000,
     0,
     0x1_05_01_1_00000000E0, // no shape: category 018, FSPEC E0 again
-    0x0000_002006A000,
+    0x0000_000002006A,
     0x28_FFFFFF_00_000000,
     0,
     0x0_00_07_2_00000002E1, // category 017, FSPEC E1 02: type 30, 31, 32, 33
@@ -458,7 +499,7 @@ const SETS: Sets = [
     0x28_FFFFFF_00_000000,
     0,
     0x1_08_03_3_0000801DE9, // category 018, FSPEC E9 1D 80: type 0x40
-    0x0000_0100000000,
+    0x0000_0000100000,
     0x28_FFFFFF_00_000000,
     0x001D_0000_0000_0000,
     0x0_06_03_3_00008001E1, // category 017, FSPEC E1 01 80: type 110, 111
@@ -470,15 +511,15 @@ const SETS: Sets = [
     0x28_A8BFFF_00_000000,
     0x00F8_0000_0000_0000,
     0x1_08_02_2_0000001CE9, // category 018, FSPEC E9 1C: type 0x40
-    0x0000_0100000000,
+    0x0000_0000100000,
     0x28_FFFFFF_00_000000,
     0x001C_0000_0000_0000,
     0x1_05_01_1_00000000E0, // category 018, FSPEC E0: type 0x00, 0x02, 0x04, 0x05, 0x31
-    0x0000_002006A000,
+    0x0000_000002006A,
     0x28_FFFFFF_00_000000,
     0,
     0x1_05_01_1_00000000E0, // no shape: category 018, FSPEC E0 again
-    0x0000_002006A000,
+    0x0000_000002006A,
     0x28_FFFFFF_00_000000,
     0,
     0x0_00_0C_2_000000F8EF, // category 017, FSPEC EF F8: type 10
@@ -486,19 +527,19 @@ const SETS: Sets = [
     0x28_A8BFFF_00_000000,
     0x00F8_0000_0000_0000,
     0x1_05_01_1_00000000E0, // no shape: category 018, FSPEC E0 again
-    0x0000_002006A000,
+    0x0000_000002006A,
     0x28_FFFFFF_00_000000,
     0,
     0x1_0D_02_2_00000008F9, // category 018, FSPEC F9 08: type 0x42
-    0x0000_0400000000,
+    0x0000_0000400000,
     0x28_FFFFFF_00_000000,
     0,
     0x1_07_0D_4_002C0101E1, // category 018, FSPEC E1 01 01 2C: type 0x30
-    0x0104_0010000000,
+    0x0104_0000010000,
     0x3B_000000_13_000000,
     0,
     0x1_05_01_1_00000000E0, // no shape: category 018, FSPEC E0 again
-    0x0000_002006A000,
+    0x0000_000002006A,
     0x28_FFFFFF_00_000000,
     0,
     0x0_08_01_1_00000000E8, // category 017, FSPEC E8: type 20, 21, 22, 23
@@ -506,15 +547,15 @@ const SETS: Sets = [
     0x28_FFFFFF_00_000000,
     0,
     0x1_08_01_1_00000000E8, // category 018, FSPEC E8: type 0x21, 0x41
-    0x0000_0200800000,
+    0x0000_0000200800,
     0x28_FFFFFF_00_000000,
     0,
     0x1_05_01_1_00000000E0, // no shape: category 018, FSPEC E0 again
-    0x0000_002006A000,
+    0x0000_000002006A,
     0x28_FFFFFF_00_000000,
     0,
     0x1_00_0B_3_00002801E9, // category 018, FSPEC E9 01 28: type 0x11
-    0x0101_0000100000,
+    0x0101_0000000100,
     0x3C_000000_10_000000,
     0x0000_1000_0000_0000,
     0x0_0A_01_1_00000000EC, // category 017, FSPEC EC: type 22
@@ -522,15 +563,15 @@ const SETS: Sets = [
     0x28_FFFFFF_00_000000,
     0,
     0x1_0C_01_1_00000000EC, // category 018, FSPEC EC: type 0x21
-    0x0000_0000800000,
+    0x0000_0000000800,
     0x28_FFFFFF_00_000000,
     0,
     0x1_05_01_1_00000000E0, // no shape: category 018, FSPEC E0 again
-    0x0000_002006A000,
+    0x0000_000002006A,
     0x28_FFFFFF_00_000000,
     0,
     0x1_05_01_1_00000000E0, // no shape: category 018, FSPEC E0 again
-    0x0000_002006A000,
+    0x0000_000002006A,
     0x28_FFFFFF_00_000000,
     0,
     0x0_00_06_1_00000000F0, // category 017, FSPEC F0: type 0
@@ -538,75 +579,75 @@ const SETS: Sets = [
     0x28_FFFFFF_00_000000,
     0,
     0x1_06_01_1_00000000F0, // category 018, FSPEC F0: type 0x01, 0x03, 0x04, 0x32
-    0x0000_0040034000,
+    0x0000_0000040034,
     0x28_FFFFFF_00_000000,
     0,
     0x1_05_01_1_00000000E0, // no shape: category 018, FSPEC E0 again
-    0x0000_002006A000,
+    0x0000_000002006A,
     0x28_FFFFFF_00_000000,
     0,
     0x1_00_12_3_0000802DE9, // category 018, FSPEC E9 2D 80: type 0x40
-    0x0103_0100000000,
+    0x0103_0000100000,
     0x28_A8BFFF_00_000000,
     0,
     0x1_05_01_1_00000000E0, // no shape: category 018, FSPEC E0 again
-    0x0000_002006A000,
+    0x0000_000002006A,
     0x28_FFFFFF_00_000000,
     0,
     0x1_00_0E_2_000000C0ED, // category 018, FSPEC ED C0: type 0x20
-    0x0101_0000400000,
+    0x0101_0000000400,
     0x3F_000000_17_000000,
     0x0040_0000_0000_0000,
     0x1_0F_02_2_0000002CE9, // category 018, FSPEC E9 2C: type 0x40
-    0x0000_0100000000,
+    0x0000_0000100000,
     0x28_FFFFFF_00_000000,
     0,
     0x1_05_01_1_00000000E0, // no shape: category 018, FSPEC E0 again
-    0x0000_002006A000,
+    0x0000_000002006A,
     0x28_FFFFFF_00_000000,
     0,
     0x1_05_01_1_00000000E0, // no shape: category 018, FSPEC E0 again
-    0x0000_002006A000,
+    0x0000_000002006A,
     0x28_FFFFFF_00_000000,
     0,
     0x1_09_01_1_00000000F8, // category 018, FSPEC F8: type 0x22, 0x42
-    0x0000_0401000000,
+    0x0000_0000401000,
     0x28_FFFFFF_00_000000,
     0,
     0x1_06_04_4_00020101E1, // category 018, FSPEC E1 01 01 02: type 0x00, 0x12
-    0x0000_0000202000,
+    0x0000_0000000202,
     0x28_FFFFFF_00_000000,
     0,
     0x1_00_0A_1_00000000FA, // category 018, FSPEC FA: type 0x22
-    0x1241_0001000000,
+    0x1241_0000001000,
     0x28_FFFFFF_00_000000,
     0,
     0x1_05_01_1_00000000E0, // no shape: category 018, FSPEC E0 again
-    0x0000_002006A000,
+    0x0000_000002006A,
     0x28_FFFFFF_00_000000,
     0,
     0x1_07_0C_4_00048101E9, // category 018, FSPEC E9 01 81 04: type 0x34
-    0x0103_0080000000,
+    0x0103_0000080000,
     0x28_A8BFFF_00_000000,
     0,
     0x1_09_04_4_00200101E1, // category 018, FSPEC E1 01 01 20: type 0x31
-    0x0000_0020000000,
+    0x0000_0000020000,
     0x28_FFFFFF_00_000000,
     0,
     0x1_00_08_3_00004001E1, // category 018, FSPEC E1 01 40: type 0x26, 0x27
-    0x1231_000C000000,
+    0x1231_000000C000,
     0x28_FFFFFF_00_000000,
     0,
     0x1_05_01_1_00000000E0, // no shape: category 018, FSPEC E0 again
-    0x0000_002006A000,
+    0x0000_000002006A,
     0x28_FFFFFF_00_000000,
     0,
     0x1_05_01_1_00000000E0, // no shape: category 018, FSPEC E0 again
-    0x0000_002006A000,
+    0x0000_000002006A,
     0x28_FFFFFF_00_000000,
     0,
     0x1_00_0A_2_00000040E9, // category 018, FSPEC E9 40: type 0x23
-    0x3210_0002000000,
+    0x3210_0000002000,
     0x28_FFFFFF_00_000000,
     0,
 ];

@@ -6,6 +6,7 @@ mod record;
 mod shape;
 
 pub use end::record_end;
+pub use lent::SLOTS;
 pub use lent::Sets;
 pub use lent::Types;
 pub use lent::set_table;

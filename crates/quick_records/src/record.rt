@@ -1,4 +1,7 @@
 // The record that is plainly legal: its set, what its message type asks for, its items.
+use super::lent::FIRST_WAY;
+use super::lent::KINDS;
+use super::lent::ROWS;
 use super::lent::Sets;
 use super::lent::Types;
 use quick_items::Steps;
@@ -6,6 +9,7 @@ use quick_items::octet;
 use quick_items::quick_item;
 use sets::ItemSet;
 use sets::SetRead;
+use tables::PROFILES;
 ghost use mathlib.Core.Path.{_≡_};
 ghost use mathlib.Core.Bool.{true};
 ghost use Prim.Native.Nat.{_/_, _≤_, _<_, _+_, _-_, _^_};
@@ -14,28 +18,27 @@ ghost use Rattle.quick_items.specs.Item.{Plainly, soundSteps};
 ghost use Rattle.sets.specs.Steps.{judgeSet};
 ghost use Rattle.quick_records.specs.Record.{soundTypes, Content, Later, Passed, endAt};
 ghost use Rattle.quick_records.specs.Shape.{soundSets};
+ghost use Rattle.tables.specs.Tables.{profileCount};
 
 // Whether a record has what its message type asks for: true only where it does.
 fn is_content(types: &Types, sets: &Sets, profile: usize, items: ItemSet, kind: u8) -> bool
-    requires { ⌜ (soundTypes (now types) ≡ true) × (soundSets (now sets) ≡ true) × (profile < 2) × (items .bits / 2 ^ 60 ≡ 7) ⌝ }
+    requires { ⌜ (soundTypes (now types) ≡ true) × (soundSets (now sets) ≡ true) × (profile < profileCount) × (items .bits / 2 ^ 60 ≡ 7) ⌝ }
     ensures { λ r. ⌜ Content r (judgeSet profile (items .bits) kind) ⌝ }
 {
-    if 112 <= kind {
+    let number = octet(kind);
+    if KINDS <= number {
         return false;
     }
-    let row = octet(types[profile * 112 + octet(kind)]);
+    let row = octet(types[profile * KINDS + number]);
     if row == 0 {
         return false;
     }
-    let must = ItemSet {
-        bits: sets[2 * row],
-    };
+    let at = 2 * (profile * ROWS + row);
+    let must = ItemSet { bits: sets[at] };
     if !must.is_within(items) {
         return false;
     }
-    items.is_within(ItemSet {
-        bits: sets[2 * row + 1],
-    })
+    items.is_within(ItemSet { bits: sets[at + 1] })
 }
 
 // The bit of an FRN.
@@ -48,7 +51,7 @@ fn weight(frn: usize) -> u64
 
 // One more than the octets of the items of a set that has no FRN under 4.
 pub fn later_items(steps: &Steps, profile: usize, bits: u64, part: &[u8]) -> usize
-    requires { ⌜ (soundSteps (now steps) ≡ true) × (profile < 2) × (bits < 2 ^ 60) × (length (now part) < 65536) ⌝ }
+    requires { ⌜ (soundSteps (now steps) ≡ true) × (profile < profileCount) × (bits < 2 ^ 60) × (length (now part) < 65536) ⌝ }
     ensures { λ r. ⌜ Later profile bits (now (part .entry)) r ⌝ }
 {
     let mut left = bits;
@@ -67,10 +70,10 @@ pub fn later_items(steps: &Steps, profile: usize, bits: u64, part: &[u8]) -> usi
 
 // How many octets the items of a set take that has FRN 1 to 3: the first three or the first seven at once, then one by one.
 fn quick_items(steps: &Steps, types: &Types, profile: usize, bits: u64, part: &[u8]) -> usize
-    requires { ⌜ (soundSteps (now steps) ≡ true) × (soundTypes (now types) ≡ true) × (profile < 2) × (bits / 2 ^ 60 ≡ 7) × (length (now part) < 65536) ⌝ }
+    requires { ⌜ (soundSteps (now steps) ≡ true) × (soundTypes (now types) ≡ true) × (profile < profileCount) × (bits / 2 ^ 60 ≡ 7) × (length (now part) < 65536) ⌝ }
     ensures { λ r. ⌜ Passed profile bits (now (part .entry)) r ⌝ }
 {
-    let sum = octet(types[224 + profile * 16 + ((bits >> 56) % 16) as usize]);
+    let sum = octet(types[FIRST_WAY + profile * 16 + ((bits >> 56) % 16) as usize]);
     if sum == 0 {
         if part.len() < 5 {
             return 0;
@@ -96,7 +99,7 @@ pub fn quick_record(steps: &Steps, types: &Types, sets: &Sets, profile: usize, p
     requires { ⌜ (soundSteps (now steps) ≡ true) × (soundTypes (now types) ≡ true) × (soundSets (now sets) ≡ true) × (length (now part) < 65536) ⌝ }
     ensures { λ r. ⌜ Plainly r (endAt profile 0 (now (part .entry))) ⌝ }
 {
-    if 2 <= profile {
+    if PROFILES <= profile {
         return 0;
     }
     let SetRead::Items { set, octets } = ItemSet::from_octets(profile, part) else {

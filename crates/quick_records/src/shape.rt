@@ -1,4 +1,7 @@
 // A record whose FSPEC is a known shape: its length and all rules of its items but a few are one row of a table. Most records of a recording have one.
+use super::lent::FIRST_SHAPE;
+use super::lent::KINDS;
+use super::lent::SLOTS;
 use super::lent::Sets;
 use super::lent::Types;
 use super::record::later_items;
@@ -11,7 +14,8 @@ ghost use Prim.Native.Nat.{_<_, _≤_};
 ghost use lib.ListN.{length};
 ghost use Rattle.quick_items.specs.Item.{Plainly, soundSteps};
 ghost use Rattle.quick_records.specs.Record.{soundTypes, endAt};
-ghost use Rattle.quick_records.specs.Shape.{lowNumber, soundShape, soundSets, Fronts, OfType};
+ghost use Rattle.quick_records.specs.Shape.{shapeCount, lowNumber, soundShape, soundSets, Fronts, OfType};
+ghost use Rattle.tables.specs.Tables.{profileCount};
 
 // A number of a table, as a size.
 pub fn long(x: u64) -> usize
@@ -35,12 +39,12 @@ pub fn first_five(part: &[u8]) -> usize
 // Where in the table a shape would stand. Adding 1 to the octets with every bit but FX set runs through those that have FX, so that the octets after the
 // FSPEC are left out; the factor was searched for: it gives no two shapes the same place. Any place would do: the shape is compared.
 pub fn slot_of(five: usize, profile: usize) -> usize
-    ensures { λ r. ⌜ r < 64 ⌝ }
+    ensures { λ r. ⌜ r < shapeCount ⌝ }
 {
     let others = (five | 0xFE_FEFE_FEFE) % 0x100_0000_0000;
     let run = others ^ (others + 1);
     let fspec = five & ((run << 7) | 0x7F);
-    ((fspec % 0x100_0000_0000 + profile % 2) * 8302399 >> 23) % 64
+    ((fspec % 0x100_0000_0000 + profile % 16) * 8302399 >> 23) % SLOTS
 }
 
 // How many octets a record takes as far as its shape goes, from its start: by the item that is looked into, its word and its rule; 0 where it is not
@@ -69,13 +73,14 @@ fn front_size(shape: usize, word: usize, rule: usize, part: &[u8]) -> usize
 
 // Whether the row of a message type is among some, given by bits.
 fn is_listed(types: &Types, profile: usize, listed: usize, kind: u8) -> bool
-    requires { ⌜ (soundTypes (now types) ≡ true) × (profile < 2) ⌝ }
+    requires { ⌜ (soundTypes (now types) ≡ true) × (profile < profileCount) ⌝ }
     ensures { λ r. ⌜ OfType r profile listed kind ⌝ }
 {
-    if 112 <= kind {
+    let number = octet(kind);
+    if KINDS <= number {
         return false;
     }
-    let row = octet(types[profile * 112 + octet(kind)]);
+    let row = octet(types[profile * KINDS + number]);
     (listed >> row) % 2 == 1
 }
 
@@ -134,7 +139,7 @@ pub fn shaped_record(
         return 0;
     }
     let five = first_five(part);
-    let at = 72 + 4 * slot_of(five, profile);
+    let at = FIRST_SHAPE + 4 * slot_of(five, profile);
     let shape = long(sets[at]);
     let item = long(sets[at + 1]);
     let rule = long(sets[at + 2]);
