@@ -1,39 +1,40 @@
 """The programs from outside, for tests/programs.sh: python3 tests/programs.py (--all or an empty word) WORD.., the words that start a program.
 
-In order: starting a program; recordings; lines; memory.
+In order: starting a program; recordings; lines; memory. ./asterix itself is tried by tests/command.py.
 """
 
 import os
 import pathlib
 import random
+import resource
 import subprocess
 import sys
 import threading
 import time
 
 root = pathlib.Path(__file__).resolve().parent.parent
-sys.path.insert(0, str(root / "docs" / "make"))
+sys.path.insert(0, str(root / "model"))
 
 import reading
 
 everything, start = sys.argv[1] == "--all", sys.argv[2:]
+emulated = start and start[0].endswith("qemu-x86_64")
+places = {"asterix_check": "target/bin/asterix_check", "answers": "target/c/answers"}
 sample = (root / "samples" / "messages.rec").read_bytes()
 failures = []
 
-# What a program may hold at most, by the system's count of its largest resident size.
+# What a program may hold at most, by the system's count of its largest resident size; `answers` beside its longest line, which it may hold some three times
+# while room for it grows.
 MEMORY = 16 * 1024
 
 # Under the emulator: how much more than for an empty input. Less than the recording that it is given, so that one that is kept whole is found.
 MORE = 4 * 1024
 
-# The longest line that is a question.
-LONGEST = 65535
-
 # ---- starting a program
 
 
 def command(program):
-    return start + [str(root / "target" / "bin" / program)]
+    return start + [str(root / places[program])]
 
 
 def run(program, given):
@@ -64,11 +65,11 @@ def fed(program, pieces):
     return found[0], child.wait(), peak
 
 
-# ---- recordings: asterix_check says what asterix_answers says
+# ---- recordings: asterix_check says what answers says
 
 
 def checked(line):
-    """The line of asterix_check for an answer of asterix_answers."""
+    """The line of asterix_check for an answer to `recording HEX`."""
     words = line.split(" ")
     return f"accepted {words[1]} blocks {words[2]} records" if words[0] == "ok" else line
 
@@ -76,7 +77,7 @@ def checked(line):
 def compare(what, recordings):
     began = time.monotonic()
     questions = "".join(f"recording {r.hex() or '-'}\n" for r in recordings).encode()
-    answers, said, status = run("asterix_answers", questions)
+    answers, said, status = run("answers", questions)
     lines = answers.decode().split("\n")
     same(f"{what}: answers", (len(lines), said, status), (len(recordings) + 1, b"", 0))
     accepted = 0
@@ -121,7 +122,17 @@ compare("one bit changed", list(changed(whole_blocks(500))))
 
 
 def ask(what, given, expected):
-    same(what, run("asterix_answers", given), (expected, b"", 0))
+    same(what, run("answers", given), (expected, b"", 0))
+
+
+at = 0
+while at < len(sample):
+    last = int.from_bytes(sample[at + 1 : at + 3], "big")
+    at += last
+
+
+def head(category, records):
+    return bytes([category]) + (3 + len(records)).to_bytes(2, "big") + records
 
 
 for what, given, expected in [
@@ -132,46 +143,67 @@ for what, given, expected in [
     ("empty lines", b"\n\nrecording -\n\n", b"bad line\nbad line\nok 0 0\nbad line\n"),
     ("NUL", b"\0", b"bad line\n"),
     ("NUL in a word", b"recording\0-\nrecording -\0\nrecording -\n", b"bad line\nbad line\nok 0 0\n"),
-    ("NUL alone, many", b"\0" * 70000, b"too long\n"),
+    ("NUL alone, many", b"\0" * 70000, b"bad line\n"),
     ("carriage return", b"recording -\r\nrecording -\n", b"bad line\nok 0 0\n"),
     ("every octet", bytes(range(256)), b"bad line\nbad line\n"),
-    ("the longest line", b"x" * LONGEST + b"\nrecording -\n", b"bad line\nok 0 0\n"),
-    ("one more", b"x" * (LONGEST + 1) + b"\nrecording -\n", b"too long\nok 0 0\n"),
-    ("the longest line at the end", b"x" * LONGEST, b"bad line\n"),
-    ("one more at the end", b"x" * (LONGEST + 1), b"too long\n"),
-    ("far too long, then more", (b"x" * 10**7 + b"\n") * 3 + b"recording -", b"too long\n" * 3 + b"ok 0 0\n"),
+    ("many words", b"recording" + b" -" * 10**6 + b"\nrecording -", b"bad line\nok 0 0\n"),
+    ("long lines, then one more", (b"x" * 10**7 + b"\n") * 3 + b"recording -", b"bad line\n" * 3 + b"ok 0 0\n"),
+    ("a long recording", b"recording " + sample.hex().encode() * 1000, b"ok 37000 70000\n"),
+    ("a long recording, cut", b"recording " + (sample * 1000)[:-1].hex().encode(), b"refused 3 at %d\n" % (1000 * len(sample) - last)),
+    ("a block too long for its LEN", b"block 11FFFF" + b"00" * 10**6, b"refused 3 at 0\n"),
+    ("long zeros in front", b"read " + b"0" * 10**6 + b"17 45 C00000800000", b"ok -4194304,-8388608\n"),
+    ("a long number", b"record - " + b"9" * 10**6, b"refused 1 at 0\n"),
+    ("many fields", b"write 17 210 9 " + b"1," * 10**6 + b"1", b"refused 11 at 0\n"),
+    ("many fields and a fault", b"write 17 210 9 " + b"1," * 10**6 + b"x", b"bad line\n"),
+    ("many FRNs", b"add 110003 99 " + b"1,2,3,5," * 10**5 + b"5 00010203144CA1B2", b"ok 12 11000CE800010203144CA1B2\n"),
+    ("much in use", b"add 11FFFF" + b"00" * 10**6 + b" 99999999 1 -", b"refused 3 at 0 old\n"),
+    ("much in use, no room", b"add 11FFFF" + b"00" * 10**6 + b" 999999 1 -", b"refused 16 at 0 old\n"),
 ]:
     ask(what, given, expected)
-for length in [*range(65500, 65570), *range(131040, 131110), 196607, 196608, 196609]:
-    ask(f"a line of {length}", b"x" * length + b"\nrecording -\n", (b"bad line\n" if length <= LONGEST else b"too long\n") + b"ok 0 0\n")
+found, said, status = run("answers", b"mergerun 0 " + sample.hex().encode() * 100 + b" -")
+same("two long logs", (found[:9], found.count(b" A@"), said, status), (b"ok 7000 A", 7000, b"", 0))
+for length in [*range(4090, 4100), *range(65530, 65540), *range(131068, 131076)]:
+    ask(f"a line of {length}", b"x" * length + b"\nrecording -\n", b"bad line\nok 0 0\n")
 
-# A read that fails: nothing is asked, and standard error says so.
-for program in ["asterix_check", "asterix_answers"]:
+# What cannot be read, written or held: standard error says so. asterix_check ends with 0 whatever it says; ./asterix has a status.
+for program, status in [("asterix_check", 0), ("answers", 2)]:
     folder = os.open("/", os.O_RDONLY)
     done = subprocess.run(command(program), stdin=folder, stdout=subprocess.PIPE, stderr=subprocess.PIPE)
     os.close(folder)
-    same(f"{program}: a read that fails", (done.stdout, done.stderr), (b"", f"{program}: standard input cannot be read\n".encode()))
+    same(f"{program}: a read that fails", (done.stdout, done.stderr, done.returncode), (b"", f"{program}: standard input cannot be read\n".encode(), status))
+with open("/dev/full", "wb") as full:
+    done = subprocess.run(command("answers"), input=b"recording -\n", stdout=full, stderr=subprocess.PIPE)
+same("answers: a write that fails", (done.stderr, done.returncode), (b"answers: standard output cannot be written\n", 2))
+done = subprocess.run([*command("answers"), "recording"], stdin=subprocess.DEVNULL, stdout=subprocess.PIPE, stderr=subprocess.DEVNULL)
+same("answers: a word", (done.stdout, done.returncode), (b"", 2))
+if not emulated:
+    most = 100 * 1024 * 1024
+    limit = lambda: resource.setrlimit(resource.RLIMIT_AS, (most, most))
+    done = subprocess.run(command("answers"), input=b"recording -\n" + b"x" * most, stdout=subprocess.PIPE, stderr=subprocess.PIPE, preexec_fn=limit)
+    same("answers: a line that memory does not hold", (done.stdout, done.stderr, done.returncode), (b"ok 0 0\n", b"answers: a line is longer than memory holds\n", 2))
 
-# The same questions in pieces of odd sizes: lines end anywhere in what a read brings.
-questions = (root / "tests" / "vectors" / "edges-questions.txt").read_bytes()
+# The same questions in pieces of odd sizes: lines end anywhere in what a read brings. The last line has no line feed.
+questions = (root / "tests" / "vectors" / "edges-questions.txt").read_bytes().rstrip(b"\n")
 answers = (root / "tests" / "vectors" / "edges-answers.txt").read_bytes()
 for size in [1009, 4096, 65537]:
-    found, status, peak = fed("asterix_answers", (questions[k : k + size] for k in range(0, len(questions), size)))
+    found, status, peak = fed("answers", (questions[k : k + size] for k in range(0, len(questions), size)))
     same(f"pieces of {size}", (found, status), (answers, 0))
 
-# Blocks as large as a line holds, of each block of the sample's records in turn: no answer is cut.
+# Large blocks of each block of the sample's records in turn, the first of each category as large as can be: no answer is cut.
 longest = 0
+categories = set()
 at = 0
 while at < len(sample):
     size = int.from_bytes(sample[at + 1 : at + 3], "big")
     records = sample[at + 3 : at + size]
-    many = records * ((32764 - 3) // len(records))
-    line = "block " + (sample[at : at + 1] + (3 + len(many)).to_bytes(2, "big") + many).hex().upper()
+    most = 8192 if sample[at] in categories else 65535
+    categories.add(sample[at])
+    line = "block " + head(sample[at], records * ((most - 3) // len(records))).hex().upper()
     expected = reading.answer(line)
     longest = max(longest, len(expected))
     ask(f"a large block of {records.hex()}", line.encode(), expected.encode() + b"\n")
     at += size
-print(f"lines: odd forms, pieces, and blocks of up to 32,764 octets; the longest answer has {longest} characters")
+print(f"lines: odd forms, pieces, and blocks of up to 65,535 octets; the longest answer has {longest} characters")
 
 # ---- memory
 
@@ -189,19 +221,22 @@ def emulator_alone(program):
     return os.wait4(child.pid, 0)[2].ru_maxrss
 
 
-def large(what, program, pieces, expected):
+def large(what, program, pieces, expected, line=0):
+    """line: how many octets the longest line has."""
     began = time.monotonic()
     found, status, peak = fed(program, pieces)
-    same(what, (found, status), (expected, 0))
-    emulated = start and start[0].endswith("qemu-x86_64")
-    most = emulator_alone(program) + MORE if emulated else MEMORY
+    same(what, (found[:200], status), (expected[:200], 0))
+    most = 3 * line // 1024 + (emulator_alone(program) + MORE if emulated else MEMORY)
     if peak >= most:
         failures.append(f"{what}: {peak} KiB")
         print(f"TOO MUCH: {what}: {peak} KiB, where {most} are the bound")
-    print(f"{what}: {found.decode().strip()}, {peak} KiB, {time.monotonic() - began:.1f} s")
+    print(f"{what}: {found.decode().partition(chr(10))[0]}, {peak} KiB, {time.monotonic() - began:.1f} s")
 
 
-large("a line of 100 MB", "asterix_answers", repeated(b"x" * 1000, 100_000), b"too long\n")
+large("a line of 10 MB", "answers", repeated(b"x" * 1000, 10_000), b"bad line\n", 10**7)
+large("lines of 40 MB", "answers", repeated(b"x" * 3999 + b"\n", 10_000), b"bad line\n" * 10_000, 4000)
+if everything:
+    large("a line of 100 MB", "answers", repeated(b"x" * 1000, 10**5), b"bad line\n", 10**8)
 for size in [10**7] + [10**9] * everything:
     times = -(-size // len(sample))
     expected = f"accepted {37 * times} blocks {70 * times} records\n".encode()
