@@ -20,32 +20,16 @@ use Rattle.rules.specs.Record.{Place}
 use Rattle.rules.specs.Catalogue.{categories}
 use Rattle.rules.specs.Entry.{profileAt, layoutAs, isItem}
 use Rattle.tables.specs.declared.tables.PlaceRow.{PlaceRow}
-use Rattle.tables.specs.Tables.{layoutCount, profileCount, frnCount, layoutIs, layoutAt, nowhere, placeRowAt, with, placeIs}
-use Rattle.tables.proofs.TableLaws.{place-is, place-none, profile-few, place-row, layout-none, layout-some}
+use Rattle.tables.specs.Tables.{layoutCount, frnCount, layoutIs, layoutAt, with, placeIs}
+use Rattle.tables.proofs.TableLaws.{profile-few, layout-none, layout-some}
 use Rattle.tables.specs.Places.{isNamed, frnAs}
 use Rattle.items.specs.Answers.{referenceIn}
 
 -- ---- the item of a place's row
 
-present-with : (n : ℕ) (x : Option Layout) → present (with n x) ≡ present x
-present-with n none = refl
-present-with n (some l) = refl
-
 present-layout : (j : ℕ) → j < layoutCount → present (layoutIs (layoutAt j)) ≡ not (eqb j 0)
 present-layout zero h = ap present layout-none
 present-layout (suc j) h = layout-some j h ∙ ap not (sym (ne-eqb (suc j) 0 (λ e. absurd (omega arith))))
-
-pub place-present : (r : PlaceRow) → r .layout < layoutCount → present (placeIs r) ≡ not (eqb (r .layout) 0)
-unfolding placeIs
-place-present r h = present-with (r .reference) (layoutIs (layoutAt (r .layout))) ∙ present-layout (r .layout) h
-
--- of an FRN of a profile
-pub usable-at : (p f : ℕ) {j : ℕ} → p < profileCount → f < frnCount → j ≡ placeRowAt (p * frnCount + f) .layout → not (eqb j 0) ≡ present (placeAt (profileAt categories p) f)
-usable-at p f h k e =
-    rw e (sym (place-present (placeRowAt (p * frnCount + f)) (place-row (p * frnCount + f))) ∙ ap present (place-is p f h k))
-
-pub not-usable : (p f : ℕ) → placeIs nowhere ≡ placeAt (profileAt categories p) f → false ≡ present (placeAt (profileAt categories p) f)
-not-usable p f e = rw (← e, place-none)
 
 named-with : (ref n : ℕ) (x : Option Layout) → isNamed ref (with n x) ≡ (present x && eqb ref n)
 named-with ref n none = refl

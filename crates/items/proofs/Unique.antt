@@ -2,13 +2,12 @@
 -- nothing.
 use Prim.Native.Nat.{ℕ}
 use mathlib.Core.Path.{_≡_, sym, _∙_}
-use mathlib.Core.Bool.{Bool}
 use mathlib.Core.List.{List}
 use native.Mathlib.Omega.{arith}
 use lib.IntN.{ℤ}
 use lib.ListN.{length}
 use Rattle.rules.specs.Layout.{flatten}
-use Rattle.rules.specs.Presence.{present, placeAt}
+use Rattle.rules.specs.Presence.{placeAt}
 use Rattle.rules.specs.Catalogue.{categories}
 use Rattle.rules.specs.Entry.{profileAt, readOne, writeOne, leaves}
 use Rattle.tables.specs.Places.{frnAs}
@@ -46,10 +45,6 @@ same-written (written.Length m) (written.Length n) e = cc
 same-written (written.Length m) (written.Refused n p) e = let z : _≡_ {A = ℕ} 0 1 = cc in absurd (omega arith)
 same-written (written.Refused m p) (written.Length n) e = let z : _≡_ {A = ℕ} 0 1 = cc in absurd (omega arith)
 same-written (written.Refused m p) (written.Refused n q) e = cc
-
-pub one-is-usable : (profile frn : ℕ) (a b : Bool)
-    → a ≡ present (placeAt (profileAt categories profile) frn) → b ≡ present (placeAt (profileAt categories profile) frn) → a ≡ b
-one-is-usable profile frn a b p q = p ∙ sym q
 
 pub one-reference-of : (profile frn a b : ℕ)
     → a ≡ referenceIn (placeAt (profileAt categories profile) frn) → b ≡ referenceIn (placeAt (profileAt categories profile) frn) → a ≡ b

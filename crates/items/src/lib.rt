@@ -21,7 +21,7 @@ ghost use mathlib.Core.Path.{_≡_};
 ghost use mathlib.Core.Bool.{true};
 ghost use Prim.Native.Nat.{_<_, _+_};
 ghost use Rattle.rules.specs.Layout.{flatten};
-ghost use Rattle.rules.specs.Presence.{present, placeAt};
+ghost use Rattle.rules.specs.Presence.{placeAt};
 ghost use Rattle.rules.specs.Answer.{expect_or_};
 ghost use Rattle.rules.specs.Catalogue.{categories};
 ghost use Rattle.rules.specs.Entry.{profileAt, layoutOf, readOne, leaves};
@@ -45,18 +45,6 @@ fn place_of(profile: usize, frn: usize) -> PlaceRow
         layout: 0,
         reference: 0,
     }
-}
-
-// Whether a profile has an item at an FRN.
-pub fn is_usable(profile: usize, frn: usize) -> bool
-    ensures { λ r. ⌜ r ≡ present (placeAt (profileAt categories profile) frn) ⌝ }
-{
-    if profile < PROFILES {
-        if frn < FRNS {
-            return layout_row(profile * FRNS + frn) != 0;
-        }
-    }
-    false
 }
 
 // Whether the item of a profile at an FRN has a reference.
