@@ -10,7 +10,9 @@ use tables::are_obeyed;
 use tables::first_rule;
 use tables::group_at;
 use tables::is_free;
+use tables::octet;
 use tables::size_at;
+use tables::wide;
 ghost use mathlib.Core.Path.{_≡_};
 ghost use mathlib.Core.Bool.{true};
 ghost use Prim.Native.Nat.{_+_, _-_, _*_, _%_, _≤_, _<_, _^_};
@@ -20,12 +22,6 @@ ghost use Rattle.rules.specs.Layout.{joined, flatten};
 ghost use Rattle.layouts.specs.Read.{rowsAt, partAt, legal, span, partSound, partsSound, partsLegal, faultAt, values, count, holds, partValues, shapeIs, chain, listShape, headOf, stepOf, shapeOf, wholeOf, rowSound};
 ghost use lib.Dec.{eqb};
 ghost use Rattle.tables.specs.Tables.{groupCount, groupAt};
-
-fn wide(x: u8) -> u64
-    ensures { λ r. ⌜ (r ≡ x) × (r < 256) ⌝ }
-{
-    x as u64
-}
 
 // The number of some octets, high octet first.
 fn number_at(s: &[u8], at: usize, size: usize) -> u64
@@ -90,12 +86,6 @@ pub enum Shape {
     Parts { count: usize, long: usize },
     // The number of the refusal, and its place, counted from the item's first octet.
     Refused { number: u8, place: usize },
-}
-
-fn octet(x: u8) -> usize
-    ensures { λ r. ⌜ (r ≡ x) × (r ≤ 255) ⌝ }
-{
-    x as usize
 }
 
 // Whether the FX bit of a part's last octet says that no other part follows.

@@ -1,5 +1,5 @@
 -- For each function that another crate can call, no two distinct results meet its statement. Assumes nothing.
-use Prim.Native.Nat.{ℕ, _^_}
+use Prim.Native.Nat.{ℕ, _^_, _<_, _≤_}
 use mathlib.Core.Path.{_≡_, sym, _∙_}
 use mathlib.Core.Bool.{Bool}
 use lib.ListN.{getD}
@@ -56,3 +56,11 @@ one-pow2 k a b p q = p ∙ sym q
 
 pub one-are-obeyed : (n first end : ℕ) (a b : Bool) → a ≡ allObeyed (slice first end rules) n → b ≡ allObeyed (slice first end rules) n → a ≡ b
 one-are-obeyed n first end a b p q = p ∙ sym q
+
+-- ---- octets
+
+pub one-wide : (x a b : ℕ) → (a ≡ x) × (a < 256) → (b ≡ x) × (b < 256) → a ≡ b
+one-wide x a b p q = p .0 ∙ sym (q .0)
+
+pub one-octet : (x a b : ℕ) → (a ≡ x) × (a ≤ 255) → (b ≡ x) × (b ≤ 255) → a ≡ b
+one-octet x a b p q = p .0 ∙ sym (q .0)
