@@ -64,7 +64,7 @@ startsAt i f bits used at = allFixed i (flagsBefore f bits) 1 && eqb (used + bas
 abbrev pub timeAt : ℕ → ℕ → ℕ → ℕ → Bool
 timeAt i bits used at = cond (isIn (timeFrn i) bits) (ltb 0 at && startsAt i 3 bits used (used + 4) && startsAt i (timeFrn i) bits used at) (eqb at 0)
 
--- ---- a row: the FSPEC, its octets and the profile, in the columns of the shapes of `plain`; where the time stands, the octets of the
+-- ---- a row: the FSPEC, its octets and the profile, in the columns of the shapes of `quick_records`; where the time stands, the octets of the
 -- record without the parts of its list, where the list stands, the octets of a part
 
 abbrev pub timeOf : ℕ → ℕ
