@@ -17,8 +17,6 @@ use lib.Seq.{sets, slice, length-sets}
 use Rattle.rules.specs.Answer.{Answer, ok, refused, _>>=_, need_or_then_, expect_or_, octetsOf}
 use Rattle.rules.specs.Layout.{octets, Group, Layout, fixed, repeated, led, extended, least, writeFields}
 use Rattle.rules.specs.Presence.{present}
-use Rattle.rules.specs.Category017.{category017}
-use Rattle.rules.specs.Category018.{category018}
 use Rattle.rules.specs.Catalogue.{categories}
 use Rattle.rules.specs.Entry.{layoutOf, writeOne, over, leaves}
 use Rattle.rules.proofs.AnswerLaws.{refused-ok, ok-inj, bind-elim, bind-in, bind-cong, octetsOf-ok}
@@ -91,7 +89,7 @@ rows = noLayoutRow ∷ layoutRows 0 layouts
 
 -- one test over the table: what the code reads off a row is what the layout is
 rows-seen : map rowSeen rows ≡ map (λ r. seen (layoutIs r)) rows
-unfolding layoutIs layoutBy groupAt fields groups layouts categories category017 category018
+unfolding layoutIs layoutBy groupAt fields groups layouts categories
 rows-seen = refl
 
 row-seen : (i : ℕ) → rowSeen (layoutAt i) ≡ seen (layoutIs (layoutAt i))

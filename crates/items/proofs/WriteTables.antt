@@ -13,8 +13,6 @@ use lib.ListN.{length, length-map, take, getD, replicate, List·getD-map, getD-r
 use lib.Seq.{slice, length-slice, getD-drop, getD-take}
 use Rattle.rules.specs.Field.{unsigned, value}
 use Rattle.rules.specs.Layout.{Group}
-use Rattle.rules.specs.Category017.{category017}
-use Rattle.rules.specs.Category018.{category018}
 use Rattle.rules.specs.Catalogue.{categories}
 use Rattle.tables.specs.Tables.{fieldCount, groupCount, fields, groups, layouts, fieldRow, fieldAt, groupRows, noGroupRow, groupAt, layoutRows, noLayoutRow, layoutAt, groupIs}
 use Rattle.tables.proofs.TableLaws.{groups-long}
@@ -30,7 +28,7 @@ unfolding fieldAt fieldIn
 field-row i = List·getD-map fieldRow fields i (value 0 (unsigned 0 0))
 
 fields-sound : T (every fieldTest fields)
-unfolding fields groups layouts categories category017 category018
+unfolding fields groups layouts categories
 fields-sound = tt
 
 pub field-in-sound : (i : ℕ) → i < fieldCount → SoundField (fieldIn i)
@@ -43,11 +41,11 @@ abbrev groupRowTest : GroupRow → Bool
 groupRowTest r = leb (r .end) fieldCount && groupTest false (groupIs r)
 
 group-rows : T (every groupRowTest (groupRows 0 groups))
-unfolding fields groups layouts categories category017 category018
+unfolding fields groups layouts categories
 group-rows = tt
 
 group-row : (j : ℕ) → T (groupRowTest (groupAt j))
-unfolding groupAt fields groups layouts categories category017 category018
+unfolding groupAt fields groups layouts categories
 group-row j = every-at groupRowTest (groupRows 0 groups) noGroupRow group-rows tt j
 
 pub group-end : (j : ℕ) → groupAt j .end ≤ fieldCount
@@ -67,11 +65,11 @@ abbrev layoutRowTest : LayoutRow → Bool
 layoutRowTest r = (eqb (length (rowParts r)) (r .most) && cond (eqb (r .kind) 3) (leb (r .most) 254) true) && ((leb (suc (r .first)) groupCount && leb (r .end) groupCount) && partsTest (eqb (r .kind) 4) (rowParts r))
 
 layout-rows : T (every layoutRowTest (noLayoutRow ∷ layoutRows 0 layouts))
-unfolding groupAt fields groups layouts categories category017 category018
+unfolding groupAt fields groups layouts categories
 layout-rows = tt
 
 layout-row : (i : ℕ) → T (layoutRowTest (layoutAt i))
-unfolding layoutAt groups layouts categories category017 category018
+unfolding layoutAt groups layouts categories
 layout-row i = every-at layoutRowTest (noLayoutRow ∷ layoutRows 0 layouts) noLayoutRow layout-rows tt i
 
 -- what the test says of a row

@@ -22,8 +22,6 @@ use Rattle.rules.specs.Field.{Field, Kind, spare, value, unsigned, signed, any,
 use Rattle.rules.specs.Layout.{Group, Layout, fixed, repeated, led, extended, joined, readNum, readMany, readChain, readParts, groups, least, unpackAll, readItem}
 use Rattle.rules.proofs.AnswerLaws.{Octets, both-left, both-right, need-bind, ok-inj, refused-ok, need-elim, bind-elim, if-inv, some-inj, none-some}
 use Rattle.rules.proofs.LayoutLaws.{octets-take}
-use Rattle.rules.specs.Category017.{category017}
-use Rattle.rules.specs.Category018.{category018}
 use Rattle.rules.specs.Catalogue.{categories}
 use Rattle.tables.specs.declared.tables.LayoutRow.{LayoutRow}
 use Rattle.tables.specs.Tables as t
@@ -75,7 +73,7 @@ is-wide (spare w ∷ fs) h = is-wide fs h
 is-wide (value w k ∷ fs) h = (leb-true 1 w (both-left (leb 1 w) (isWide fs) h), is-wide fs (both-right (leb 1 w) (isWide fs) h))
 
 wide-fields : Wide fields
-unfolding isWide fields t.groups t.layouts categories category017 category018
+unfolding isWide fields t.groups t.layouts categories
 wide-fields = is-wide fields refl
 
 pub wide-slice : (a e : ℕ) → Wide (slice a e fields)

@@ -17,8 +17,6 @@ use lib.ListN.{length, drop, getD, List·getD-eq-default}
 use Rattle.rules.specs.Answer.{if_then_else_}
 use Rattle.rules.specs.Presence.{flags}
 use Rattle.rules.specs.Record.{Place, Category, places}
-use Rattle.rules.specs.Category017.{category017}
-use Rattle.rules.specs.Category018.{category018}
 use Rattle.rules.specs.Catalogue.{categories}
 use Rattle.rules.specs.Entry.{profileAt, sumLeast, leastLength}
 use Rattle.rules.proofs.AnswerLaws.{both-left, both-right}
@@ -55,7 +53,7 @@ abbrev right : ℕ → ℕ → ℕ → Bool
 right i k j = eqb (getD leasts (firstOf i + k * 7 + j) 0) (leastIn (getD (rowAt i k) j none))
 
 all-right : below (length categories) (λ i. below (length (profileAt categories i)) (λ k. below 7 (λ j. right i k j))) ≡ true
-unfolding leasts firstOf categories category017 category018
+unfolding leasts firstOf categories
 all-right = refl
 
 -- an index past the last has no octet, and the octets of any other lie within the list
@@ -64,7 +62,7 @@ unfolding categories
 no-profile i l = ap length (sym (profile-at i) ∙ ap (λ c. c .profile) (category-none i l))
 
 all-within : below (length categories) (λ i. leb (firstOf i + 7 * length (profileAt categories i)) leastCount) ≡ true
-unfolding firstOf categories category017 category018
+unfolding firstOf categories
 all-within = refl
 
 pub rows-none : (i : ℕ) → length categories ≤ i → (0 ≡ firstOf i) × (0 ≡ length (profileAt categories i))

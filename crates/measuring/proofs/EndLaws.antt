@@ -18,8 +18,6 @@ use borrow.Author.Tests.{leb-true, ltb-true, eqb-true, le-leb, lt-leb, eq-eqb, n
 use Rattle.rules.specs.Answer.{ok, if_then_else_}
 use Rattle.rules.specs.Presence.{flags}
 use Rattle.rules.specs.Catalogue.{categories}
-use Rattle.rules.specs.Category017.{category017}
-use Rattle.rules.specs.Category018.{category018}
 use Rattle.rules.proofs.AnswerLaws.{if-true, if-false, both-left, both-right, Octets}
 use Rattle.rules.proofs.PresenceLaws.{flags-length}
 use Rattle.layouts.proofs.ReadLaws.{le-or-lt}
@@ -40,7 +38,7 @@ use Rattle.measuring.specs.Shape.{isFixed}
 
 -- of no item at a place of the tables more than 255 parts of four octets after the count
 few-at : allBelow profileCount (λ i. allBelow frnCount (λ f. allBelow 256 (λ x. leb (rowOctets (rowOf i f) x) 1_021))) ≡ true
-unfolding groupAt layoutAt placeRowAt groups layouts categories category017 category018
+unfolding groupAt layoutAt placeRowAt groups layouts categories
 few-at = refl
 
 octets-most : (i f x : ℕ) → x < 256 → octetsAt i f x ≤ 1_021
@@ -217,7 +215,7 @@ module _ (i : ℕ) (bs : List ℕ) where
   -- ---- FRN 1 to 3
 
   three-at : allBelow profileCount (λ j. isFixed j 1 && (isFixed j 2 && (isFixed j 3 && eqb (octetsAt j 1 0 + octetsAt j 2 0 + octetsAt j 3 0) 5))) ≡ true
-  unfolding octetsAt if_then_else_ groupAt layoutAt placeRowAt groups layouts categories category017 category018
+  unfolding octetsAt if_then_else_ groupAt layoutAt placeRowAt groups layouts categories
   three-at = refl
 
   first-three : i < profileCount → (x y z : ℕ) → octetsAt i 1 x + octetsAt i 2 y + octetsAt i 3 z ≡ 5

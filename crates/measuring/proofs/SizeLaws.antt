@@ -16,8 +16,6 @@ use Rattle.rules.specs.Layout.{joined}
 use Rattle.rules.specs.Presence.{placeAt}
 use Rattle.rules.specs.Record.{Place}
 use Rattle.rules.specs.Catalogue.{categories}
-use Rattle.rules.specs.Category017.{category017}
-use Rattle.rules.specs.Category018.{category018}
 use Rattle.rules.proofs.AnswerLaws.{if-true, refused-ok, ok-inj, bind-elim, need-elim, if-inv, expect-elim, none-some, both-left, both-right, Octets}
 use Rattle.tables.specs.declared.tables.LayoutRow.{LayoutRow}
 use Rattle.tables.specs.Tables.{profileCount, frnCount, groups, layouts, groupAt, layoutAt, placeRowAt}
@@ -114,7 +112,7 @@ abbrev soundSize : LayoutRow → Bool
 soundSize l = eqb (l .kind) 0 || (ltb (l .kind) 4 || isShort (l .first) (l .end))
 
 all-sizes : allBelow profileCount (λ i. allBelow frnCount (λ f. soundSize (rowOf i f))) ≡ true
-unfolding groupAt layoutAt placeRowAt groups layouts categories category017 category018
+unfolding groupAt layoutAt placeRowAt groups layouts categories
 all-sizes = refl
 
 -- ---- the law

@@ -57,11 +57,11 @@ or-false true = refl
 or-false false = refl
 
 row-017 : Row 0 category017
-unfolding categoryAt categories category017 if_then_else_
+unfolding categoryAt categories if_then_else_
 row-017 = record { is = refl; time-frn = refl; type-frn = refl; untimed = λ k. refl; time-layout = refl; type-layout = refl }
 
 row-018 : Row 1 category018
-unfolding categoryAt categories category018 if_then_else_
+unfolding categoryAt categories if_then_else_
 row-018 = record { is = refl; time-frn = refl; type-frn = refl; untimed = λ k. or-false (eqb k 64); time-layout = refl; type-layout = refl }
 
 row : (cat : ℕ) (c : Category) → categoryOf cat categories ≡ some c → Row (profileIn cat categories) c

@@ -15,8 +15,6 @@ use lib.Seq.{slice, take-all}
 use lib.Pow.{shr-le, shr-shr, shl-shr, high, field}
 use borrow.Author.Tests.{leb-true, ltb-true, eqb-true, eq-eqb, ne-eqb, lt-ltb, le-ltb}
 use Rattle.rules.specs.Answer.{Answer, ok, if_then_else_}
-use Rattle.rules.specs.Category017.{category017}
-use Rattle.rules.specs.Category018.{category018}
 use Rattle.rules.specs.Catalogue.{categories}
 use Rattle.rules.specs.Layout.{joined}
 use Rattle.rules.proofs.AnswerLaws.{if-true, if-false, Octets, both-left, both-right}
@@ -70,7 +68,7 @@ words-each t (w ∷ ws) (p ∷ ps) zero h k = both-left (soundWord t w (layoutAt
 words-each t (w ∷ ws) (p ∷ ps) (suc i) h k = words-each t ws ps i (both-right (soundWord t w (layoutAt (p .layout))) (soundWords t ws ps) h) (le-of-suc-le-suc k)
 
 places-long : length (profileRows 1 categories) ≡ placeCount
-unfolding categories category017 category018
+unfolding categories
 places-long = refl
 
 -- the word of a place is sound, by its second digit

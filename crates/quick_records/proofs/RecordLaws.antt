@@ -18,8 +18,6 @@ use mir.Val.{Fits}
 use borrow.Author.Tests.{lt-leb, le-leb, ltb-true, eqb-true, eq-eqb, ne-eqb}
 use Rattle.rules.specs.Answer.{Answer, ok, refused, if_then_else_}
 use Rattle.rules.specs.Presence.{flags}
-use Rattle.rules.specs.Category017.{category017}
-use Rattle.rules.specs.Category018.{category018}
 use Rattle.rules.specs.Catalogue.{categories}
 use Rattle.rules.specs.Entry.{RecordMap, mapOf}
 use Rattle.rules.proofs.AnswerLaws.{ok-inj, bind-in, bind-elim, later-in, both-left, both-right, Octets}
@@ -50,7 +48,7 @@ use Rattle.records.proofs.RecordLaws.{record-law, record-read, RecordRead}
 -- ---- the tables
 
 pub type-three : (i : ℕ) → i < profileCount → 3 ≡ typeFrn i
-unfolding typeFrn frnAs if_then_else_ categoryAt categories category017 category018
+unfolding typeFrn frnAs if_then_else_ categoryAt categories
 type-three i h =
     let t : allBelow profileCount (λ j. eqb 3 (typeFrn j)) ≡ true = refl in
     eqb-true 3 (typeFrn i) (all-below profileCount (λ j. eqb 3 (typeFrn j)) i t h)
@@ -168,7 +166,7 @@ skip-free i f (true ∷ ts) us bs w h k l o a b =
 -- ---- the first three items: source, destination, message type
 
 free-one : (i : ℕ) → i < profileCount → (free i 1 ≡ 2) × (free i 2 ≡ 2) × (free i 3 ≡ 1)
-unfolding singles layoutAt layouts groupAt groups categories category017 category018
+unfolding singles layoutAt layouts groupAt groups categories
 free-one i h =
     let each : ℕ → Bool = λ j. eqb (free j 1) 2 && (eqb (free j 2) 2 && eqb (free j 3) 1) in
     let all : allBelow profileCount each ≡ true = refl in

@@ -264,7 +264,7 @@ i037 =
 -- ---- 5.3, Transmission of Data Link Function Messages
 
 -- profile: Table 9, whose last FX is "set to 0"; messages: 5.3.2 by column, C (and the type itself) first, then O and S
-unfoldable pub category018 : Category
+abbrev pub category018 : Category
 category018 = record {
   cat = 18;
   time = 002;  -- 5.2.3

@@ -21,8 +21,6 @@ use Rattle.rules.specs.Catalogue.{categories}
 use Rattle.rules.specs.Entry.{over, isItem}
 use Rattle.rules.proofs.AnswerLaws.{ok-inj, bind-in, bind-out, bind-assoc, need-bind, need-in, if-inv, if-true, if-false, some-inj, none-some, both-left, both-right, refused-ok}
 use Rattle.rules.proofs.Tables.{distinct, everyCategory}
-use Rattle.rules.specs.Category017.{category017}
-use Rattle.rules.specs.Category018.{category018}
 use Rattle.tables.proofs.ProfileLaws.{category-none}
 use Rattle.sets.specs.Sets.{categoryIn, categoryAt, bitsOf, within}
 use Rattle.sets.specs.Steps.{typeFrn, marks, markBits, rowAt, judgeRow, judgeSet}
@@ -84,7 +82,7 @@ keys-at k zero (c ∷ cs) ks h = rw (add-zero k) (both-left (allIn (keys k (c .m
 keys-at k (suc i) (c ∷ cs) ks h = rw (add-suc k i, ← suc-add k i) (keys-at (suc k) i cs ks (both-right (allIn (keys k (c .messages)) ks) _ h))
 
 tables-keys : allKeys 0 categories (reverse (keysFrom 0 categories)) ≡ true
-unfolding categories category017 category018
+unfolding categories
 tables-keys = refl
 
 pub row-unknown : (i t : ℕ) → NoneOf (i * 256 + t) (reverse (keysFrom 0 categories)) → refused 13 0 ≡ rowAt i t
@@ -300,7 +298,7 @@ allMessages ps [] = true
 allMessages ps (m ∷ ms) = allItems ps (m .compulsory) && allMessages ps ms
 
 tables-messages : everyCategory (λ c. allMessages (places c) (c .messages)) categories ≡ true
-unfolding categories category017 category018 if_then_else_
+unfolding categories if_then_else_
 tables-messages = refl
 
 message-items : (ps : List (Option Place)) (ms : List Message) (t : ℕ) (m : Message) → allMessages ps ms ≡ true → messageOf t ms ≡ ok m → allItems ps (m .compulsory) ≡ true

@@ -14,8 +14,6 @@ use Rattle.rules.specs.Answer.{if_then_else_}
 use Rattle.rules.specs.Field.{Field, spare, value, unsigned, signed, any}
 use Rattle.rules.specs.Layout.{Layout, fixed, repeated, led, extended, group, item}
 use Rattle.rules.specs.Record.{Place, Category, places, at}
-use Rattle.rules.specs.Category017.{category017}
-use Rattle.rules.specs.Category018.{category018}
 use Rattle.rules.specs.Catalogue.{categories}
 use Rattle.rules.proofs.AnswerLaws.{both-left, both-right}
 use Rattle.rules.proofs.Tables.{everyCategory, distinct, soundCategory, catsOf, once, Sound, sound-category, tables-hold}
@@ -33,14 +31,14 @@ sevens [] = true
 sevens (p ∷ ps) = eqb (length p) 7 && sevens ps
 
 tables-sevens : everyCategory (λ c. sevens (c .profile)) categories ≡ true
-unfolding categories category017 category018
+unfolding categories
 tables-sevens = refl
 
 pub profile-sevens : (i : ℕ) → sevens (categoryAt i .profile) ≡ true
 profile-sevens = category-test (λ c. sevens (c .profile)) tables-sevens refl
 
 tables-short : everyCategory (λ c. leb (length (c .profile)) 8) categories ≡ true
-unfolding categories category017 category018
+unfolding categories
 tables-short = refl
 
 pub profile-short : (i : ℕ) → length (categoryAt i .profile) ≤ 8
@@ -111,7 +109,7 @@ abbrev typed : Category → Bool
 typed c = eqb (length (c .profile)) 0 || (ltb 0 (frnIn 0 c) && octetPlace (getD (places c) (frnIn 0 c - 1) none))
 
 tables-typed : everyCategory typed categories ≡ true
-unfolding categories category017 category018 frnAs if_then_else_
+unfolding categories frnAs if_then_else_
 tables-typed = refl
 
 no-rows : {A : Type 0} (l : List A) → length l ≡ 0 → l ≡ []

@@ -15,8 +15,6 @@ use Rattle.rules.specs.Answer.{if_then_else_}
 use Rattle.rules.specs.Record.{Category}
 use Rattle.rules.specs.Block.{categoryOf}
 use Rattle.rules.specs.Presence.{number, has}
-use Rattle.rules.specs.Category017.{category017}
-use Rattle.rules.specs.Category018.{category018}
 use Rattle.rules.specs.Catalogue.{categories}
 use Rattle.rules.specs.Entry.{profileAt}
 use Rattle.rules.proofs.AnswerLaws.{both-left, both-right, if-true, if-false, none-some, T-true}
@@ -105,7 +103,7 @@ untimed-one (t ∷ []) k h = rw (compare·suc-suc k t) (or-false (eqb k t))
 untimed-one (t ∷ (u ∷ ts)) k h = absurd (false≢true h)
 
 tables-untimed : everyCategory (λ c. fewUntimed (c .untimed)) categories ≡ true
-unfolding categories category017 category018
+unfolding categories
 tables-untimed = refl
 
 pub row-untimed : (i k : ℕ) → has k (categoryAt i .untimed) ≡ eqb (suc k) (profileRowAt i .untimed)
@@ -209,11 +207,11 @@ index-in cs (d ∷ ds) i (suc j) h k =
     omega arith
 
 tables-indexed : indexed categories 0 categories ≡ true
-unfolding categories category017 category018 profileIn if_then_else_
+unfolding categories profileIn if_then_else_
 tables-indexed = refl
 
 tables-named : categoryOf 0 categories ≡ none
-unfolding categories category017 category018 categoryOf if_then_else_
+unfolding categories categoryOf if_then_else_
 tables-named = refl
 
 pub index-is : (i : ℕ) → categoryOf (categoryAt i .cat) categories ≡ some (categoryAt i) → profileIn (categoryAt i .cat) categories ≡ i

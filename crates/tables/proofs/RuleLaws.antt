@@ -14,8 +14,6 @@ use lib.Seq.{slice, slice-cons, length-take-le}
 use lib.Pow.{shr-le}
 use borrow.Author.Tests.{leb-true, ltb-true}
 use Rattle.rules.specs.Field.{Field, spare, value, unsigned, signed, half}
-use Rattle.rules.specs.Category017.{category017}
-use Rattle.rules.specs.Category018.{category018}
 use Rattle.rules.specs.Catalogue.{categories}
 use Rattle.tables.specs.Tables.{groupCount, fields, groups, layouts, groupRows, noGroupRow, groupAt}
 use Rattle.tables.specs.FieldRules.{ruleCount, Rule, rulesOf, obeys, allObeyed, rules, firstRule, ruleAt, ruleWords, addedTo, limits, sizes}
@@ -28,7 +26,7 @@ unfolding sizes groupAt
 size-of g = List·getD-map (λ r. r .octets) (groupRows 0 groups) g noGroupRow
 
 rules-long : length rules ≡ ruleCount
-unfolding rules groups layouts categories category017 category018
+unfolding rules groups layouts categories
 rules-long = refl
 
 no-rule : Rule
@@ -45,7 +43,7 @@ pub record Columns (i : ℕ) : Type 0 where
   pub added-small : ruleAt i .added < 2 ^ 32
 
 pub columns : (i : ℕ) → i < ruleCount → Columns i
-unfolding ruleWords addedTo limits ruleAt rules groups layouts categories category017 category018 no-rule
+unfolding ruleWords addedTo limits ruleAt rules groups layouts categories no-rule
 columns i h =
     let word : ℕ → ℕ → ℕ = λ s w. s * 100 + w in
     record {
@@ -134,7 +132,7 @@ below f g n e i h =
     ap f (sym j) ∙ in-row f g (from 0 n) i 0 (subst (λ x. i < x) (sym (length-from 0 n)) h) e ∙ ap g j
 
 pub group-rules : (g : ℕ) → g < groupCount → slice (firstRule g) (firstRule (suc g)) rules ≡ rulesOf (fieldsAt g)
-unfolding firstRule rules groupAt fields groups layouts categories category017 category018
+unfolding firstRule rules groupAt fields groups layouts categories
 group-rules g h = below (λ i. slice (firstRule i) (firstRule (suc i)) rules) (λ i. rulesOf (fieldsAt i)) groupCount refl g h
 
 -- the range is one that the bits hold
@@ -144,16 +142,16 @@ sane (value w (unsigned lo hi)) = leb lo hi && ltb hi (2 ^ w)
 sane (value w (signed lo hi)) = leb 1 w && leb lo (half w) && ltb hi (half w)
 
 pub group-sane : (g : ℕ) → g < groupCount → every sane (fieldsAt g) ≡ true
-unfolding groupAt fields groups layouts categories category017 category018
+unfolding groupAt fields groups layouts categories
 group-sane g h = below (λ i. every sane (fieldsAt i)) (λ i. true) groupCount refl g h
 
 pub first-few : (g : ℕ) → g ≤ groupCount → firstRule g ≤ ruleCount
-unfolding firstRule rules groups layouts categories category017 category018
+unfolding firstRule rules groups layouts categories
 first-few g h = leb-true _ _ (below (λ i. leb (firstRule i) ruleCount) (λ i. true) (suc groupCount) refl g (omega arith))
 
 -- a group without a rule says that it is free
 pub group-said : (g : ℕ) → g < groupCount → leb (firstRule (g + 1)) (firstRule g) ≡ groupAt g .free
-unfolding firstRule groupAt fields groups layouts categories category017 category018
+unfolding firstRule groupAt fields groups layouts categories
 group-said g h = rw (add-one g) (below (λ i. leb (firstRule (suc i)) (firstRule i)) (λ i. groupAt i .free) groupCount refl g h)
 
 pub rules-few : (g : ℕ) → g < groupCount → {e : ℕ} → e ≡ firstRule (g + 1) → e ≤ ruleCount

@@ -34,7 +34,7 @@ abbrev padded : Category → List (Option Place)
 padded c = over (none ∷ places c) (replicate frnCount none)
 
 places-tied : map placeIs (profileRows 1 categories) ≡ padded category017 ++ padded category018
-unfolding placeIs layoutIs layoutBy layoutAt groupAt fields groups layouts categories category017 category018
+unfolding placeIs layoutIs layoutBy layoutAt groupAt fields groups layouts categories
 places-tied = refl
 
 -- what holds of a whole table holds of each row
@@ -71,15 +71,12 @@ first c zero h = getD-over (none ∷ places c) frnCount zero none h
 first c (suc f) h = getD-over (none ∷ places c) frnCount (suc f) none h
 
 long017 : length (padded category017) ≡ frnCount
-unfolding category017
 long017 = refl
 
 few017 : length (none ∷ places category017) ≤ frnCount
-unfolding category017
 few017 = lit≤ tt
 
 few018 : length (none ∷ places category018) ≤ frnCount
-unfolding category018
 few018 = lit≤ tt
 
 -- the row at an FRN of a profile stands for what the profile has there
@@ -129,7 +126,7 @@ none-other p f h = place-none ∙ sym (ap (λ ps. placeAt ps f) (profile-past p 
 
 -- a row has a layout of the table
 pub place-row : (i : ℕ) → placeRowAt i .layout < layoutCount
-unfolding placeRowAt layouts categories category017 category018
+unfolding placeRowAt layouts categories
 place-row i = ltb-true (placeRowAt i .layout) layoutCount (at-row (λ r. ltb (r .layout) layoutCount) (λ r. true) (profileRows 1 categories) i nowhere refl refl)
 
 -- ---- what holds of each row of a table, by one test
@@ -149,11 +146,11 @@ pub fields-long : length (map fieldRow fields) ≡ fieldCount
 fields-long = length-map fields fieldRow
 
 pub field-wide : (i : ℕ) → i < fieldCount → 1 ≤ fieldAt i .bits
-unfolding fieldAt fields groups layouts categories category017 category018
+unfolding fieldAt fields groups layouts categories
 field-wide i h = leb-true 1 (fieldAt i .bits) (each (λ f. leb 1 (f .bits)) (map fieldRow fields) noFieldRow refl i h)
 
 pub field-few : (i : ℕ) → i < fieldCount → fieldAt i .bits ≤ 62
-unfolding fieldAt fields groups layouts categories category017 category018
+unfolding fieldAt fields groups layouts categories
 field-few i h = leb-true (fieldAt i .bits) 62 (each (λ f. leb (f .bits) 62) (map fieldRow fields) noFieldRow refl i h)
 
 -- ---- groups
@@ -170,12 +167,12 @@ groups-long = rows 0 groups
 
 -- three digits are enough for the place of a group
 pub groups-few : groupCount ≤ 1_000
-unfolding groups layouts categories category017 category018
+unfolding groups layouts categories
 groups-few = lit≤ tt
 
 -- a row says that its group is free where it is
 pub group-free : (g : ℕ) → g < groupCount → groupAt g .free ≡ isFree (slice (groupAt g .first) (groupAt g .end) fields)
-unfolding groupAt fields groups layouts categories category017 category018
+unfolding groupAt fields groups layouts categories
 group-free g h =
     in-row (λ r. r .free) (λ r. isFree (slice (r .first) (r .end) fields)) (groupRows 0 groups) g noGroupRow h refl
 
@@ -197,23 +194,23 @@ abbrev pub layoutDigits : ℕ → LayoutRow
 layoutDigits w = record { kind = w / 100_000_000; least = w / 10_000_000 % 10; most = w / 10_000 % 1_000; first = w / 10 % 1_000; end = w / 10 % 1_000 + w % 10 }
 
 pub field-digits : (i : ℕ) → i < fieldCount → fieldDigits (getD fieldWords i 0) ≡ fieldAt i
-unfolding fieldWords fieldAt least greatest ranges fields groups layouts categories category017 category018
+unfolding fieldWords fieldAt least greatest ranges fields groups layouts categories
 field-digits i h =
     ap fieldDigits (getD-map-in fieldWord (map fieldRow fields) i noFieldRow 0 h)
     ∙ in-row (λ r. fieldDigits (fieldWord r)) (λ r. r) (map fieldRow fields) i noFieldRow h refl
 
 pub field-range : (i : ℕ) → i < fieldCount → getD fieldWords i 0 % 100 < rangeCount
-unfolding fieldWords ranges fields groups layouts categories category017 category018
+unfolding fieldWords ranges fields groups layouts categories
 field-range i h = ltb-true _ rangeCount (each (λ w. ltb (w % 100) rangeCount) fieldWords 0 refl i h)
 
 pub group-digits : (i : ℕ) → i < groupCount → groupDigits (getD groupWords i 0) ≡ groupAt i
-unfolding groupWords groupAt fields groups layouts categories category017 category018
+unfolding groupWords groupAt fields groups layouts categories
 group-digits i h =
     ap groupDigits (getD-map-in groupWord (groupRows 0 groups) i noGroupRow 0 h)
     ∙ in-row (λ r. groupDigits (groupWord r)) (λ r. r) (groupRows 0 groups) i noGroupRow h refl
 
 pub layout-digits : (i : ℕ) → i < layoutCount → layoutDigits (getD layoutWords i 0) ≡ layoutAt i
-unfolding layoutWords layoutAt layouts categories category017 category018
+unfolding layoutWords layoutAt layouts categories
 layout-digits zero h = refl
 layout-digits (suc i) h =
     ap layoutDigits (getD-map-in layoutWord (layoutRows 0 layouts) i noLayoutRow 0 (le-of-suc-le-suc h))
@@ -235,5 +232,5 @@ unfolding layoutIs layoutBy layoutAt
 layout-none = refl
 
 pub layout-some : (j : ℕ) → suc j < layoutCount → present (layoutIs (layoutAt (suc j))) ≡ true
-unfolding layoutIs layoutBy layoutAt groupAt fields groups layouts categories category017 category018
+unfolding layoutIs layoutBy layoutAt groupAt fields groups layouts categories
 layout-some j h = each (λ l. present (layoutIs l)) (layoutRows 0 layouts) noLayoutRow refl j (le-of-suc-le-suc h)

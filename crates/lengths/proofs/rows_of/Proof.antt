@@ -4,8 +4,6 @@ use mathlib.Core.Path.{_≡_, ap, _∙_}
 use borrow.Author.Needs.{needs}
 use native.Mathlib.Omega.{arith}
 use lib.ListN.{length}
-use Rattle.rules.specs.Category017.{category017}
-use Rattle.rules.specs.Category018.{category018}
 use Rattle.rules.specs.Catalogue.{categories}
 use Rattle.rules.specs.Entry.{profileAt}
 use Rattle.tables.proofs.ProfileLaws.{row-octets, profile-at}
@@ -31,7 +29,7 @@ wide-requires-2 : tie.Need-wide-requires-2
 wide-requires-2 c κs = search needs
 
 begins : (c : tie.After-wide2) → c .before .before .wide .result ≡ firstOf (c .before .before .before .before .args .profile)
-unfolding firstOf categories category017 category018
+unfolding firstOf categories
 begins c = c .before .before .wide .ensures .0
 
 has : (c : tie.After-wide2) → c .wide2 .result ≡ length (profileAt categories (c .before .before .before .before .args .profile))

@@ -1,7 +1,5 @@
 -- `lengths::size_at` meets its contract: the table is the list of least sizes, entry by entry. Assumes nothing.
 use borrow.Author.Needs.{needs}
-use Rattle.rules.specs.Category017.{category017}
-use Rattle.rules.specs.Category018.{category018}
 use Rattle.rules.specs.Catalogue.{categories}
 use Rattle.lengths.specs.Least.{leasts}
 use Rattle.lengths.proofs.size_at.Statement.{statement}
@@ -14,7 +12,7 @@ wide-requires : tie.Need-wide-requires
 wide-requires c κs = search needs
 
 returns : tie.Need-returns
-unfolding leasts categories category017 category018
+unfolding leasts categories
 returns c = (c .wide .ensures .0, c .wide .ensures .1)
 
 pub size-at-spec : {M : Type 1} → statement M

@@ -2,8 +2,6 @@
 use mathlib.Core.Path.{refl}
 use Rattle.rules.specs.Answer.{need_or_then_, if_then_else_}
 use Rattle.rules.specs.Presence.{number, flags}
-use Rattle.rules.specs.Category017.{category017}
-use Rattle.rules.specs.Category018.{category018}
 use Rattle.rules.specs.Catalogue.{categories}
 use Rattle.sets.specs.Sets.{categoryAt, bitsOf}
 use Rattle.sets.specs.Steps.{usableBits, ended, setFrom}
@@ -14,7 +12,7 @@ use Rattle.measuring.proofs.shape.shapes.Statement.{statement}
 use Rattle.measuring.proofs.shape.shapes.Tie as tie
 
 returns : tie.Need-returns
-unfolding soundShapes soundRow octetsAt groupAt layoutAt placeRowAt groups layouts setFrom ended usableBits need_or_then_ if_then_else_ flags number categoryAt categories category017 category018 bitsOf
+unfolding soundShapes soundRow octetsAt groupAt layoutAt placeRowAt groups layouts setFrom ended usableBits need_or_then_ if_then_else_ flags number categoryAt categories bitsOf
 returns c = refl
 
 pub shapes-spec : {M : Type 1} → statement M

@@ -2,8 +2,6 @@
 use mathlib.Core.Path.{refl}
 use Rattle.rules.specs.Answer.{need_or_then_, if_then_else_}
 use Rattle.rules.specs.Presence.{number, flags}
-use Rattle.rules.specs.Category017.{category017}
-use Rattle.rules.specs.Category018.{category018}
 use Rattle.rules.specs.Catalogue.{categories}
 use Rattle.tables.specs.FieldRules.{rules, firstRule, singles}
 use Rattle.tables.specs.Tables.{layoutAt, layouts, groupAt, groups, placeRowAt}
@@ -16,7 +14,7 @@ use Rattle.quick_records.proofs.lent.set_table.Statement.{statement}
 use Rattle.quick_records.proofs.lent.set_table.Tie as tie
 
 returns : tie.Need-returns
-unfolding soundSets soundShape soundMask typeSets setFrom ended usableBits need_or_then_ if_then_else_ flags number downOf addedOf upOf limitOf soundRule soundSingle soundCounted firstRule rules singles placeRowAt layoutAt layouts groupAt groups categoryAt categories category017 category018 bitsOf
+unfolding soundSets soundShape soundMask typeSets setFrom ended usableBits need_or_then_ if_then_else_ flags number downOf addedOf upOf limitOf soundRule soundSingle soundCounted firstRule rules singles placeRowAt layoutAt layouts groupAt groups categoryAt categories bitsOf
 returns c = refl
 
 pub set-table-spec : {M : Type 1} → statement M

@@ -3,8 +3,6 @@ use mathlib.Core.Path.{refl}
 use Rattle.rules.specs.Answer.{_>>=_, if_then_else_}
 use Rattle.rules.specs.Presence.{number, flags}
 use Rattle.rules.specs.Record.{messageOf}
-use Rattle.rules.specs.Category017.{category017}
-use Rattle.rules.specs.Category018.{category018}
 use Rattle.rules.specs.Catalogue.{categories}
 use Rattle.tables.specs.FieldRules.{singles}
 use Rattle.tables.specs.Tables.{layoutAt, layouts, groupAt, groups}
@@ -15,7 +13,7 @@ use Rattle.quick_records.proofs.lent.type_table.Statement.{statement}
 use Rattle.quick_records.proofs.lent.type_table.Tie as tie
 
 returns : tie.Need-returns
-unfolding soundTypes typeSets rowAt messageOf if_then_else_ _>>=_ flags singles layoutAt layouts groupAt groups categoryAt categories category017 category018 bitsOf number
+unfolding soundTypes typeSets rowAt messageOf if_then_else_ _>>=_ flags singles layoutAt layouts groupAt groups categoryAt categories bitsOf number
 returns c = refl
 
 pub type-table-spec : {M : Type 1} → statement M

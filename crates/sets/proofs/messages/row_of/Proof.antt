@@ -4,8 +4,6 @@ use borrow.Author.Needs.{needs}
 use Rattle.rules.specs.Answer.{_>>=_, if_then_else_}
 use Rattle.rules.specs.Presence.{number}
 use Rattle.rules.specs.Record.{messageOf}
-use Rattle.rules.specs.Category017.{category017}
-use Rattle.rules.specs.Category018.{category018}
 use Rattle.rules.specs.Catalogue.{categories}
 use Rattle.sets.specs.Sets.{categoryAt, bitsOf}
 use Rattle.sets.specs.Steps.{rowAt}
@@ -23,7 +21,7 @@ add-match : tie.Need-add-match
 add-match c = search needs
 
 pub row-of-spec : {M : Type 1} → statement M
-unfolding rowAt messageOf if_then_else_ _>>=_ categoryAt categories category017 category018 bitsOf number
+unfolding rowAt messageOf if_then_else_ _>>=_ categoryAt categories bitsOf number
 row-of-spec =
     tie.close
     (tie.spec

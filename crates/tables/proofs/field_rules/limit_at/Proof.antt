@@ -1,8 +1,6 @@
 -- `tables::field_rules::limit_at` meets its contract: the code's table is, row by row, the one that the rules' profiles give. Assumes nothing.
 use mathlib.Core.Path.{refl}
 use Rattle.rules.specs.Catalogue.{categories}
-use Rattle.rules.specs.Category017.{category017}
-use Rattle.rules.specs.Category018.{category018}
 use Rattle.tables.specs.FieldRules.{limits, rules}
 use Rattle.tables.specs.Tables.{groups, layouts}
 use borrow.Author.Needs.{needs}
@@ -10,15 +8,15 @@ use Rattle.tables.proofs.field_rules.limit_at.Statement.{statement}
 use Rattle.tables.proofs.field_rules.limit_at.Tie as tie
 
 mul-result : tie.Need-mul-result
-unfolding rules groups layouts categories category017 category018
+unfolding rules groups layouts categories
 mul-result c = search needs
 
 array-read-result : tie.Need-array-read-result
-unfolding rules groups layouts categories category017 category018
+unfolding rules groups layouts categories
 array-read-result c = search needs
 
 returns : tie.Need-returns
-unfolding limits rules groups layouts categories category017 category018
+unfolding limits rules groups layouts categories
 returns c = refl
 
 pub limit-at-spec : {M : Type 1} → statement M

@@ -1,8 +1,6 @@
 -- `tables::field_rules::single_in` meets its contract: the code's table is, row by row, the one that the rules' profiles give. Assumes nothing.
 use mathlib.Core.Path.{refl}
 use Rattle.rules.specs.Catalogue.{categories}
-use Rattle.rules.specs.Category017.{category017}
-use Rattle.rules.specs.Category018.{category018}
 use Rattle.tables.specs.FieldRules.{singles}
 use Rattle.tables.specs.Tables.{groupAt, groups, layoutAt, layouts}
 use borrow.Author.Needs.{needs}
@@ -13,7 +11,7 @@ array-read-result : tie.Need-array-read-result
 array-read-result c = search needs
 
 returns : tie.Need-returns
-unfolding singles groupAt groups layoutAt layouts categories category017 category018
+unfolding singles groupAt groups layoutAt layouts categories
 returns c = refl
 
 pub single-in-spec : {M : Type 1} → statement M

@@ -1,8 +1,6 @@
 -- `tables::field_rules::size_in` meets its contract: the code's table is, row by row, the one that the rules' profiles give. Assumes nothing.
 use mathlib.Core.Path.{refl}
 use Rattle.rules.specs.Catalogue.{categories}
-use Rattle.rules.specs.Category017.{category017}
-use Rattle.rules.specs.Category018.{category018}
 use Rattle.tables.specs.FieldRules.{sizes}
 use Rattle.tables.specs.Tables.{groups, layouts}
 use borrow.Author.Needs.{needs}
@@ -10,11 +8,11 @@ use Rattle.tables.proofs.field_rules.size_in.Statement.{statement}
 use Rattle.tables.proofs.field_rules.size_in.Tie as tie
 
 array-read-result : tie.Need-array-read-result
-unfolding groups layouts categories category017 category018
+unfolding groups layouts categories
 array-read-result c = search needs
 
 returns : tie.Need-returns
-unfolding sizes groups layouts categories category017 category018
+unfolding sizes groups layouts categories
 returns c = refl
 
 pub size-in-spec : {M : Type 1} → statement M

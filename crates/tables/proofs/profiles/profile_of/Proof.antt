@@ -2,8 +2,6 @@
 use Prim.Native.Nat.{_-_}
 use native.Mathlib.Omega.{arith}
 use borrow.Author.Needs.{needs}
-use Rattle.rules.specs.Category017.{category017}
-use Rattle.rules.specs.Category018.{category018}
 use Rattle.rules.specs.Catalogue.{categories}
 use Rattle.tables.proofs.ProfileLaws.{Seeking, seek-first, seek-found, seek-next, seek-end}
 use Rattle.tables.proofs.profiles.profile_of.Statement.{statement}
@@ -22,7 +20,7 @@ array-read-if1 : tie.Need-array-read-if1 Inv-loop μ-loop
 array-read-if1 c = search needs
 
 returns : tie.Need-returns Inv-loop μ-loop
-unfolding categories category017 category018
+unfolding categories
 returns c = seek-found (c .before .before .loop .inv) (c .before .loop-test .taken) (c .if1 .taken)
 
 add-profile : tie.Need-add-profile Inv-loop μ-loop
@@ -32,7 +30,7 @@ loop-less : tie.Need-loop-less Inv-loop μ-loop
 loop-less c = omega arith
 
 loop-again : tie.Need-loop-again Inv-loop μ-loop
-unfolding categories category017 category018
+unfolding categories
 loop-again c = seek-next (c .before .before .loop .inv) (c .before .loop-test .taken) (c .if1 .left)
 
 returns-2 : tie.Need-returns-2 Inv-loop μ-loop

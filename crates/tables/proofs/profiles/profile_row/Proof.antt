@@ -3,8 +3,6 @@ use mathlib.Core.Path.{refl}
 use borrow.Author.Needs.{needs}
 use Rattle.rules.specs.Answer.{if_then_else_}
 use Rattle.rules.specs.Presence.{number}
-use Rattle.rules.specs.Category017.{category017}
-use Rattle.rules.specs.Category018.{category018}
 use Rattle.rules.specs.Catalogue.{categories}
 use Rattle.tables.specs.Places.{frnAs}
 use Rattle.tables.specs.Profiles.{bitsOf, profileRowAt}
@@ -34,7 +32,7 @@ array-read-t27 : tie.Need-array-read-t27
 array-read-t27 c = search needs
 
 returns : tie.Need-returns
-unfolding profileRowAt categories category017 category018 bitsOf number frnAs if_then_else_
+unfolding profileRowAt categories bitsOf number frnAs if_then_else_
 returns c = refl
 
 returns-2 : tie.Need-returns-2

@@ -2,22 +2,20 @@
 use mathlib.Core.Path.{refl}
 use borrow.Author.Needs.{needs}
 use Rattle.rules.specs.Catalogue.{categories}
-use Rattle.rules.specs.Category017.{category017}
-use Rattle.rules.specs.Category018.{category018}
 use Rattle.tables.specs.Tables.{fieldWords, ranges, fields, groups, layouts}
 use Rattle.tables.proofs.tables.field_word.Statement.{statement}
 use Rattle.tables.proofs.tables.field_word.Tie as tie
 
 mul-result : tie.Need-mul-result
-unfolding ranges fields groups layouts categories category017 category018
+unfolding ranges fields groups layouts categories
 mul-result c = search needs
 
 array-read-result : tie.Need-array-read-result
-unfolding ranges fields groups layouts categories category017 category018
+unfolding ranges fields groups layouts categories
 array-read-result c = search needs
 
 returns : tie.Need-returns
-unfolding fieldWords ranges fields groups layouts categories category017 category018
+unfolding fieldWords ranges fields groups layouts categories
 returns c = refl
 
 pub field-word-spec : {M : Type 1} → statement M

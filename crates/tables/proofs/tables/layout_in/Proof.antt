@@ -2,8 +2,6 @@
 use mathlib.Core.Path.{refl}
 use borrow.Author.Needs.{needs}
 use Rattle.rules.specs.Catalogue.{categories}
-use Rattle.rules.specs.Category017.{category017}
-use Rattle.rules.specs.Category018.{category018}
 use Rattle.tables.specs.Tables.{layoutsIn}
 use Rattle.tables.proofs.tables.layout_in.Statement.{statement}
 use Rattle.tables.proofs.tables.layout_in.Tie as tie
@@ -12,7 +10,7 @@ array-read-result : tie.Need-array-read-result
 array-read-result c = search needs
 
 returns : tie.Need-returns
-unfolding layoutsIn categories category017 category018
+unfolding layoutsIn categories
 returns c = refl
 
 pub layout-in-spec : {M : Type 1} → statement M

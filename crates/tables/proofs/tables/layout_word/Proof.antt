@@ -2,22 +2,20 @@
 use mathlib.Core.Path.{refl}
 use borrow.Author.Needs.{needs}
 use Rattle.rules.specs.Catalogue.{categories}
-use Rattle.rules.specs.Category017.{category017}
-use Rattle.rules.specs.Category018.{category018}
 use Rattle.tables.specs.Tables.{layoutWords, layouts}
 use Rattle.tables.proofs.tables.layout_word.Statement.{statement}
 use Rattle.tables.proofs.tables.layout_word.Tie as tie
 
 mul-result : tie.Need-mul-result
-unfolding layouts categories category017 category018
+unfolding layouts categories
 mul-result c = search needs
 
 array-read-result : tie.Need-array-read-result
-unfolding layouts categories category017 category018
+unfolding layouts categories
 array-read-result c = search needs
 
 returns : tie.Need-returns
-unfolding layoutWords layouts categories category017 category018
+unfolding layoutWords layouts categories
 returns c = refl
 
 pub layout-word-spec : {M : Type 1} → statement M

@@ -1,7 +1,5 @@
 -- `tables::tables::least_at` meets its contract: the code's table is, row by row, the one that the rules' profiles give. Assumes nothing.
 use Rattle.rules.specs.Catalogue.{categories}
-use Rattle.rules.specs.Category017.{category017}
-use Rattle.rules.specs.Category018.{category018}
 use Rattle.tables.specs.Tables.{least, ranges, fields, groups, layouts}
 use mir.Syntax.{w64}
 use mir.ValLaws.{toZ-ofZ}
@@ -10,15 +8,15 @@ use Rattle.tables.proofs.tables.least_at.Statement.{statement}
 use Rattle.tables.proofs.tables.least_at.Tie as tie
 
 mul-result : tie.Need-mul-result
-unfolding ranges fields groups layouts categories category017 category018
+unfolding ranges fields groups layouts categories
 mul-result c = search needs
 
 array-copy-out-result : tie.Need-array-copy-out-result
-unfolding ranges fields groups layouts categories category017 category018
+unfolding ranges fields groups layouts categories
 array-copy-out-result c = search needs
 
 returns : tie.Need-returns
-unfolding least ranges fields groups layouts categories category017 category018
+unfolding least ranges fields groups layouts categories
 returns c = toZ-ofZ w64 _ (record { sfits = c .result .given })
 
 pub least-at-spec : {M : Type 1} → statement M
