@@ -312,23 +312,23 @@ unfolding recordAt recordIn
 record-met bs c = on (c .place) _ (step _ _ (lookup _ 2 tt) (λ k e. step _ _ (record-read k _) (λ x f. done _)))
 
 -- what a step passes is a record
-record-passed : (bs : List ℕ) (d : walking-cursor.Cursor) (w : Walked) → recordAt bs d ≡ ok w → (s l k : ℕ) × (w .met ≡ met.Record s l k)
+record-passed : (bs : List ℕ) (d : walking-cursor.Cursor) (w : Walked) → recordAt bs d ≡ ok w → (s l k : ℕ) × (w .met ≡ met.Record k s l)
 unfolding recordAt recordIn
 record-passed bs d w h =
     bind-elim _ _ (later-inv (d .place) _ h) λ k e h₁.
     bind-elim _ _ h₁ λ x f h₂.
     (_, _, _, ap (λ v. v .met) (sym (ok-inj h₂)))
 
-answer-met : (c : walking-cursor.Cursor) (a : Answer Walked) → Numbered a → ((w : Walked) → a ≡ ok w → (s l k : ℕ) × (w .met ≡ met.Record s l k))
+answer-met : (c : walking-cursor.Cursor) (a : Answer Walked) → Numbered a → ((w : Walked) → a ≡ ok w → (s l k : ℕ) × (w .met ≡ met.Record k s l))
     → (n p : ℕ) → answered c a .met ≡ met.Refused n p → Number n
 answer-met c (ok w) h i n p e =
     let (s, l, k, f) = i w refl in
-    let z : met.Record s l k ≡ met.Refused n p = sym f ∙ e in
+    let z : met.Record k s l ≡ met.Refused n p = sym f ∙ e in
     let z : _≡_ {A = ℕ} 0 1 = cc in
     absurd (omega arith)
 answer-met c (refused m q) h i n p e = let z : m ≡ n = cc in subst Number z (h m q refl)
 
-step-met : (t : Bool) (c : walking-cursor.Cursor) (a : Answer Walked) → Numbered a → ((w : Walked) → a ≡ ok w → (s l k : ℕ) × (w .met ≡ met.Record s l k))
+step-met : (t : Bool) (c : walking-cursor.Cursor) (a : Answer Walked) → Numbered a → ((w : Walked) → a ≡ ok w → (s l k : ℕ) × (w .met ≡ met.Record k s l))
     → (n p : ℕ) → (if t then answered c a else stays c met.Finished) .met ≡ met.Refused n p → Number n
 unfolding if_then_else_
 step-met true c a h i n p e = answer-met c a h i n p e
@@ -442,7 +442,7 @@ find-item-tells block reference n o = tells (λ a. itemFound a .number) (λ v. r
 
 -- a struct tells a step: `met` is 1 exactly where a record was met, and `number` is a refusal's, 1 to 21, or 0
 pub record TellsMet (w : Walked) (r : RecordMet) : Type 0 where
-  pub record-met : (s l k : ℕ) → w .met ≡ met.Record s l k → (r .met ≡ 1) × (r .number ≡ 0)
+  pub record-met : (s l k : ℕ) → w .met ≡ met.Record k s l → (r .met ≡ 1) × (r .number ≡ 0)
   pub finished : w .met ≡ met.Finished → (r .met ≡ 0) × (r .number ≡ 0)
   pub refused : (n p : ℕ) → w .met ≡ met.Refused n p → (r .met ≡ 0) × (r .number ≡ n) × (1 ≤ n) × (n ≤ 21)
 

@@ -74,7 +74,7 @@ cursorOut c = record { block = c .block; place = c .place; end = c .end; categor
 
 -- `met` is 1 where a record was met; without one all is 0 but a refusal's number and place, and `next`, where the walk goes on
 abbrev pub metBy : Met → Walked → RecordMet
-metBy (met.Record s l k) w = record {
+metBy (met.Record k s l) w = record {
   number = 0;
   met = 1;
   category = k;

@@ -203,9 +203,9 @@ pub extern "C" fn asterix_next_record(recording: &[u8], cursor: Cursor) -> Recor
     let met = walked.met;
     match met {
         Met::Record {
+            category,
             start,
             length,
-            category,
         } => {
             let map = walked.map;
             let starts = map.starts;

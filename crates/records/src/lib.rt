@@ -14,6 +14,7 @@ use sets::octets_of;
 use sets::set_number;
 use sets::type_frn;
 use sets::usable;
+use sets::weight;
 ghost use mathlib.Core.Path.{_≡_};
 ghost use mathlib.Core.Bool.{true};
 ghost use Prim.Native.Nat.{_+_, _^_, _<_};
@@ -135,19 +136,13 @@ fn walk_items(profile: usize, set: ItemSet, part: &[u8], at: usize) -> ItemsWalk
     let t = steps();
     let of = type_frn(profile);
     let mut left = set.bits;
-    let mut bit: u64 = 0x4000_0000_0000_0000;
-    let mut frn: usize = 1;
     let mut rest = part;
     let mut here = at;
     let mut count: usize = 0;
     let mut starts = [0u16; 35];
     let mut kind: u8 = 0;
     while left != 0 {
-        if left < bit {
-            bit = bit / 2;
-            frn = frn + 1;
-            continue;
-        }
+        let frn = u64::leading_zeros(left) as usize;
         let c = item_check(&t, profile, frn, rest);
         let ItemCheck::Whole(n) = c else {
             return stopped(item_number(c), here + item_place(c));
@@ -157,9 +152,7 @@ fn walk_items(profile: usize, set: ItemSet, part: &[u8], at: usize) -> ItemsWalk
         rest = &rest[n..];
         here = here + n;
         count = count + 1;
-        left = left - bit;
-        bit = bit / 2;
-        frn = frn + 1;
+        left = left - weight(frn);
     }
     ItemsWalked {
         checked: RecordChecked::Ends { end: here },

@@ -1,14 +1,15 @@
 -- What holds of flags as numbers, and so of a set of FRNs as the code holds it.
 --
 -- In order: flags end to end; flags over none; a set of flags from FRN 1 on; one set within another; one flag of a number; a set with one FRN
--- more. Assumes nothing.
+-- more; the first FRN of a set. Assumes nothing.
 use Prim.Native.Nat.{ℕ, zero, suc, _+_, _-_, _*_, _/_, _%_, _^_, _≤_, _<_, min}
 use mathlib.Core.Path.{_≡_, refl, sym, ap, ap₂, _∙_, subst}
 use mathlib.Core.Bool.{Bool, true, false, _&&_}
 use mathlib.Core.List.{List, [], _∷_, _++_}
 use native.Mathlib.Omega.{arith}
 use native.Mathlib.Nat.{zero-add, suc-sub-suc, sub-zero, mod-lt, mod-eq-of-lt, mod-eq-sub-mod, pow-suc, div-eq-of-lt, add-left-cancel, suc-add, le-div-iff-mul-le, div-lt-iff-lt-mul}
-use lib.Pow.{pow-pos, pow-add, split, high, field, mod-mod-pow}
+use lib.Count.{leadingZeros, leading-top}
+use lib.Pow.{pow-pos, pow-mono, pow-add, split, high, field, mod-mod-pow}
 use lib.Dec.{leb, eqb}
 use lib.Bits.{bitAnd, and-zero-l, and-le-r, and-block}
 use borrow.Author.Tests.{le-leb, lt-leb, leb-true, leb-false, eq-eqb, ne-eqb, eqb-true, eqb-false}
@@ -249,3 +250,46 @@ module _ (bits frn f w : ℕ) {t : Bool} (fits : bits < 2 ^ 64) (e : f ≡ min f
 
   pub with-fits : bits + w < 2 ^ 64
   with-fits = rw weight-is (flag-more-lt 64 bits f fits (omega arith) (sym h ∙ n))
+
+-- ---- the first FRN of a set: as many zeros stand before its bit as its number says
+
+pub record First (left f : ℕ) : Type 0 where
+  pub few : f ≤ 63
+  pub there : 2 ^ (63 - f) ≤ left
+  pub none-before : left < 2 ^ (64 - f)
+
+pub first : (left : ℕ) → (left ≡ 0 → ⊥) → left < 2 ^ 64 → First left (leadingZeros 64 left)
+first left some below =
+    let t = leading-top 64 left (go left some) below in
+    let e : 63 - leadingZeros 64 left ≡ t .0 = omega (arith, t .1) in
+    let g : 64 - leadingZeros 64 left ≡ suc (t .0) = omega (arith, t .1) in
+    record { few = omega (arith, t .1); there = rw e (t .2); none-before = rw g (t .3) }
+  where
+    go : (n : ℕ) → (n ≡ 0 → ⊥) → 0 < n
+    go zero h = absurd (h refl)
+    go (suc n) h = omega arith
+
+module _ (left f : ℕ) (t : First left f) where
+  -- no flag from another FRN on is set before it
+  pub first-from : (j : ℕ) → left < 2 ^ (64 - j) → j ≤ f
+  first-from j h = go (leb j f) refl
+    where
+      go : (b : Bool) → leb j f ≡ b → j ≤ f
+      go true e = leb-true _ _ e
+      go false e =
+          let k : f < j = leb-false _ _ e in
+          let p : 2 ^ (64 - j) ≤ 2 ^ (63 - f) = pow-mono (omega arith) in
+          absurd (omega (arith, t .there))
+
+  one-less : 64 - f ≡ suc (63 - f)
+  one-less = omega (arith, t .few)
+
+  -- what is left of the set without it
+  pub first-rest : left - 2 ^ (63 - f) < 2 ^ (63 - f)
+  first-rest = let e : 2 ^ (64 - f) ≡ 2 ^ (63 - f) * 2 = ap (λ k. 2 ^ k) one-less ∙ pow-suc 2 (63 - f) in omega (arith, t .there, t .none-before)
+
+  pub first-flags : flags (64 - f) left ≡ true ∷ flags (63 - f) (left - 2 ^ (63 - f))
+  unfolding flags
+  first-flags =
+      let m : left % 2 ^ (63 - f) ≡ left - 2 ^ (63 - f) = mod-eq-sub-mod (t .there) ∙ mod-eq-of-lt first-rest in
+      rw (one-less, le-leb (2 ^ (63 - f)) left (t .there), m)

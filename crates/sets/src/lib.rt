@@ -66,7 +66,7 @@ fn capped(frn: usize) -> usize
 }
 
 // The bit of an FRN.
-fn weight(frn: usize) -> u64
+pub fn weight(frn: usize) -> u64
     requires { ⌜ frn ≤ 63 ⌝ }
     ensures { λ r. ⌜ r ≡ 2 ^ (63 - frn) ⌝ }
 {

@@ -54,11 +54,12 @@ impl Cursor {
 
 // What a step meets.
 pub enum Met {
-    // A record: its first byte, counted from the recording's start, how many bytes it has, and its category.
+    // A record: its category, its first byte, counted from the recording's start, and how many bytes it has. The octet first, so that no gap is left
+    // behind the variant, which would shift the map in every copy of what a step answers.
     Record {
+        category: u8,
         start: usize,
         length: usize,
-        category: u8,
     },
     // Nothing more: the recording's end, or a cursor that stands in no block of it.
     Finished,
@@ -163,9 +164,9 @@ fn record_at(recording: &[u8], from: Cursor, at: Cursor) -> Walked
     let map = walked.map;
     Walked {
         met: Met::Record {
+            category,
             start: place,
             length: stop - offset,
-            category,
         },
         map,
         next: Cursor {

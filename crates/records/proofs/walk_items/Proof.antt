@@ -2,21 +2,23 @@
 use Prim.Native.Nat.{_-_, _≤_}
 use mathlib.Core.Path.{_≡_, sym, ap, _∙_}
 use native.Mathlib.Omega.{arith}
+use lib.Count.{leadingZeros}
+use lib.Pow.{pow-pos}
 use lib.ListN.{length}
 use borrow.Author.Needs.{needs}
 use Rattle.rules.specs.Answer.{ok, refused}
 use Rattle.items.specs.Answers.{checkAt, checkedOf}
 use Rattle.records.proofs.PlaceLaws.{check-near, check-within, check-few}
-use Rattle.records.proofs.WalkLaws.{check-refused, Standing, stand-first, stand-end, stand-less, stand-skip, stand-stop, stand-item}
+use Rattle.sets.proofs.FlagLaws.{First}
+use Rattle.records.proofs.WalkLaws.{check-refused, Standing, stand-first, stand-end, stand-next, stand-stop, stand-item}
 use Rattle.records.proofs.walk_items.Statement.{statement}
 use Rattle.records.proofs.walk_items.Tie as tie
 
 abbrev Inv-loop : tie.InvT-loop
-Inv-loop profile part at t of left₀ bit₀ frn₀ rest₀ here₀ count₀ starts₀ kind₀ left bit frn rest here count starts kind =
-    Standing profile left₀ part at left bit frn rest here count starts kind
+Inv-loop profile part at t of left₀ rest₀ here₀ count₀ starts₀ kind₀ left rest here count starts kind = Standing profile left₀ part at left rest here count starts kind
 
 abbrev μ-loop : tie.MeasureT-loop
-μ-loop profile part at t of left₀ bit₀ frn₀ rest₀ here₀ count₀ starts₀ kind₀ left bit frn rest here count starts kind = 64 - frn
+μ-loop profile part at t of left₀ rest₀ here₀ count₀ starts₀ kind₀ left rest here count starts kind = left
 
 steps-requires : tie.Need-steps-requires Inv-loop μ-loop
 steps-requires c κs = search needs
@@ -27,14 +29,12 @@ type-frn-requires c κs = search needs
 loop-holds : tie.Need-loop-holds Inv-loop μ-loop
 loop-holds c = stand-first _ _ _ _ (c .before .before .before .pre .0) (c .before .before .before .pre .1)
 
-add-frn : tie.Need-add-frn Inv-loop μ-loop
-add-frn c = omega (arith, c .before .before .loop .inv .few)
+-- the FRN at this turn
+turn : (c : tie.In-loop Inv-loop μ-loop) → First (c .before .loop .left) (leadingZeros 64 (c .before .loop .left))
+turn c = stand-next _ _ _ _ _ _ _ _ _ _ (c .before .loop .inv) (c .loop-test .taken)
 
-loop-less : tie.Need-loop-less Inv-loop μ-loop
-loop-less c = omega (arith, stand-less _ _ _ _ _ _ _ _ _ _ _ _ (c .before .before .loop .inv) (c .before .loop-test .taken))
-
-loop-again : tie.Need-loop-again Inv-loop μ-loop
-loop-again c = stand-skip _ _ _ _ _ _ _ _ _ _ _ _ (c .before .before .loop .inv) (c .before .loop-test .taken) (c .if1 .taken)
+cast-frn : tie.Need-cast-frn Inv-loop μ-loop
+cast-frn c = record { fits = omega (arith, turn c .few) }
 
 item-check-requires : tie.Need-item-check-requires Inv-loop μ-loop
 item-check-requires c κs = search needs
@@ -53,12 +53,12 @@ item-place-requires c κs = search needs
 
 -- the item that is refused at this turn, in the rules' terms
 barred : (c : tie.After-item-place Inv-loop μ-loop)
-    → checkAt (c .before .before .before .before .before .before .before .before .before .before .before .before .args .profile) (c .before .before .before .before .before .before .before .before .loop .frn)
-    (c .before .before .before .before .before .before .before .before .loop .rest .now) ≡ refused (c .before .item-number .result) (c .item-place .result)
+    → checkAt (c .before .before .before .before .before .before .before .before .before .before .before .args .profile) (leadingZeros 64 (c .before .before .before .before .before .before .before .loop .left))
+    (c .before .before .before .before .before .before .before .loop .rest .now) ≡ refused (c .before .item-number .result) (c .item-place .result)
 barred c = check-refused _ _ _ _ _ _ (c .before .before .before .before .item-check .ensures) (c .before .before .enum-told .given .1) (c .before .item-number .ensures) (c .item-place .ensures)
 
 add-stopped : tie.Need-add-stopped Inv-loop μ-loop
-add-stopped c = omega (arith, check-near _ _ _ _ _ (barred c), c .before .before .before .before .before .before .before .before .loop .inv .room)
+add-stopped c = omega (arith, check-near _ _ _ _ _ (barred c), c .before .before .before .before .before .before .before .loop .inv .room)
 
 stopped-requires : tie.Need-stopped-requires Inv-loop μ-loop
 stopped-requires c κs = search needs
@@ -66,16 +66,16 @@ stopped-requires c κs = search needs
 returns : tie.Need-returns Inv-loop μ-loop
 returns c =
     rw (c .stopped .ensures)
-    (stand-stop _ _ _ _ _ _ _ _ _ _ _ _ (c .before .before .before .before .before .before .before .before .before .loop .inv) (c .before .before .before .before .before .before .before .before .loop-test .taken) _ _
-    (c .before .before .before .before .before .before .before .if1 .left) (barred (c .before)))
+    (stand-stop _ _ _ _ _ _ _ _ _ _ (c .before .before .before .before .before .before .before .before .loop .inv) (c .before .before .before .before .before .before .before .loop-test .taken) _ _
+    (barred (c .before)))
 
 -- the item at this turn, in the rules' terms
 item : (c : tie.After-known-told Inv-loop μ-loop)
-    → checkAt (c .before .before .before .before .before .before .before .before .before .before .before .args .profile) (c .before .before .before .before .before .before .before .loop .frn)
-    (c .before .before .before .before .before .before .before .loop .rest .now) ≡ ok (c .before .c .given .0 .0)
+    → checkAt (c .before .before .before .before .before .before .before .before .before .before .args .profile) (leadingZeros 64 (c .before .before .before .before .before .before .loop .left))
+    (c .before .before .before .before .before .before .loop .rest .now) ≡ ok (c .before .c .given .0 .0)
 item c = sym (c .before .before .before .item-check .ensures) ∙ ap checkedOf (c .before .c .given .1)
 
-within : (c : tie.After-known-told Inv-loop μ-loop) → c .before .c .given .0 .0 ≤ length (c .before .before .before .before .before .before .before .loop .rest .now)
+within : (c : tie.After-known-told Inv-loop μ-loop) → c .before .c .given .0 .0 ≤ length (c .before .before .before .before .before .before .loop .rest .now)
 within c = check-within _ _ _ _ (item c)
 
 cast-starts : tie.Need-cast-starts Inv-loop μ-loop
@@ -112,25 +112,31 @@ part-rest-end : tie.Need-part-rest-end Inv-loop μ-loop
 part-rest-end c = omega (arith, within (c .before .before))
 
 add-here : tie.Need-add-here Inv-loop μ-loop
-add-here c = omega (arith, within (c .before .before .before), c .before .before .before .before .before .before .before .before .before .before .loop .inv .room)
+add-here c = omega (arith, within (c .before .before .before), c .before .before .before .before .before .before .before .before .before .loop .inv .room)
 
 add-count : tie.Need-add-count Inv-loop μ-loop
-add-count c = omega (arith, c .before .before .before .before .before .before .before .before .before .before .loop .inv .low, c .before .before .before .before .before .before .before .before .before .before .loop .inv .few)
+add-count c = omega (arith, c .before .before .before .before .before .before .before .before .before .loop .inv .low, c .before .before .before .before .before .before .before .before .before .loop .inv .few)
 
-add-frn-2 : tie.Need-add-frn-2 Inv-loop μ-loop
-add-frn-2 c = omega (arith, c .before .before .before .before .before .before .before .before .before .before .loop .inv .few)
+weight-requires : tie.Need-weight-requires Inv-loop μ-loop
+weight-requires c κs = turn (c .before .before .before .before .before .before .before .before) .few
 
-loop-less-2 : tie.Need-loop-less-2 Inv-loop μ-loop
-loop-less-2 c = omega (arith, stand-less _ _ _ _ _ _ _ _ _ _ _ _ (c .before .before .before .before .before .before .before .before .before .before .loop .inv) (c .before .before .before .before .before .before .before .before .before .loop-test .taken))
+there : (c : tie.After-weight Inv-loop μ-loop) → c .weight .result ≤ c .before .before .before .before .before .before .before .before .before .before .loop .left
+there c = rw (c .weight .ensures) (turn (c .before .before .before .before .before .before .before .before .before) .there)
 
-loop-again-2 : tie.Need-loop-again-2 Inv-loop μ-loop
-loop-again-2 c =
-    stand-item _ _ _ _ _ _ _ _ _ _ _ _ (c .before .before .before .before .before .before .before .before .before .before .loop .inv) (c .before .before .before .before .before .before .before .before .before .loop-test .taken) _ _ _
-    (c .before .before .before .before .before .before .before .before .if1 .left) (item (c .before .before .before))
-    (c .before .before .before .before .before .before .before .before .before .before .before .type-frn .ensures) (c .before .type-octet .ensures)
+sub-left : tie.Need-sub-left Inv-loop μ-loop
+sub-left c = there c
+
+loop-less : tie.Need-loop-less Inv-loop μ-loop
+loop-less c = omega (arith, there c, c .weight .ensures, pow-pos (63 - leadingZeros 64 (c .before .before .before .before .before .before .before .before .before .before .loop .left)))
+
+loop-again : tie.Need-loop-again Inv-loop μ-loop
+loop-again c =
+    rw (c .weight .ensures)
+    (stand-item _ _ _ _ _ _ _ _ _ _ (c .before .before .before .before .before .before .before .before .before .before .loop .inv) (c .before .before .before .before .before .before .before .before .before .loop-test .taken) _ _ _
+    (item (c .before .before .before .before)) (c .before .before .before .before .before .before .before .before .before .before .before .type-frn .ensures) (c .before .before .type-octet .ensures))
 
 returns-2 : tie.Need-returns-2 Inv-loop μ-loop
-returns-2 c = stand-end _ _ _ _ _ _ _ _ _ _ _ _ (c .before .loop .inv) (c .loop-test .left)
+returns-2 c = stand-end _ _ _ _ _ _ _ _ _ _ (c .before .loop .inv) (c .loop-test .left)
 
 pub walk-items-spec : {M : Type 1} → statement M
 walk-items-spec =
@@ -141,9 +147,7 @@ walk-items-spec =
     steps-requires
     type-frn-requires
     loop-holds
-    add-frn
-    loop-less
-    loop-again
+    cast-frn
     item-check-requires
     enum-known-c
     enum-told
@@ -165,7 +169,8 @@ walk-items-spec =
     part-rest-end
     add-here
     add-count
-    add-frn-2
-    loop-less-2
-    loop-again-2
+    weight-requires
+    sub-left
+    loop-less
+    loop-again
     returns-2)
