@@ -1,7 +1,7 @@
 -- For each function that another crate can call, no two distinct results meet its statement.
 --
 -- In order: answers that are numbers or tests; a set; an FSPEC; a judgement. Assumes nothing.
-use Prim.Native.Nat.{ℕ, _^_, _<_, _≤_, min}
+use Prim.Native.Nat.{ℕ, _-_, _^_, _<_, _≤_, min}
 use mathlib.Core.Path.{_≡_, sym, ap, ap₂, _∙_}
 use mathlib.Core.Bool.{Bool, true, false}
 use mathlib.Core.List.{List}
@@ -31,6 +31,9 @@ one-is-within self other a b p q = p ∙ sym q
 
 pub one-set-number : (s : SetRead) (a b : ℕ) → a ≡ setNumber s → b ≡ setNumber s → a ≡ b
 one-set-number s a b p q = p ∙ sym q
+
+pub one-weight : (frn a b : ℕ) → a ≡ 2 ^ (63 - frn) → b ≡ 2 ^ (63 - frn) → a ≡ b
+one-weight frn a b p q = p ∙ sym q
 
 pub one-octets-of : (bits a b : ℕ) → (a ≡ rowsLeft 9 0 bits) × (a ≤ 9) → (b ≡ rowsLeft 9 0 bits) × (b ≤ 9) → a ≡ b
 one-octets-of bits a b p q = p .0 ∙ sym (q .0)
