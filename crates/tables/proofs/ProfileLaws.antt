@@ -19,6 +19,7 @@ use Rattle.rules.specs.Catalogue.{categories}
 use Rattle.rules.specs.Entry.{profileAt}
 use Rattle.rules.proofs.AnswerLaws.{both-left, both-right, if-true, if-false, none-some, T-true}
 use Rattle.rules.proofs.Tables.{everyCategory}
+use Rattle.tables.specs.Tables.{profileCount}
 use Rattle.tables.specs.Places.{frnAs}
 use Rattle.tables.specs.declared.profiles.ProfileRow.{ProfileRow}
 use Rattle.tables.specs.Profiles.{categoryIn, categoryAt, profileIn, bitsOf, octetsIn, usableIn, frnIn, untimedAs, column, profileRowAt}
@@ -50,7 +51,7 @@ category-past [] i h = refl
 category-past (c ∷ cs) zero h = absurd (omega arith)
 category-past (c ∷ cs) (suc i) h = category-past cs i (omega arith)
 
-pub category-none : (i : ℕ) → 2 ≤ i → categoryAt i ≡ categoryIn [] 0
+pub category-none : (i : ℕ) → profileCount ≤ i → categoryAt i ≡ categoryIn [] 0
 unfolding categoryAt categories
 category-none i h = category-past categories i h
 
@@ -186,11 +187,11 @@ category-missed n (c ∷ cs) h = go (eqb n (c .cat)) (category-missed n cs) h
     go false f k = f (omega arith)
 
 -- the same by the index that `profile_of` answers
-pub category-at : (n i : ℕ) → i ≡ profileIn n categories → i < 2 → categoryOf n categories ≡ some (categoryAt i)
+pub category-at : (n i : ℕ) → i ≡ profileIn n categories → i < profileCount → categoryOf n categories ≡ some (categoryAt i)
 unfolding categoryAt categories
 category-at n i e h = category-found n categories (rw (← e) h) ∙ ap (λ k. some (categoryIn categories k)) (sym e)
 
-pub category-other : (n i : ℕ) → i ≡ profileIn n categories → 2 ≤ i → categoryOf n categories ≡ none
+pub category-other : (n i : ℕ) → i ≡ profileIn n categories → profileCount ≤ i → categoryOf n categories ≡ none
 unfolding categories
 category-other n i e h = category-missed n categories (rw (← e) h)
 

@@ -1,6 +1,6 @@
 -- What holds of the tables, by computed tests over each whole table: the rows of groups and places stand for what the rules have there.
 --
--- In order: places; a test of each row; fields; groups; rows as one number; layouts. Assumes nothing.
+-- In order: a test of each row; places; fields; groups; rows as one number; layouts. Assumes nothing.
 use Prim.Native.Nat.{ℕ, zero, suc, _+_, _*_, _/_, _%_, _≤_, _<_}
 use mathlib.Core.Path.{_≡_, refl, sym, ap, _∙_}
 use mathlib.Core.Bool.{Bool, true, false, _&&_}
@@ -16,10 +16,9 @@ use borrow.Author.Tests.{ltb-true, leb-true}
 use Rattle.rules.specs.Field.{Field}
 use Rattle.rules.specs.Layout.{Group, flatten}
 use Rattle.rules.proofs.AnswerLaws.{both-left, both-right}
+use Rattle.rules.proofs.EntryLaws.{length-over}
 use Rattle.rules.specs.Presence.{present, placeAt}
 use Rattle.rules.specs.Record.{Place, Category, places}
-use Rattle.rules.specs.Category017.{category017}
-use Rattle.rules.specs.Category018.{category018}
 use Rattle.rules.specs.Catalogue.{categories}
 use Rattle.rules.specs.Entry.{profileAt, over}
 use Rattle.tables.specs.declared.tables.GroupRow.{GroupRow}
@@ -27,15 +26,16 @@ use Rattle.tables.specs.declared.tables.LayoutRow.{LayoutRow}
 use Rattle.tables.specs.declared.tables.FieldRow.{FieldRow}
 use Rattle.tables.specs.Tables.{fieldCount, groupCount, layoutCount, profileCount, frnCount, rangeCount, fields, fieldRow, noFieldRow, noGroupRow, noLayoutRow, fieldAt, ranges, least, greatest, fieldWord, fieldWords, groupWord, groupWords, layoutWord, layoutWords, layoutsIn, referencesIn, isFree, groups, layouts, groupRows, groupAt, layoutRows, layoutBy, layoutIs, layoutAt, nowhere, profileRows, placeRowAt, placeIs}
 
--- ---- places
+-- ---- what holds of each row of a table, by one test
 
--- the places of a profile as the table has them, FRN 0 first
-abbrev padded : Category → List (Option Place)
-padded c = over (none ∷ places c) (replicate frnCount none)
+abbrev pub every : {A : Type 0} → (A → Bool) → List A → Bool
+every t [] = true
+every t (a ∷ l) = t a && every t l
 
-places-tied : map placeIs (profileRows 1 categories) ≡ padded category017 ++ padded category018
-unfolding placeIs layoutIs layoutBy layoutAt groupAt fields groups layouts categories
-places-tied = refl
+pub each : {A : Type 0} (t : A → Bool) (l : List A) (d : A) → every t l ≡ true → (i : ℕ) → i < length l → t (getD l i d) ≡ true
+each t [] d h i k = absurd (not-suc-le-zero k)
+each t (a ∷ l) d h zero k = both-left (t a) (every t l) h
+each t (a ∷ l) d h (suc i) k = each t l d (both-right (t a) (every t l) h) i (le-of-suc-le-suc k)
 
 -- what holds of a whole table holds of each row
 at-row : {A B : Type 0} (f g : A → B) (l : List A) (i : ℕ) (d : A) → f d ≡ g d → map f l ≡ map g l → f (getD l i d) ≡ g (getD l i d)
@@ -45,6 +45,27 @@ pub in-row : {A B : Type 0} (f g : A → B) (l : List A) (i : ℕ) (d : A) → i
 in-row f g [] i d k h = absurd (not-suc-le-zero k)
 in-row f g (a ∷ l) zero d k h = ap (λ m. getD m 0 (f a)) h
 in-row f g (a ∷ l) (suc i) d k h = in-row f g l i d (le-of-suc-le-suc k) (ap (drop 1) h)
+
+-- ---- places
+
+-- the places of a profile as the table has them, FRN 0 first
+abbrev padded : Category → List (Option Place)
+padded c = over (none ∷ places c) (replicate frnCount none)
+
+places-tied : map placeIs (profileRows 1 categories) ≡ flatten (map padded categories)
+unfolding placeIs layoutIs layoutBy layoutAt groupAt fields groups layouts categories
+places-tied = refl
+
+-- the table has room for every FRN of a category, 0 among them
+abbrev fits : Category → Bool
+fits c = ltb (length (places c)) frnCount
+
+all-fit : every fits categories ≡ true
+unfolding categories
+all-fit = refl
+
+padded-long : (c : Category) → length (padded c) ≡ frnCount
+padded-long c = length-over (none ∷ places c) (replicate frnCount none)
 
 getD-over : {A : Type 0} (xs : List A) (n f : ℕ) (d : A) → length xs ≤ n → getD (over xs (replicate n d)) f d ≡ getD xs f d
 getD-over [] n f d h = all n f
@@ -57,62 +78,57 @@ getD-over (x ∷ xs) zero f d h = absurd (not-suc-le-zero h)
 getD-over (x ∷ xs) (suc n) zero d h = refl
 getD-over (x ∷ xs) (suc n) (suc f) d h = getD-over xs n f d (le-of-suc-le-suc h)
 
+-- FRN f of a profile's places
+padded-at : (c : Category) (f : ℕ) → length (places c) < frnCount → getD (padded c) f none ≡ placeAt (c .profile) f
+padded-at c zero h = getD-over (none ∷ places c) frnCount zero none h
+padded-at c (suc f) h = getD-over (none ∷ places c) frnCount (suc f) none h
+
+-- FRN f of the profile with an index, where the profiles stand end to end
+place-in : (cs : List Category) (p f : ℕ) → every fits cs ≡ true → p < length cs → f < frnCount → getD (flatten (map padded cs)) (p * frnCount + f) none ≡ placeAt (profileAt cs p) f
+place-in [] p f t h k = absurd (not-suc-le-zero h)
+place-in (c ∷ cs) zero f t h k =
+    let i : zero * frnCount + f ≡ f = omega arith in
+    rw i (List·getD-append (padded c) (flatten (map padded cs)) none f (rw (padded-long c) k) ∙ padded-at c f (ltb-true _ frnCount (both-left (fits c) (every fits cs) t)))
+place-in (c ∷ cs) (suc p) f t h k =
+    let i : suc p * frnCount + f ≡ length (padded c) + (p * frnCount + f) = omega (arith, padded-long c) in
+    rw i (getD-append-add (padded c) (flatten (map padded cs)) (p * frnCount + f) none ∙ place-in cs p f (both-right (fits c) (every fits cs) t) (le-of-suc-le-suc h) k)
+
 pub place-none : placeIs nowhere ≡ none
 unfolding placeIs layoutIs layoutBy layoutAt
 place-none = refl
 
-place-getD : (i : ℕ) → placeIs (placeRowAt i) ≡ getD (padded category017 ++ padded category018) i none
+place-getD : (i : ℕ) → placeIs (placeRowAt i) ≡ getD (flatten (map padded categories)) i none
 unfolding placeRowAt
 place-getD i = sym (List·getD-map placeIs (profileRows 1 categories) i nowhere) ∙ ap (getD (map placeIs (profileRows 1 categories)) i) place-none ∙ ap (λ l. getD l i none) places-tied
-
--- FRN f of a profile's places
-first : (c : Category) (f : ℕ) → length (none ∷ places c) ≤ frnCount → getD (padded c) f none ≡ placeAt (c .profile) f
-first c zero h = getD-over (none ∷ places c) frnCount zero none h
-first c (suc f) h = getD-over (none ∷ places c) frnCount (suc f) none h
-
-long017 : length (padded category017) ≡ frnCount
-long017 = refl
-
-few017 : length (none ∷ places category017) ≤ frnCount
-few017 = lit≤ tt
-
-few018 : length (none ∷ places category018) ≤ frnCount
-few018 = lit≤ tt
-
--- the row at an FRN of a profile stands for what the profile has there
-pub place-is : (p f : ℕ) → p < profileCount → f < frnCount → placeIs (placeRowAt (p * frnCount + f)) ≡ placeAt (profileAt categories p) f
-unfolding categories
-place-is zero f h k =
-    let i : zero * frnCount + f ≡ f = omega arith in
-    rw i (place-getD f ∙ List·getD-append (padded category017) (padded category018) none f (rw long017 k) ∙ first category017 f few017)
-place-is (suc zero) f h k =
-    let i : suc zero * frnCount + f ≡ length (padded category017) + f = omega (arith, long017) in
-    rw i (place-getD (length (padded category017) + f) ∙ getD-append-add (padded category017) (padded category018) f none ∙ first category018 f few018)
-place-is (suc (suc p)) f h k = absurd (not-suc-le-zero (le-of-suc-le-suc (le-of-suc-le-suc h)))
-
--- there is nothing past the last FRN, nor in another profile
-pub place-past : (p f : ℕ) → frnCount ≤ f → placeAt (profileAt categories p) f ≡ none
-unfolding categories
-place-past p zero h = absurd (not-suc-le-zero h)
-place-past zero (suc f) h = List·getD-eq-default (places category017) none (le-trans (le-of-suc-le-suc few017) (le-of-suc-le-suc h))
-place-past (suc zero) (suc f) h = List·getD-eq-default (places category018) none (le-trans (le-of-suc-le-suc few018) (le-of-suc-le-suc h))
-place-past (suc (suc p)) (suc f) h = refl
-
-pub profile-past : (p : ℕ) → profileCount ≤ p → profileAt categories p ≡ []
-unfolding categories
-profile-past zero h = absurd (not-suc-le-zero h)
-profile-past (suc zero) h = absurd (not-suc-le-zero (le-of-suc-le-suc h))
-profile-past (suc (suc p)) h = refl
 
 pub profiles-long : length categories ≡ profileCount
 unfolding categories
 profiles-long = refl
 
+-- the row at an FRN of a profile stands for what the profile has there
+pub place-is : (p f : ℕ) → p < profileCount → f < frnCount → placeIs (placeRowAt (p * frnCount + f)) ≡ placeAt (profileAt categories p) f
+place-is p f h k = place-getD (p * frnCount + f) ∙ place-in categories p f all-fit (rw profiles-long h) k
+
+profile-fits : (cs : List Category) (p : ℕ) → every fits cs ≡ true → length (flatten (profileAt cs p)) < frnCount
+profile-fits [] p t = lit≤ tt
+profile-fits (c ∷ cs) zero t = ltb-true _ frnCount (both-left (fits c) (every fits cs) t)
+profile-fits (c ∷ cs) (suc p) t = profile-fits cs p (both-right (fits c) (every fits cs) t)
+
 pub profile-few : (p : ℕ) → length (flatten (profileAt categories p)) < frnCount
-unfolding categories
-profile-few zero = few017
-profile-few (suc zero) = few018
-profile-few (suc (suc p)) = lit≤ tt
+profile-few p = profile-fits categories p all-fit
+
+-- there is nothing past the last FRN, nor in another profile
+pub place-past : (p f : ℕ) → frnCount ≤ f → placeAt (profileAt categories p) f ≡ none
+place-past p zero h = absurd (not-suc-le-zero h)
+place-past p (suc f) h = List·getD-eq-default (flatten (profileAt categories p)) none (le-of-suc-le-suc (le-trans (profile-few p) h))
+
+profile-none : (cs : List Category) (p : ℕ) → length cs ≤ p → profileAt cs p ≡ []
+profile-none [] p h = refl
+profile-none (c ∷ cs) zero h = absurd (not-suc-le-zero h)
+profile-none (c ∷ cs) (suc p) h = profile-none cs p (le-of-suc-le-suc h)
+
+pub profile-past : (p : ℕ) → profileCount ≤ p → profileAt categories p ≡ []
+profile-past p h = profile-none categories p (rw profiles-long h)
 
 pub none-past : (p f : ℕ) → frnCount ≤ f → placeIs nowhere ≡ placeAt (profileAt categories p) f
 none-past p f h = place-none ∙ sym (place-past p f h)
@@ -128,17 +144,6 @@ none-other p f h = place-none ∙ sym (ap (λ ps. placeAt ps f) (profile-past p 
 pub place-row : (i : ℕ) → placeRowAt i .layout < layoutCount
 unfolding placeRowAt layouts categories
 place-row i = ltb-true (placeRowAt i .layout) layoutCount (at-row (λ r. ltb (r .layout) layoutCount) (λ r. true) (profileRows 1 categories) i nowhere refl refl)
-
--- ---- what holds of each row of a table, by one test
-
-abbrev pub every : {A : Type 0} → (A → Bool) → List A → Bool
-every t [] = true
-every t (a ∷ l) = t a && every t l
-
-pub each : {A : Type 0} (t : A → Bool) (l : List A) (d : A) → every t l ≡ true → (i : ℕ) → i < length l → t (getD l i d) ≡ true
-each t [] d h i k = absurd (not-suc-le-zero k)
-each t (a ∷ l) d h zero k = both-left (t a) (every t l) h
-each t (a ∷ l) d h (suc i) k = each t l d (both-right (t a) (every t l) h) i (le-of-suc-le-suc k)
 
 -- ---- fields
 

@@ -3,6 +3,7 @@ use Prim.Native.Nat.{_-_}
 use native.Mathlib.Omega.{arith}
 use borrow.Author.Needs.{needs}
 use Rattle.rules.specs.Catalogue.{categories}
+use Rattle.tables.specs.Tables.{profileCount}
 use Rattle.tables.proofs.ProfileLaws.{Seeking, seek-first, seek-found, seek-next, seek-end}
 use Rattle.tables.proofs.profiles.profile_of.Statement.{statement}
 use Rattle.tables.proofs.profiles.profile_of.Tie as tie
@@ -11,7 +12,7 @@ abbrev Inv-loop : tie.InvT-loop
 Inv-loop cat profile₀ profile = Seeking cat categories profile
 
 abbrev μ-loop : tie.MeasureT-loop
-μ-loop cat profile₀ profile = 2 - profile
+μ-loop cat profile₀ profile = profileCount - profile
 
 loop-holds : tie.Need-loop-holds Inv-loop μ-loop
 loop-holds c = seek-first _ _
