@@ -180,6 +180,12 @@ def messages():
     return [" " * 8 + line for line in out]
 
 
+def message_arms():
+    """The proof has the same line for each arm of the match, and the tool asks for one by one."""
+    line = "    (λ c. row-key _ _ (c .before .before .fits .kind .fits) (c .match .keys%d))"
+    return [line % arm for arm in range(1, 1 + sum(len(category.messages) for category in PROFILES))]
+
+
 # ---- crates/lengths
 
 def firsts():

@@ -37,6 +37,7 @@ FIELD_RULES = "crates/tables/src/field_rules.rt"
 TABLES_SPECS = "crates/tables/specs/Tables.antt"
 PROFILES = "crates/tables/src/profiles.rt"
 MESSAGES = "crates/sets/src/messages.rt"
+MESSAGES_PROOF = "crates/sets/proofs/messages/row_of/Proof.antt"
 LENGTHS = "crates/lengths/src/lib.rt"
 LENGTHS_SPECS = "crates/lengths/specs/Least.antt"
 QUICK_ITEMS = "crates/quick_items/src/lib.rt"
@@ -62,6 +63,7 @@ REGIONS = [
     Region(TABLES_SPECS, "profileCount, frnCount", code.profile_counts),
     Region(PROFILES, "the columns of profiles", code.profiles),
     Region(MESSAGES, "the rows of message types", code.messages),
+    Region(MESSAGES_PROOF, "a line to an arm", code.message_arms),
     Region(LENGTHS, "FIRST", code.firsts),
     Region(LENGTHS, "LEAST", code.leasts),
     Region(LENGTHS_SPECS, "leastCount", code.least_count),
@@ -106,7 +108,8 @@ def made(file, text):
             inside = start.group(1)
             if inside not in regions:
                 sys.exit("%s:%d: make.py makes no %s here" % (file, number, inside))
-            out += [line] + regions.pop(inside)() + [""] * file.endswith(".antt")  # `rt fmt` has it so before a comment
+            out += [line] + regions.pop(inside)()
+            out += [""] * (file.endswith(".antt") and not line.startswith(" "))  # `rt fmt` has it so before a comment outside of a declaration
         elif END.fullmatch(line):
             inside = None
         if not inside:

@@ -22,7 +22,7 @@ CRATES = pathlib.Path(__file__).resolve().parents[1] / "crates"
 # ---- rules and words, `steps` of crates/quick_items/src/lib.rt
 
 RULES = 16  # as many as a digit of a word can name
-RULED, COUNTED, EXTENDED, TWICE = 1, 2, 3, 4
+RULED, COUNTED, EXTENDED, TWICE, SIZED = 1, 2, 3, 4, 5
 ANY_BITS = (0x00_000000, 0x28_FFFFFF)
 
 
@@ -61,6 +61,12 @@ def counted(item):
     if item.form == "list" and max(item.least, item.octets) < 16 and item.greatest == 255:
         return item.least, COUNTED, item.octets, 1
     return None
+
+
+def sized(item):
+    """The word that says of an item how many octets it has, and nothing of which are legal; none where a digit does not do."""
+    part, before = {"fixed": (0, item.octets), "list": (item.octets, 1), "led": (1, 0)}.get(item.form, (16, 16))
+    return (0, SIZED, part, before) if max(part, before) < 16 else None
 
 
 def free_octets(place):
@@ -110,17 +116,22 @@ class Rules:
         return [("0x%02X_%06X" % (word >> 24, word & 0xFFFFFF), "rule %X   %s" % (n, says)) for n, (word, says) in enumerate(out)]
 
 
+def step(place, rules):
+    """The word of a place: what is legal there, where a word can tell it, else how many octets the item has."""
+    if not place.item or free_octets(place):
+        return str(free_octets(place))
+    word, told = list_word(place), asked(place)
+    if told:
+        kind, some = told
+        row = rules.row_of(some)
+        word = None if row is None else (row, kind, 0, 0 if kind == EXTENDED else place.item.octets)
+    word = word or sized(place.item)
+    return digits(word) if word else "0"
+
+
 def steps():
-    out, rules = [], Rules()
-    for place in rows.places():
-        word = str(free_octets(place))
-        if list_word(place):
-            word = digits(list_word(place))
-        elif word == "0" and place.item and asked(place):
-            kind, some = asked(place)
-            row = rules.row_of(some)
-            word = "0" if row is None else digits((row, kind, 0, 0 if kind == EXTENDED else place.item.octets))
-        out.append((word, rows.at_frn(place)))
+    rules = Rules()
+    out = [(step(place, rules), rows.at_frn(place)) for place in rows.places()]
     return aligned(out + rules.rows(0) + rules.rows(1), 8)
 
 

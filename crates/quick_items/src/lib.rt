@@ -27,7 +27,7 @@ const HIGHS: usize = LOWS + RULES;
 pub type Steps = [u32; HIGHS + RULES];
 
 // How the parts lie: one with a rule; a count or length octet and free parts; two at most, of an octet each, as far as FX bits say;
-// one with two rules.
+// one with two rules. Past these a word says how many octets an item has, and nothing of which are legal.
 const RULED: usize = 1;
 
 const COUNTED: usize = 2;

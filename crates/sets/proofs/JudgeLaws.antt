@@ -21,6 +21,7 @@ use Rattle.rules.specs.Catalogue.{categories}
 use Rattle.rules.specs.Entry.{over, isItem}
 use Rattle.rules.proofs.AnswerLaws.{ok-inj, bind-in, bind-out, bind-assoc, need-bind, need-in, if-inv, if-true, if-false, some-inj, none-some, both-left, both-right, refused-ok}
 use Rattle.rules.proofs.Tables.{distinct, everyCategory}
+use Rattle.tables.specs.Tables.{profileCount}
 use Rattle.tables.proofs.ProfileLaws.{category-none}
 use Rattle.sets.specs.Sets.{categoryIn, categoryAt, bitsOf, within}
 use Rattle.sets.specs.Steps.{typeFrn, marks, markBits, rowAt, judgeRow, judgeSet}
@@ -92,7 +93,7 @@ row-unknown i t n =
     (subst (λ j. allIn (keys j (categoryIn categories i .messages)) (reverse (keysFrom 0 categories)) ≡ true) (zero-add i) (keys-at 0 i categories _ tables-keys))))
 
 -- an index past the last has no message types
-pub row-none : (i t : ℕ) → 2 ≤ i → refused 13 0 ≡ rowAt i t
+pub row-none : (i t : ℕ) → profileCount ≤ i → refused 13 0 ≡ rowAt i t
 unfolding rowAt messageOf
 row-none i t h = sym (bind-out _ (ap (λ c. messageOf t (c .messages)) (category-none i h)))
 

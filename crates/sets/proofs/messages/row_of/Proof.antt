@@ -28,6 +28,7 @@ row-of-spec =
     returns
     mul-match
     add-match
+    -- ---- made by model/make.py: a line to an arm
     (λ c. row-key _ _ (c .before .before .fits .kind .fits) (c .match .keys1))
     (λ c. row-key _ _ (c .before .before .fits .kind .fits) (c .match .keys2))
     (λ c. row-key _ _ (c .before .before .fits .kind .fits) (c .match .keys3))
@@ -63,4 +64,5 @@ row-of-spec =
     (λ c. row-key _ _ (c .before .before .fits .kind .fits) (c .match .keys33))
     (λ c. row-key _ _ (c .before .before .fits .kind .fits) (c .match .keys34))
     (λ c. row-key _ _ (c .before .before .fits .kind .fits) (c .match .keys35))
+    -- ---- end of what is made
     (λ c. row-unknown _ _ (c .match .rest)))
