@@ -117,8 +117,8 @@ def write_item(item, values):
 # ---- records
 
 def fspec(frns):
-    """The FSPEC of a set of FRNs: no octet after the one that names the last."""
-    octets = bytearray((max(frns) + 6) // 7)
+    """The FSPEC of a set of FRNs: no octet after the one that names the last, and one where it names none, which is refused."""
+    octets = bytearray((max(frns, default=1) + 6) // 7)
     for frn in frns:
         octets[(frn - 1) // 7] |= 128 >> (frn - 1) % 7
     return bytes(octet | (n + 1 < len(octets)) for n, octet in enumerate(octets))
