@@ -27,7 +27,7 @@ use Rattle.layouts.specs.Read.{rowsAt, partAt, legal, partSound, partsLegal, ch
 use Rattle.tables.specs.Tables.{profileCount, frnCount, placeCount, groupCount, groupAt, layoutAt, nowhere, profileRows, placeRowAt}
 use Rattle.items.proofs.CheckLaws.{Single, single-is, single-size, single-sound, single-legal, free-of, free-there, check-whole, check-place}
 use Rattle.layouts.proofs.WholeLaws.{equal-free, chain-legal}
-use Rattle.layouts.proofs.OctetLaws.{joined-suc, joined-nil}
+use Rattle.layouts.proofs.OctetLaws.{octets-known, joined-suc, joined-nil}
 use Rattle.layouts.proofs.ReadLaws.{octets-drop, le-or-lt}
 use Rattle.layouts.proofs.LegalLaws.{part-ruled}
 use Rattle.layouts.proofs.ShapeLaws.{rowed, Chaining, chain-begun, chain-group, chain-last, chain-more, chain-parts, chain-shape, list-shape, list-there, led-there}
@@ -96,8 +96,10 @@ free-check profile frn n bs h k o e a b l =
 
 -- ---- the item of a profile at an FRN
 
-pub at-place : (profile frn n : ℕ) (bs : List ℕ) → profile < profileCount → frn < frnCount → Octets bs → Plainly n (wholeSize (layoutAt (placeRowAt (profile * frnCount + frn) .layout)) bs) → Plainly n (checkAt profile frn bs)
-at-place profile frn n bs h k o p = subst (Plainly n) (check-place profile frn bs h k o) p
+-- what is told at a place is told of the item there, by a slice's octets
+pub at-place : (profile frn n : ℕ) (bs : List ℕ) → profile < profileCount → frn < frnCount → ((i : ℕ) → getD bs i 0 < 256) → Plainly n (wholeSize (layoutAt (placeRowAt (profile * frnCount + frn) .layout)) bs)
+    → Plainly n (checkAt profile frn bs)
+at-place profile frn n bs h k o p = subst (Plainly n) (check-place profile frn bs h k (octets-known bs o)) p
 
 -- ---- the first three octets of a part
 

@@ -7,17 +7,6 @@ use borrow.Author.Needs.{needs}
 use Rattle.tables.proofs.field_rules.rule_word.Statement.{statement}
 use Rattle.tables.proofs.field_rules.rule_word.Tie as tie
 
-mul-result : tie.Need-mul-result
-unfolding rules groups layouts categories
-mul-result c = search needs
-
-array-read-result : tie.Need-array-read-result
-unfolding rules groups layouts categories
-array-read-result c = search needs
-
-returns : tie.Need-returns
-unfolding ruleWords rules groups layouts categories
-returns c = refl
-
 pub rule-word-spec : {M : Type 1} → statement M
-rule-word-spec = tie.close (tie.spec mul-result array-read-result returns)
+unfolding ruleWords rules groups layouts categories
+rule-word-spec = tie.close (tie.spec (λ c. search needs) (λ c. search needs) (λ c. refl))

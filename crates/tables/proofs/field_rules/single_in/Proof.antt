@@ -7,12 +7,6 @@ use borrow.Author.Needs.{needs}
 use Rattle.tables.proofs.field_rules.single_in.Statement.{statement}
 use Rattle.tables.proofs.field_rules.single_in.Tie as tie
 
-array-read-result : tie.Need-array-read-result
-array-read-result c = search needs
-
-returns : tie.Need-returns
-unfolding singles groupAt groups layoutAt layouts categories
-returns c = refl
-
 pub single-in-spec : {M : Type 1} → statement M
-single-in-spec = tie.close (tie.spec array-read-result returns)
+unfolding singles groupAt groups layoutAt layouts categories
+single-in-spec = tie.close (tie.spec (λ c. search needs) (λ c. refl))

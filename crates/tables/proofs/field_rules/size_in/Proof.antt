@@ -7,13 +7,6 @@ use borrow.Author.Needs.{needs}
 use Rattle.tables.proofs.field_rules.size_in.Statement.{statement}
 use Rattle.tables.proofs.field_rules.size_in.Tie as tie
 
-array-read-result : tie.Need-array-read-result
-unfolding groups layouts categories
-array-read-result c = search needs
-
-returns : tie.Need-returns
-unfolding sizes groups layouts categories
-returns c = refl
-
 pub size-in-spec : {M : Type 1} → statement M
-size-in-spec = tie.close (tie.spec array-read-result returns)
+unfolding sizes groups layouts categories
+size-in-spec = tie.close (tie.spec (λ c. search needs) (λ c. refl))

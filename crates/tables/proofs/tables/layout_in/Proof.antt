@@ -6,12 +6,6 @@ use Rattle.tables.specs.Tables.{layoutsIn}
 use Rattle.tables.proofs.tables.layout_in.Statement.{statement}
 use Rattle.tables.proofs.tables.layout_in.Tie as tie
 
-array-read-result : tie.Need-array-read-result
-array-read-result c = search needs
-
-returns : tie.Need-returns
-unfolding layoutsIn categories
-returns c = refl
-
 pub layout-in-spec : {M : Type 1} → statement M
-layout-in-spec = tie.close (tie.spec array-read-result returns)
+unfolding layoutsIn categories
+layout-in-spec = tie.close (tie.spec (λ c. search needs) (λ c. refl))

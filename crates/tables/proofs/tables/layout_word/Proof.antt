@@ -6,17 +6,6 @@ use Rattle.tables.specs.Tables.{layoutWords, layouts}
 use Rattle.tables.proofs.tables.layout_word.Statement.{statement}
 use Rattle.tables.proofs.tables.layout_word.Tie as tie
 
-mul-result : tie.Need-mul-result
-unfolding layouts categories
-mul-result c = search needs
-
-array-read-result : tie.Need-array-read-result
-unfolding layouts categories
-array-read-result c = search needs
-
-returns : tie.Need-returns
-unfolding layoutWords layouts categories
-returns c = refl
-
 pub layout-word-spec : {M : Type 1} → statement M
-layout-word-spec = tie.close (tie.spec mul-result array-read-result returns)
+unfolding layoutWords layouts categories
+layout-word-spec = tie.close (tie.spec (λ c. search needs) (λ c. search needs) (λ c. refl))

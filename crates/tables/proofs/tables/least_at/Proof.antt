@@ -7,17 +7,6 @@ use borrow.Author.Needs.{needs}
 use Rattle.tables.proofs.tables.least_at.Statement.{statement}
 use Rattle.tables.proofs.tables.least_at.Tie as tie
 
-mul-result : tie.Need-mul-result
-unfolding ranges fields groups layouts categories
-mul-result c = search needs
-
-array-copy-out-result : tie.Need-array-copy-out-result
-unfolding ranges fields groups layouts categories
-array-copy-out-result c = search needs
-
-returns : tie.Need-returns
-unfolding least ranges fields groups layouts categories
-returns c = toZ-ofZ w64 _ (record { sfits = c .result .given })
-
 pub least-at-spec : {M : Type 1} → statement M
-least-at-spec = tie.close (tie.spec mul-result array-copy-out-result returns)
+unfolding least ranges fields groups layouts categories
+least-at-spec = tie.close (tie.spec (λ c. search needs) (λ c. search needs) (λ c. toZ-ofZ w64 _ (record { sfits = c .result .given })))

@@ -6,15 +6,6 @@ use Rattle.tables.specs.Tables.{referencesIn}
 use Rattle.tables.proofs.tables.reference_in.Statement.{statement}
 use Rattle.tables.proofs.tables.reference_in.Tie as tie
 
-mul-result : tie.Need-mul-result
-mul-result c = search needs
-
-array-read-result : tie.Need-array-read-result
-array-read-result c = search needs
-
-returns : tie.Need-returns
-unfolding referencesIn categories
-returns c = refl
-
 pub reference-in-spec : {M : Type 1} → statement M
-reference-in-spec = tie.close (tie.spec mul-result array-read-result returns)
+unfolding referencesIn categories
+reference-in-spec = tie.close (tie.spec (λ c. search needs) (λ c. search needs) (λ c. refl))
