@@ -7,9 +7,9 @@
 //
 // LEN has the higher octet first, and counts all octets of the block.
 use tables::PROFILES;
+use tables::octet;
 use tables::profile_of;
 ghost use mathlib.Core.Path.{_≡_};
-ghost use Prim.Native.Nat.{_<_};
 ghost use lib.Dec.{eqb, leb};
 ghost use Rattle.blocks.specs.Read.{headAt, headBy};
 ghost use Rattle.blocks.specs.Answers.{headOf, headNumber};
@@ -38,12 +38,6 @@ impl HeadRead {
     }
 }
 
-fn wide(x: u8) -> usize
-    ensures { λ r. ⌜ (r ≡ x) × (r < 256) ⌝ }
-{
-    x as usize
-}
-
 // The head at the start of a part, before LEN is held to what is lent.
 pub fn read_head(part: &[u8]) -> HeadRead
     ensures { λ r. ⌜ headOf r ≡ headAt (now (part .entry)) ⌝ }
@@ -55,7 +49,7 @@ pub fn read_head(part: &[u8]) -> HeadRead
     if PROFILES <= profile {
         return HeadRead::Refused { number: 2 };
     }
-    let len = wide(part[1]) * 256 + wide(part[2]);
+    let len = octet(part[1]) * 256 + octet(part[2]);
     if len < HEAD {
         return HeadRead::Refused { number: 3 };
     }

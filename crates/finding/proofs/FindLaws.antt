@@ -16,13 +16,14 @@ use lib.Seq.{drop-at}
 use Rattle.rules.specs.Answer.{Answer, ok, refused, octetsOf}
 use Rattle.rules.specs.Layout.{Layout, Values, flatten, readItem, writeItem}
 use Rattle.rules.specs.Presence.{placeAt}
-use Rattle.rules.specs.Record.{Place, Category, Record, places, items, valueOf, writeRecord, writePlace}
+use Rattle.rules.specs.Record.{Place, Category, Record, places, items, valueOf, writeRecord}
 use Rattle.rules.specs.Block.{writeAll}
 use Rattle.rules.specs.Catalogue.{categories}
-use Rattle.rules.specs.Entry.{profileAt, Laid, laidAs, laid, laidItems, Numbered, numbered, RecordMap, startOf, mapOf, Opened, openBlock, findRecord, isItem, findItem, layoutAs}
+use Rattle.rules.specs.Entry.{Laid, laidAs, laidItems, Numbered, numbered, RecordMap, startOf, mapOf, Opened, openBlock, findRecord, isItem, findItem, layoutAs}
 use Rattle.rules.proofs.AnswerLaws.{refused-ok, ok-inj, bind-in, bind-out, bind-elim, need-in, need-elim, need-out, expect-in, expect-out, later-in, later-out, if-inv, if-true, if-false, some-inj, none-some, T-true, octetsOf-ok, Octets}
 use Rattle.rules.proofs.EntryLaws.{Lies, RecordWritten, record-written, ItemFound, item-found, item-absent, RecordFound, record-found, BodyFound, body-found, indexAs, start-found, start-absent}
 use Rattle.rules.proofs.LayoutLaws.{item-laws}
+use Rattle.rules.proofs.PlaceLaws.{laid-low}
 use Rattle.rules.proofs.Tables.{distinct, tables-hold, sound-of}
 use Rattle.rules.proofs.Demands.{items-lie, map-start}
 use Rattle.tables.specs.Places.{isNamed, frnAs}
@@ -132,17 +133,6 @@ unfolding numbered
 numbered-low c k [] n z h = refused-ok h
 numbered-low c k (r ∷ rs) zero z h = le-of-eq (ap (λ y. y .start) (ok-inj h))
 numbered-low c k (r ∷ rs) (suc n) z h = omega (arith, numbered-low c (k + length (octetsOf (writeRecord c r))) rs n z h)
-
-pub laid-low : (ref k : ℕ) (ps : List (Option Place)) (vs : List (Option Values)) (l : Laid) → laidAs ref (laid k ps vs) ≡ some l → k ≤ l .start
-laid-low ref k [] vs l h = none-some h
-laid-low ref k (p ∷ ps) [] l h = none-some h
-laid-low ref k (p ∷ ps) (none ∷ vs) l h = laid-low ref k ps vs l h
-laid-low ref k (none ∷ ps) (some v ∷ vs) l h = laid-low ref k ps vs l h
-laid-low ref k (some p ∷ ps) (some v ∷ vs) l h =
-    ⊎-elim
-    (λ (e, g). le-of-eq (ap (λ y. y .start) (some-inj g)))
-    (λ (e, g). omega (arith, laid-low ref (k + length (octetsOf (writePlace p v))) ps vs l g))
-    (if-inv (eqb ref (p .reference)) _ (laidAs ref (laid (k + length (octetsOf (writePlace p v))) ps vs)) h)
 
 -- an item that lies in octets is what is read there
 lies-read : (layout : Layout) (v : Values) (bs out : List ℕ) (start : ℕ) → writeItem layout v ≡ ok out → Lies bs start out

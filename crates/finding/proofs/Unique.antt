@@ -50,10 +50,13 @@ pub one-locate-item : (block : List ℕ) (reference n : ℕ) (a b : ItemLocated)
     → itemPlaceOf a ≡ itemSpan (findItem categories block reference n) → itemPlaceOf b ≡ itemSpan (findItem categories block reference n) → a ≡ b
 one-locate-item block reference n a b p q = item-told a b (p ∙ sym q)
 
--- ---- `find_record`, `find_item`: that very part
+-- ---- `part_of`, `find_record`, `find_item`: that very part
 
 same-part : (s a b : RefT (List ℕ)) (span : ℕ × ℕ) → VeryPart s a span → VeryPart s b span → (a .ptr ≡ b .ptr) × (a .now ≡ b .now)
 same-part s a b span p q = (ap₂ (λ x y. (x, y)) (p .block ∙ sym (q .block)) (p .offset ∙ sym (q .offset)), p .bytes ∙ sym (q .bytes))
+
+pub one-part-of : (block : RefT (List ℕ)) (start count : ℕ) (a b : RefT (List ℕ)) → VeryPart block a (start, count) → VeryPart block b (start, count) → (a .ptr ≡ b .ptr) × (a .now ≡ b .now)
+one-part-of block start count a b p q = same-part block a b (start, count) p q
 
 pub one-find-record : (block : RefT (List ℕ)) (n : ℕ) (a b : RefT (List ℕ)) → VeryPart block a (spanIn (recordSpan (findRecord categories (block .now) n)))
     → VeryPart block b (spanIn (recordSpan (findRecord categories (block .now) n))) → (a .ptr ≡ b .ptr) × (a .now ≡ b .now)

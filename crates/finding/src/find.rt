@@ -18,8 +18,8 @@ ghost use Rattle.blocks.specs.Read.{Records};
 ghost use Rattle.finding.specs.Part.{VeryPart};
 ghost use Rattle.finding.specs.Found.{seekAt, recordSpan, Located, itemPlaceOf, itemSpan, spanIn};
 
-// The bytes of a block from start on, so many: that very part.
-fn part_of(block: &[u8], start: usize, count: usize) -> &[u8]
+// The octets of a block or a log from start on, so many: that very part.
+pub fn part_of(block: &[u8], start: usize, count: usize) -> &[u8]
     requires { ⌜ start + count ≤ length (now block) ⌝ }
     ensures { λ r. ⌜ VeryPart (block .entry) r (start, count) ⌝ }
 {

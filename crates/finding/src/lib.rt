@@ -9,3 +9,4 @@ pub use find::find_item;
 pub use find::find_record;
 pub use find::locate_item;
 pub use find::locate_record;
+pub use find::part_of;

@@ -24,7 +24,7 @@ ghost use Rattle.items.specs.Answers.{countOf};
 // ---- one value
 
 // x where it is not negative, and -x - 1 where it is.
-fn magnitude(x: i64) -> u64
+pub fn magnitude(x: i64) -> u64
     ensures { λ r. ⌜ r ≡ mag x ⌝ }
 {
     if x < 0 {

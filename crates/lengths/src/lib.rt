@@ -1,6 +1,7 @@
 // The fewest octets that the items named by an octet of an FSPEC take (document 02, W-204): of a fixed item its length; of a list or a led item its
 // first octet; of an extended item its first part.
 use tables::PROFILES;
+use tables::octet;
 use tables::profile_row;
 ghost use mathlib.Core.Path.{_≡_};
 ghost use Prim.Native.Nat.{_≤_, _<_, _+_, _*_};
@@ -81,17 +82,11 @@ const LEAST: [u8; 56] = [
 ];
 // ---- end of what is made
 
-fn wide(x: u8) -> usize
-    ensures { λ r. ⌜ (r ≡ x) × (r < 256) ⌝ }
-{
-    x as usize
-}
-
 fn size_at(index: usize) -> usize
     requires { ⌜ index < leastCount ⌝ }
     ensures { λ r. ⌜ (r ≡ getD leasts index 0) × (r < 256) ⌝ }
 {
-    wide(LEAST[index])
+    octet(LEAST[index])
 }
 
 // What the FRN at an index adds, where its bit is set.
@@ -121,8 +116,8 @@ fn rows_of(profile: usize) -> ProfileRows
         };
     }
     ProfileRows {
-        first: wide(FIRST[profile]),
-        octets: wide(profile_row(profile).octets),
+        first: octet(FIRST[profile]),
+        octets: octet(profile_row(profile).octets),
     }
 }
 
@@ -138,7 +133,7 @@ pub fn least_length(profile: usize, place: usize, octet: u8) -> usize
     let first = rows.first + place * FRNS;
     let mut sum: usize = 0;
     let mut full: usize = 128;
-    let mut left = wide(octet) / 2;
+    let mut left = tables::octet(octet) / 2;
     let mut k: usize = 0;
     while k < FRNS {
         let bit = full / 2;

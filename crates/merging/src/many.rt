@@ -5,6 +5,7 @@ use crate::run::Merge;
 use crate::run::Which;
 use crate::run::first_by;
 use measuring::Shapes;
+use tables::octet;
 use walking::Cursor;
 ghost use mathlib.Core.Path.{_≡_};
 ghost use mathlib.Core.Bool.{true};
@@ -43,18 +44,12 @@ fn picked_log<'a>(log: usize, a: &'a [u8], b: &'a [u8]) -> &'a [u8]
     b
 }
 
-fn wide(x: u8) -> usize
-    ensures { λ r. ⌜ r ≡ x ⌝ }
-{
-    x as usize
-}
-
 // The numbers of a record, at a place of the output: its log, how many bytes it has, and the walk at it.
 fn put(out: &mut [usize], place: usize, log: usize, size: usize, at: Cursor)
     requires { ⌜ place + 6 ≤ length (now out) ⌝ }
     ensures { λ _. ⌜ now (out .exit) ≡ sets (now (out .entry)) place (numbersOf log size at) ⌝ }
 {
-    let category = wide(at.category);
+    let category = octet(at.category);
     out[place] = log;
     out[place + 1] = size;
     out[place + 2] = at.block;

@@ -2,10 +2,10 @@
 use crate::heads::Standing;
 use crate::heads::behind;
 use crate::heads::stand;
+use items::magnitude;
 use recordings::RecordingChecked;
 use walking::Cursor;
 ghost use mathlib.Core.Path.{_≡_};
-ghost use lib.Signed.{mag};
 ghost use Prim.Native.Nat.{_<_};
 ghost use Rattle.rules.specs.Merge.{modDay, inRange};
 ghost use Rattle.merging.specs.Run.{timeOf, whichIs, whichBy, whichOf, moveOf, beginOf};
@@ -28,17 +28,6 @@ pub enum Told {
 }
 
 // ---- the offset
-
-// x where it is not negative, and -x - 1 where it is.
-fn magnitude(x: i64) -> u64
-    ensures { λ r. ⌜ r ≡ mag x ⌝ }
-{
-    if x < 0 {
-        let y = -1 - x;
-        return y as u64;
-    }
-    x as u64
-}
 
 // From -46,080 to 46,080.
 fn in_range(offset: i64) -> bool

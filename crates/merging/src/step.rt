@@ -6,13 +6,11 @@ use crate::run::Log;
 use crate::run::Merge;
 use crate::run::Told;
 use crate::run::begin_merge;
+use finding::part_of;
 ghost use mathlib.Core.Path.{_≡_};
-ghost use Prim.Native.Nat.{_+_, _≤_};
-ghost use lib.ListN.{length};
 ghost use lib.IntN.{ℤ};
 ghost use Rattle.rules.specs.Catalogue.{categories};
 ghost use Rattle.rules.specs.Merge.{modDay, mergeStep};
-ghost use Rattle.finding.specs.Part.{VeryPart};
 ghost use Rattle.merging.specs.Step.{stayed, mergedOf, placesStep, partIn, PartOf};
 
 // What a step says; the part that it hands back, of the log that it names, by its start and its length; and the places. Where no record comes the part is the
@@ -84,14 +82,6 @@ pub fn merge_at(log_a: &[u8], log_b: &[u8], place_a: usize, place_b: usize, offs
             step_from(log_a, log_b, place_a, place_b, turn)
         }
     }
-}
-
-// The bytes of a log from start on, so many: that very part.
-fn part_of(log: &[u8], start: usize, count: usize) -> &[u8]
-    requires { ⌜ start + count ≤ length (now log) ⌝ }
-    ensures { λ r. ⌜ VeryPart (log .entry) r (start, count) ⌝ }
-{
-    &log[start..start + count]
 }
 
 // Whose part is handed back: log A's where no record comes.

@@ -9,9 +9,6 @@ use mathlib.Core.Bool.{Bool}
 use mathlib.Core.List.{List}
 use Rattle.quick_items.specs.Item.{asks, wordFor}
 
-pub one-octet : (x a b : ℕ) → (a ≡ x) × (a < 256) → (b ≡ x) × (b < 256) → a ≡ b
-one-octet x a b p q = p .0 ∙ sym (q .0)
-
 pub one-is-kept : (low high n : ℕ) (a b : Bool) → a ≡ asks low high n → b ≡ asks low high n → a ≡ b
 one-is-kept low high n a b p q = p ∙ sym q
 

@@ -2,6 +2,7 @@
 // does not tell is left to the exact check. The same table says how many octets an item has that was checked.
 use tables::FRNS;
 use tables::PROFILES;
+pub use tables::octet;
 ghost use mathlib.Core.Path.{_≡_};
 ghost use mathlib.Core.Bool.{true};
 ghost use Prim.Native.Nat.{_≤_, _<_, _^_};
@@ -178,12 +179,6 @@ pub fn word_of(t: &Steps, profile: usize, frn: usize) -> usize
 }
 
 // ---- rules
-
-pub fn octet(x: u8) -> usize
-    ensures { λ r. ⌜ (r ≡ x) × (r < 256) ⌝ }
-{
-    x as usize
-}
 
 // The first three octets as one number, those that are missing as zeros.
 fn first_three(part: &[u8]) -> usize

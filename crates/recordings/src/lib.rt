@@ -3,9 +3,10 @@ use blocks::FrontChecked;
 use quick_items::Steps;
 use quick_records::Sets;
 use quick_records::Types;
+use tables::octet;
 ghost use mathlib.Core.Path.{_≡_};
 ghost use mathlib.Core.Bool.{true};
-ghost use Prim.Native.Nat.{_+_, _<_};
+ghost use Prim.Native.Nat.{_+_};
 ghost use Rattle.rules.specs.Catalogue.{categories};
 ghost use Rattle.rules.specs.Entry.{checkRecording};
 ghost use Rattle.quick_items.specs.Item.{soundSteps};
@@ -77,12 +78,6 @@ pub fn check_recording(recording: &[u8]) -> RecordingChecked
 
 // ---- block by block
 
-fn wide(x: u8) -> usize
-    ensures { λ r. ⌜ (r ≡ x) × (r < 256) ⌝ }
-{
-    x as usize
-}
-
 // How long the piece is that a block's head starts: LEN, but the head at least.
 pub fn block_length(head: &[u8]) -> usize
     ensures { λ r. ⌜ r ≡ blockLength (now (head .entry)) ⌝ }
@@ -90,7 +85,7 @@ pub fn block_length(head: &[u8]) -> usize
     if head.len() < 3 {
         return 3;
     }
-    let len = wide(head[1]) * 256 + wide(head[2]);
+    let len = octet(head[1]) * 256 + octet(head[2]);
     if len < 3 {
         return 3;
     }

@@ -7,7 +7,7 @@ use mathlib.Core.Logic.{_⊎_, inl, inr, ⊎-elim}
 use mathlib.Core.Option.{Option, none, some}
 use mathlib.Core.List.{List, [], _∷_}
 use native.Mathlib.Omega.{arith}
-use native.Mathlib.Nat.{add-assoc, add-zero}
+use native.Mathlib.Nat.{add-assoc, add-zero, le-of-eq}
 use lib.Dec.{eqb}
 use lib.ListN.{length, getD, getElem?, length-append}
 use Rattle.rules.specs.Answer.{ok, octetsOf}
@@ -145,6 +145,18 @@ tiles-apart (some n ∷ ls) a b k e l m t h g =
     (λ (_, g₁). tiles-apart ls a b (k + n .size) e l m (t .1) h₁ g₁)
     (if-inv (eqb b (n .reference)) (some n) (laidAs b ls) g))
     (if-inv (eqb a (n .reference)) (some n) (laidAs a ls) h)
+
+-- an item lies no earlier than the first may
+pub laid-low : (ref k : ℕ) (ps : List (Option Place)) (vs : List (Option Values)) (l : Laid) → laidAs ref (laid k ps vs) ≡ some l → k ≤ l .start
+laid-low ref k [] vs l h = none-some h
+laid-low ref k (p ∷ ps) [] l h = none-some h
+laid-low ref k (p ∷ ps) (none ∷ vs) l h = laid-low ref k ps vs l h
+laid-low ref k (none ∷ ps) (some v ∷ vs) l h = laid-low ref k ps vs l h
+laid-low ref k (some p ∷ ps) (some v ∷ vs) l h =
+    ⊎-elim
+    (λ (e, g). le-of-eq (ap (λ y. y .start) (some-inj g)))
+    (λ (e, g). omega (arith, laid-low ref (k + length (octetsOf (writePlace p v))) ps vs l g))
+    (if-inv (eqb ref (p .reference)) _ (laidAs ref (laid (k + length (octetsOf (writePlace p v))) ps vs)) h)
 
 -- ---- the record map
 

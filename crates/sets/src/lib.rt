@@ -5,6 +5,7 @@ mod messages;
 use messages::MessageRow;
 use messages::row_of;
 use tables::profile_row;
+use tables::wide;
 ghost use mathlib.Core.Path.{_≡_};
 ghost use mathlib.Core.Bool.{true, false};
 ghost use Prim.Native.Nat.{_+_, _-_, _*_, _/_, _^_, _<_, _≤_, min};
@@ -41,13 +42,6 @@ pub fn usable(profile: usize) -> ItemSet
     ItemSet {
         bits: profile_row(profile).usable,
     }
-}
-
-// An octet as a wider number.
-fn wide(x: u8) -> u64
-    ensures { λ r. ⌜ (r ≡ x) × (r < 256) ⌝ }
-{
-    x as u64
 }
 
 // The presence bits of an octet of the FSPEC, at their places in the set: the octet, and how many came before it.

@@ -1,5 +1,5 @@
 -- For each function that another crate can call, no two distinct results meet its statement. Assumes nothing.
-use Prim.Native.Nat.{ℕ, _^_, _<_, _≤_}
+use Prim.Native.Nat.{ℕ, _^_, _<_}
 use mathlib.Core.Path.{_≡_, sym, _∙_}
 use mathlib.Core.Bool.{Bool}
 use lib.ListN.{getD}
@@ -62,5 +62,5 @@ one-are-obeyed n first end a b p q = p ∙ sym q
 pub one-wide : (x a b : ℕ) → (a ≡ x) × (a < 256) → (b ≡ x) × (b < 256) → a ≡ b
 one-wide x a b p q = p .0 ∙ sym (q .0)
 
-pub one-octet : (x a b : ℕ) → (a ≡ x) × (a ≤ 255) → (b ≡ x) × (b ≤ 255) → a ≡ b
+pub one-octet : (x a b : ℕ) → (a ≡ x) × (a < 256) → (b ≡ x) × (b < 256) → a ≡ b
 one-octet x a b p q = p .0 ∙ sym (q .0)

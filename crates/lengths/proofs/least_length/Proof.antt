@@ -35,12 +35,12 @@ mul-first c = omega (arith, c .before .rows-of .ensures .0, c .before .rows-of .
 add-first : tie.Need-add-first Inv-loop μ-loop
 add-first c = omega (arith, c .before .before .rows-of .ensures .0, c .before .before .rows-of .ensures .1, c .before .before .rows-of .ensures .2)
 
-wide-requires : tie.Need-wide-requires Inv-loop μ-loop
-wide-requires c κs = search needs
+octet-requires : tie.Need-octet-requires Inv-loop μ-loop
+octet-requires c κs = search needs
 
 loop-holds : tie.Need-loop-holds Inv-loop μ-loop
 unfolding leastLength
-loop-holds c = record { few = omega arith; turns = omega arith; power = refl; same = zero-add _ ∙ ap (λ n. sumLeast (getD (profileAt categories (c .before .before .before .before .args .profile)) (c .before .before .before .before .args .place) []) (flags 7 (n / 2))) (c .wide .ensures .0) }
+loop-holds c = record { few = omega arith; turns = omega arith; power = refl; same = zero-add _ ∙ ap (λ n. sumLeast (getD (profileAt categories (c .before .before .before .before .args .profile)) (c .before .before .before .before .args .place) []) (flags 7 (n / 2))) (c .octet .ensures .0) }
 
 add-named : tie.Need-add-named Inv-loop μ-loop
 add-named c = omega (arith, c .before .before .before .before .before .rows-of .ensures .0, c .before .before .before .before .before .rows-of .ensures .1, c .before .before .before .before .before .rows-of .ensures .2)
@@ -80,7 +80,7 @@ least-length-spec =
     returns
     mul-first
     add-first
-    wide-requires
+    octet-requires
     loop-holds
     add-named
     named-requires

@@ -16,28 +16,28 @@ returns : tie.Need-returns
 unfolding categories
 returns c = (rows-none _ (c .if1 .taken) .0, rows-none _ (c .if1 .taken) .1, omega arith)
 
-array-read-wide : tie.Need-array-read-wide
-array-read-wide c = search needs
+array-read-octet : tie.Need-array-read-octet
+array-read-octet c = search needs
 
-wide-requires : tie.Need-wide-requires
-wide-requires c κs = search needs
+octet-requires : tie.Need-octet-requires
+octet-requires c κs = search needs
 
 profile-row-requires : tie.Need-profile-row-requires
 profile-row-requires c κs = search needs
 
-wide-requires-2 : tie.Need-wide-requires-2
-wide-requires-2 c κs = search needs
+octet-requires-2 : tie.Need-octet-requires-2
+octet-requires-2 c κs = search needs
 
-begins : (c : tie.After-wide2) → c .before .before .wide .result ≡ firstOf (c .before .before .before .before .args .profile)
+begins : (c : tie.After-octet2) → c .before .before .octet .result ≡ firstOf (c .before .before .before .before .args .profile)
 unfolding firstOf categories
-begins c = c .before .before .wide .ensures .0
+begins c = c .before .before .octet .ensures .0
 
-has : (c : tie.After-wide2) → c .wide2 .result ≡ length (profileAt categories (c .before .before .before .before .args .profile))
-has c = c .wide2 .ensures .0 ∙ ap (λ r. r .octets) (c .before .profile-row .ensures) ∙ row-octets _ ∙ ap length (profile-at _)
+has : (c : tie.After-octet2) → c .octet2 .result ≡ length (profileAt categories (c .before .before .before .before .args .profile))
+has c = c .octet2 .ensures .0 ∙ ap (λ r. r .octets) (c .before .profile-row .ensures) ∙ row-octets _ ∙ ap length (profile-at _)
 
 returns-2 : tie.Need-returns-2
 unfolding categories
 returns-2 c = (begins c, has c, omega (arith, begins c, has c, rows-within _ (c .before .before .before .if1 .left)))
 
 pub rows-of-spec : {M : Type 1} → statement M
-rows-of-spec = tie.close (tie.spec returns array-read-wide wide-requires profile-row-requires wide-requires-2 returns-2)
+rows-of-spec = tie.close (tie.spec returns array-read-octet octet-requires profile-row-requires octet-requires-2 returns-2)

@@ -5,15 +5,15 @@ use Rattle.lengths.specs.Least.{leasts}
 use Rattle.lengths.proofs.size_at.Statement.{statement}
 use Rattle.lengths.proofs.size_at.Tie as tie
 
-array-read-wide : tie.Need-array-read-wide
-array-read-wide c = search needs
+array-read-octet : tie.Need-array-read-octet
+array-read-octet c = search needs
 
-wide-requires : tie.Need-wide-requires
-wide-requires c κs = search needs
+octet-requires : tie.Need-octet-requires
+octet-requires c κs = search needs
 
 returns : tie.Need-returns
 unfolding leasts categories
-returns c = (c .wide .ensures .0, c .wide .ensures .1)
+returns c = (c .octet .ensures .0, c .octet .ensures .1)
 
 pub size-at-spec : {M : Type 1} → statement M
-size-at-spec = tie.close (tie.spec array-read-wide wide-requires returns)
+size-at-spec = tie.close (tie.spec array-read-octet octet-requires returns)

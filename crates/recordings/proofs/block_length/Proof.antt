@@ -8,40 +8,40 @@ use Rattle.recordings.proofs.block_length.Tie as tie
 returns : tie.Need-returns
 returns c = sym (length-short _ (c .if1 .taken))
 
-shared-slice-read-wide : tie.Need-shared-slice-read-wide
-shared-slice-read-wide c = search needs
+shared-slice-read-octet : tie.Need-shared-slice-read-octet
+shared-slice-read-octet c = search needs
 
-wide-requires : tie.Need-wide-requires
-wide-requires c κs = search needs
+octet-requires : tie.Need-octet-requires
+octet-requires c κs = search needs
 
 mul-len : tie.Need-mul-len
 mul-len c = search needs
 
-shared-slice-read-wide-2 : tie.Need-shared-slice-read-wide-2
-shared-slice-read-wide-2 c = search needs
+shared-slice-read-octet-2 : tie.Need-shared-slice-read-octet-2
+shared-slice-read-octet-2 c = search needs
 
-wide-requires-2 : tie.Need-wide-requires-2
-wide-requires-2 c κs = search needs
+octet-requires-2 : tie.Need-octet-requires-2
+octet-requires-2 c κs = search needs
 
 add-len : tie.Need-add-len
 add-len c = search needs
 
 returns-2 : tie.Need-returns-2
-returns-2 c = sym (length-less _ (c .before .before .before .before .before .if1 .left) (c .before .before .before .wide .ensures .0) (c .before .wide2 .ensures .0) (c .if2 .taken))
+returns-2 c = sym (length-less _ (c .before .before .before .before .before .if1 .left) (c .before .before .before .octet .ensures .0) (c .before .octet2 .ensures .0) (c .if2 .taken))
 
 returns-3 : tie.Need-returns-3
-returns-3 c = sym (length-good _ (c .before .before .before .before .before .if1 .left) (c .before .before .before .wide .ensures .0) (c .before .wide2 .ensures .0) (c .if2 .left))
+returns-3 c = sym (length-good _ (c .before .before .before .before .before .if1 .left) (c .before .before .before .octet .ensures .0) (c .before .octet2 .ensures .0) (c .if2 .left))
 
 pub block-length-spec : {M : Type 1} → statement M
 block-length-spec =
     tie.close
     (tie.spec
     returns
-    shared-slice-read-wide
-    wide-requires
+    shared-slice-read-octet
+    octet-requires
     mul-len
-    shared-slice-read-wide-2
-    wide-requires-2
+    shared-slice-read-octet-2
+    octet-requires-2
     add-len
     returns-2
     returns-3)

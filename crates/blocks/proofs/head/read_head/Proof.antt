@@ -18,20 +18,20 @@ profile-of-requires c κs = search needs
 returns-2 : tie.Need-returns-2
 returns-2 c = sym (head-alien _ (c .before .before .before .if1 .left) (category-other _ _ (c .before .profile-of .ensures) (c .if2 .taken)))
 
-shared-slice-read-wide : tie.Need-shared-slice-read-wide
-shared-slice-read-wide c = search needs
+shared-slice-read-octet : tie.Need-shared-slice-read-octet
+shared-slice-read-octet c = search needs
 
-wide-requires : tie.Need-wide-requires
-wide-requires c κs = search needs
+octet-requires : tie.Need-octet-requires
+octet-requires c κs = search needs
 
 mul-len : tie.Need-mul-len
 mul-len c = search needs
 
-shared-slice-read-wide-2 : tie.Need-shared-slice-read-wide-2
-shared-slice-read-wide-2 c = search needs
+shared-slice-read-octet-2 : tie.Need-shared-slice-read-octet-2
+shared-slice-read-octet-2 c = search needs
 
-wide-requires-2 : tie.Need-wide-requires-2
-wide-requires-2 c κs = search needs
+octet-requires-2 : tie.Need-octet-requires-2
+octet-requires-2 c κs = search needs
 
 add-len : tie.Need-add-len
 add-len c = search needs
@@ -39,12 +39,12 @@ add-len c = search needs
 returns-3 : tie.Need-returns-3
 returns-3 c = sym (head-less _ (c .before .before .before .before .before .before .before .before .if1 .left) _ _ _
     (category-at _ _ (c .before .before .before .before .before .before .profile-of .ensures) (c .before .before .before .before .before .if2 .left))
-    (c .before .before .before .wide .ensures .0) (c .before .wide2 .ensures .0) (c .if3 .taken))
+    (c .before .before .before .octet .ensures .0) (c .before .octet2 .ensures .0) (c .if3 .taken))
 
 returns-4 : tie.Need-returns-4
 returns-4 c = sym (head-good _ (c .before .before .before .before .before .before .before .before .if1 .left) _ _ _
     (category-at _ _ (c .before .before .before .before .before .before .profile-of .ensures) (c .before .before .before .before .before .if2 .left))
-    (c .before .before .before .wide .ensures .0) (c .before .wide2 .ensures .0) (c .if3 .left))
+    (c .before .before .before .octet .ensures .0) (c .before .octet2 .ensures .0) (c .if3 .left))
 
 pub read-head-spec : {M : Type 1} → statement M
 read-head-spec =
@@ -54,11 +54,11 @@ read-head-spec =
     shared-slice-read-profile-of
     profile-of-requires
     returns-2
-    shared-slice-read-wide
-    wide-requires
+    shared-slice-read-octet
+    octet-requires
     mul-len
-    shared-slice-read-wide-2
-    wide-requires-2
+    shared-slice-read-octet-2
+    octet-requires-2
     add-len
     returns-3
     returns-4)

@@ -1,5 +1,6 @@
 -- `layouts::parts::shape_of` meets its contract: each `return` is a case of `shapeOf`. Assumes nothing.
 use mathlib.Core.Path.{_≡_, _∙_}
+use native.Mathlib.Nat.{le-of-suc-le-suc}
 use Rattle.layouts.proofs.ShapeLaws.{rowed, few-kinds, a-list, fixed-group, chain-inside, chain-parts, no-shape, fixed-cut, fixed-there, chain-shape, no-head, led-short, led-cut, led-there, list-shape}
 use borrow.Author.Needs.{needs}
 use Rattle.layouts.proofs.parts.shape_of.Statement.{statement}
@@ -48,7 +49,7 @@ returns-8 : tie.Need-returns-8
 returns-8 c = led-there _ _ (c .before .before .before .if6 .taken) (c .before .before .before .before .before .before .if5 .left) (c .before .before .before .before .octet .ensures .0) (c .before .if7 .left) (c .if8 .left)
 
 list-of-requires : tie.Need-list-of-requires
-list-of-requires c κs = (c .before .before .before .before .before .before .before .before .pre, list-at c, c .before .octet .ensures .1)
+list-of-requires c κs = (c .before .before .before .before .before .before .before .before .pre, list-at c, le-of-suc-le-suc (c .before .octet .ensures .1))
 
 returns-9 : tie.Need-returns-9
 returns-9 c =

@@ -4,8 +4,8 @@ use Rattle.merging.proofs.ManyLaws.{room-1, room-2, room-3, room-4, roo
 use Rattle.merging.proofs.many.put.Statement.{statement}
 use Rattle.merging.proofs.many.put.Tie as tie
 
-wide-requires : tie.Need-wide-requires
-wide-requires c κs = search needs
+octet-requires : tie.Need-octet-requires
+octet-requires c κs = search needs
 
 mul-out : tie.Need-mul-out
 mul-out c = search needs
@@ -62,13 +62,13 @@ same-length : tie.Need-same-length
 same-length c = search needs
 
 returns : tie.Need-returns
-returns c = six (c .before .before .args .out .now) (c .before .before .args .place) (c .before .before .args .log) (c .before .before .args .size) (c .before .before .args .at .block) (c .before .before .args .at .place) (c .before .before .args .at .end) (c .before .before .args .at .category) (c .before .before .pre) _ (c .wide .ensures)
+returns c = six (c .before .before .args .out .now) (c .before .before .args .place) (c .before .before .args .log) (c .before .before .args .size) (c .before .before .args .at .block) (c .before .before .args .at .place) (c .before .before .args .at .end) (c .before .before .args .at .category) (c .before .before .pre) _ (c .octet .ensures .0)
 
 pub put-spec : {M : Type 1} → statement M
 put-spec =
     tie.close
     (tie.spec
-    wide-requires
+    octet-requires
     mul-out
     slice-write-out
     add-out
