@@ -143,9 +143,13 @@ FIRST_ITEMS = range(4, 8)  # FRNs of the first FSPEC octet that may be missing
 
 
 def has_front(profile):
-    """Whether FRN 1 to 3 have five free octets, the last one being the message type: what this path starts from."""
-    sizes = [free_octets(place) for place in rows.places_of(profile)[:3]]
-    return all(sizes) and sum(sizes) == 5 and sizes[2] == 1 and rows.type_frn(profile) == 3
+    """Whether FRN 1 to 3 are free, one of them being the message type: what this path starts from."""
+    return all(map(free_octets, rows.places_of(profile)[:3])) and rows.type_frn(profile) in (1, 2, 3)
+
+
+def type_at(profile):
+    """How many octets of FRN 1 to 3 are before the message type."""
+    return sum(map(free_octets, rows.places_of(profile)[:rows.type_frn(profile) - 1]))
 
 
 def numbered():
@@ -174,6 +178,13 @@ def first_octets():
             yield "    %d, // category %03d, FRN %s" % (octets, category.number, ", ".join(["1 to 3"] + list(map(str, there))))
 
 
+def type_places():
+    """By profile, where among the octets of FRN 1 to 3 the message type stands; 0 where they are not told."""
+    for profile, category in enumerate(PROFILES):
+        cited = rows.cited(rows.places_of(profile)[rows.type_frn(profile) - 1]).rstrip()
+        yield "    %d, // %s  among FRN 1 to 3" % (type_at(profile), cited) if has_front(profile) else "    0, // category %03d, not told" % category.number
+
+
 def lent_sizes():
     return ["pub const KINDS: usize = %d;" % KINDS, "", "pub const ROWS: usize = %d;" % ROWS]
 
@@ -183,7 +194,7 @@ def lent_sizes_spec():
 
 
 def types():
-    return ["const TYPES: Types = ["] + list(type_rows()) + list(first_octets()) + ["];"]
+    return ["const TYPES: Types = ["] + list(type_rows()) + list(first_octets()) + list(type_places()) + ["];"]
 
 
 def set_rows(profile):
@@ -304,7 +315,7 @@ def checked(shape):
         at, word, (low, high), tail = used, (0, 0, 0, 0), ANY_BITS, before
     return (
         "0x%X_%02X_%02X_%X_%010X" % (shape.profile, tail, at, used, raw),
-        "0x%X%X%X%X_%010X" % (*word, sum(1 << row for row, _ in shape.types)),
+        "0x%02X_%X%X%X%X_%010X" % (used + type_at(shape.profile), *word, sum(1 << row for row, _ in shape.types)),
         "0x%02X_%06X_%02X_%06X" % (high >> 24, high & 0xFFFFFF, low >> 24, low & 0xFFFFFF),
         quads_of_set(left),
     )

@@ -33,16 +33,16 @@ use Rattle.sets.specs.declared.SetRead.the-variants as set
 use Rattle.sets.proofs.SetLaws.{set-law, octets-all, to-end}
 use Rattle.records.proofs.WalkLaws.{walk-none}
 use Rattle.quick_items.specs.Item.{Plainly, firstThree, asks, soundSingle, soundCounted, allBelow}
-use Rattle.quick_records.specs.Record.{kindCount, rowCount, typeSets, mustAt, mayAt, soundTypes, free, Content, Goes, Later, Walks, Passed, endAt}
-use Rattle.quick_records.specs.Shape.{shapeCount, setCount, lowNumber, lowOctets, usedOf, startOf, tailOf, profileOf, typesOf, wordOf, soundType, soundMask, isFree, runSum, runLeft, soundSpecial, soundFirst, soundThen, soundItems, shapeBy, bounded, soundShape, soundShapeAt, soundSets, Front, Fronts, Listed, OfType}
+use Rattle.quick_records.specs.Record.{kindCount, rowCount, typeSets, mustAt, mayAt, soundTypes, free, hasFront, frontOctets, typeAt, Content, Goes, Later, Walks, Passed, endAt}
+use Rattle.quick_records.specs.Shape.{shapeCount, setCount, lowNumber, lowOctets, usedOf, startOf, tailOf, profileOf, typesOf, wordOf, placeOf, soundType, soundMask, isFree, runSum, runLeft, soundSpecial, soundFirst, soundThen, soundItems, soundFront, shapeBy, bounded, soundShape, soundShapeAt, soundSets, Front, Fronts, Listed, OfType}
 use Rattle.quick_items.proofs.ItemLaws.{octet-at, cut, free-check, ruled-told, counted-told, told, all-below, other}
-use Rattle.quick_records.proofs.RecordLaws.{row-under, row-read, blank, one, none-here, kind-stays, Skipped, third, first-three, third-here, third-kind, seven, content, quick-whole}
+use Rattle.quick_records.proofs.RecordLaws.{row-under, row-read, front-some, blank, one, none-here, kind-stays, Skipped, third, first-three, third-here, third-kind, seven, content, quick-whole}
 
 octet-here : (n : ℕ) (xs bs : List ℕ) → xs ≡ drop n bs → getD xs 0 0 ≡ getD bs n 0
 octet-here n xs bs e = ap (λ l. getD l 0 0) e ∙ getD-drop n bs 0 0 ∙ ap (λ y. getD bs y 0) (add-zero n)
 
-type-here : (n c : ℕ) (bs : List ℕ) → c ≡ getD bs (n + 4) 0 → c ≡ getD (take (length bs - n) (drop n bs)) 4 0
-type-here n c bs e = e ∙ sym (ap (λ l. getD l 4 0) (to-end bs n) ∙ getD-drop n bs 4 0)
+type-here : (n m c : ℕ) (bs : List ℕ) → c ≡ getD bs (n + m) 0 → c ≡ getD (take (length bs - n) (drop n bs)) m 0
+type-here n m c bs e = e ∙ sym (ap (λ l. getD l m 0) (to-end bs n) ∙ getD-drop n bs m 0)
 
 -- ---- octets as a number, the first one lowest
 
@@ -102,7 +102,7 @@ fspec-told i n a word bs r o l m w e h =
 
 -- ---- the message type
 
-type-told : (i bits types kind r : ℕ) → i < profileCount → bits / 2 ^ 60 ≡ 7 → soundMask i bits types ≡ true → r < rowCount → types / 2 ^ r % 2 ≡ 1
+type-told : (i bits types kind r : ℕ) → hasFront i ≡ true → bits / 2 ^ 60 ≡ 7 → soundMask i bits types ≡ true → r < rowCount → types / 2 ^ r % 2 ≡ 1
     → ((r ≡ 0 → ⊥) → rowAt i kind ≡ ok (mustAt i r, mayAt i r)) → Content true (judgeSet i bits kind)
 unfolding soundMask
 type-told i bits types kind r h e s l t is =
@@ -187,14 +187,14 @@ run-fewer i f (true ∷ ts) = go (isFree i f) (run-fewer i (f + 1) ts)
 abbrev Ran : ℕ → ℕ → List Bool → ℕ → List Bool → List ℕ → Came → Type 0
 Ran i f ts s us bs w = Skipped i (64 - length us) s us bs w (walk i ts f bs w)
 
-run-skip : (i f : ℕ) (ts : List Bool) (bs : List ℕ) (w : Came) → i < profileCount → 3 < f → f + length ts ≡ 64 → Octets bs → runSum i f ts ≤ length bs → Ran i f ts (runSum i f ts) (runLeft i f ts) bs w
-run-skip i f [] bs w h k l o b =
+run-skip : (i f : ℕ) (ts : List Bool) (bs : List ℕ) (w : Came) → i < profileCount → hasFront i ≡ true → 3 < f → f + length ts ≡ 64 → Octets bs → runSum i f ts ≤ length bs → Ran i f ts (runSum i f ts) (runLeft i f ts) bs w
+run-skip i f [] bs w h g k l o b =
     let e : f ≡ 64 - 0 = omega (arith, l) in
     record { came = w; walks = ap (λ x. walk i [] x bs w) e; here = sym (add-zero (w .here)); kind = refl }
-run-skip i f (false ∷ ts) bs w h k l o b =
-    let s : Ran i (f + 1) ts (runSum i (f + 1) ts) (runLeft i (f + 1) ts) bs w = run-skip i (f + 1) ts bs w h (omega arith) (omega (arith, l)) o b in
+run-skip i f (false ∷ ts) bs w h g k l o b =
+    let s : Ran i (f + 1) ts (runSum i (f + 1) ts) (runLeft i (f + 1) ts) bs w = run-skip i (f + 1) ts bs w h g (omega arith) (omega (arith, l)) o b in
     record { came = s .came; walks = none-here i f ts bs w ∙ s .walks; here = s .here; kind = s .kind }
-run-skip i f (true ∷ ts) bs w h k l o b = go (isFree i f) refl b (λ v q. run-skip i (f + 1) ts (drop (free i f) bs) v h (omega arith) (omega (arith, l)) (octets-drop (free i f) bs o) q)
+run-skip i f (true ∷ ts) bs w h g k l o b = go (isFree i f) refl b (λ v q. run-skip i (f + 1) ts (drop (free i f) bs) v h g (omega arith) (omega (arith, l)) (octets-drop (free i f) bs o) q)
   where
     go : (t : Bool) → isFree i f ≡ t → cond t (free i f + runSum i (f + 1) ts) 0 ≤ length bs
         → ((v : Came) → runSum i (f + 1) ts ≤ length (drop (free i f) bs) → Ran i (f + 1) ts (runSum i (f + 1) ts) (runLeft i (f + 1) ts) (drop (free i f) bs) v)
@@ -212,37 +212,37 @@ run-skip i f (true ∷ ts) bs w h k l o b = go (isFree i f) refl b (λ v q. run-
           came = s .came;
           walks = one i f n ts bs w c ∙ s .walks ∙ ap (λ x. walk i (runLeft i (f + 1) ts) (64 - length (runLeft i (f + 1) ts)) x (s .came)) (drop-drop (runSum i (f + 1) ts) n bs);
           here = s .here ∙ add-assoc (w .here) n (runSum i (f + 1) ts);
-          kind = s .kind ∙ kind-stays i f n (take n bs) w h k;
+          kind = s .kind ∙ kind-stays i f n (take n bs) w g k;
         }
 
 -- ---- the walk: how far it has come, the flags that are left
 
-module _ (i bits : ℕ) (items : List ℕ) (h : i < profileCount) (o : Octets items) where
+module _ (i bits : ℕ) (items : List ℕ) (h : i < profileCount) (g : hasFront i ≡ true) (o : Octets items) where
   record Reached (us : List Bool) (n k : ℕ) : Type 0 where
     came : Came
     few : length us ≤ 60
     walks : walk i (flags 63 bits) 1 items (startAt k) ≡ walk i us (64 - length us) (drop n items) came
     here : came .here ≡ k + n
-    kind : came .kind ≡ getD items 4 0
+    kind : came .kind ≡ getD items (typeAt i) 0
 
-  reach-three : (k : ℕ) → bits / 2 ^ 60 ≡ 7 → 5 ≤ length items → Reached (flags 60 (bits % 2 ^ 60)) 5 k
+  reach-three : (k : ℕ) → bits / 2 ^ 60 ≡ 7 → frontOctets i ≤ length items → Reached (flags 60 (bits % 2 ^ 60)) (frontOctets i) k
   reach-three k e l =
       let us : List Bool = flags 60 (bits % 2 ^ 60) in
       let m : length us ≡ 60 = flags-length 60 (bits % 2 ^ 60) in
       let f : 4 ≡ 64 - length us = omega (arith, m) in
-      let u : Came = third i us items k h o l in
+      let u : Came = third i us items k h g o l in
       record {
         came = u;
         few = omega (arith, m);
-        walks = ap (λ ts. walk i ts 1 items (startAt k)) (seven i bits items h o e) ∙ first-three i us items k h o l ∙ ap (λ x. walk i us x (drop 5 items) u) f;
-        here = third-here i us items k h o l;
-        kind = third-kind i us items k h o l;
+        walks = ap (λ ts. walk i ts 1 items (startAt k)) (seven i bits items h g o e) ∙ first-three i us items k h g o l ∙ ap (λ x. walk i us x (drop (frontOctets i) items) u) f;
+        here = third-here i us items k h g o l;
+        kind = third-kind i us items k h g o l;
       }
 
   reach-run : (us : List Bool) (n k f : ℕ) → f ≡ 64 - length us → Reached us n k → n + runSum i f us ≤ length items → Reached (runLeft i f us) (n + runSum i f us) k
   reach-run us n k f e r l =
       let s : Ran i f us (runSum i f us) (runLeft i f us) (drop n items) (r .came) =
-      run-skip i f us (drop n items) (r .came) h (omega (arith, e, r .few)) (omega (arith, e, r .few)) (octets-drop n items o) (omega (arith, l, length-drop n items)) in
+      run-skip i f us (drop n items) (r .came) h g (omega (arith, e, r .few)) (omega (arith, e, r .few)) (octets-drop n items o) (omega (arith, l, length-drop n items)) in
       record {
         came = s .came;
         few = omega (arith, r .few, run-fewer i f us);
@@ -257,22 +257,22 @@ module _ (i bits : ℕ) (items : List ℕ) (h : i < profileCount) (o : Octets it
   reach-one vs n m k r c =
       let f : ℕ = 63 - length vs in
       let e : 64 - suc (length vs) ≡ f = omega arith in
-      let g : f + 1 ≡ 64 - length vs = omega (arith, r .few) in
+      let next : f + 1 ≡ 64 - length vs = omega (arith, r .few) in
       let v : Came = passed i f m (take m (drop n items)) (r .came) in
       record {
         came = v;
         few = omega (arith, r .few);
         walks =
             r .walks ∙ ap (λ x. walk i (true ∷ vs) x (drop n items) (r .came)) e ∙ one i f m vs (drop n items) (r .came) c
-            ∙ ap₂ (λ x y. walk i vs x y v) g (drop-drop m n items);
+            ∙ ap₂ (λ x y. walk i vs x y v) next (drop-drop m n items);
         here = ap (λ x. x + m) (r .here) ∙ add-assoc k n m;
-        kind = kind-stays i f m (take m (drop n items)) (r .came) h (omega (arith, r .few)) ∙ r .kind;
+        kind = kind-stays i f m (take m (drop n items)) (r .came) g (omega (arith, r .few)) ∙ r .kind;
       }
 
   -- the items that are left are walked from FRN 4 on
   reach-end : (us : List Bool) (n k left m : ℕ) → Reached us n k → left ≡ number us → Later i left (drop n items) (suc m) → Walks i bits items (n + m) k
-  reach-end us n k left m r e g =
-      let q : Goes i left (drop n items) m (r .came) = g .1 (r .came) in
+  reach-end us n k left m r e later =
+      let q : Goes i left (drop n items) m (r .came) = later .1 (r .came) in
       let j : ℕ = 60 - length us in
       let a : j + length us ≡ 60 = omega (arith, r .few) in
       let b : 64 - length us ≡ 4 + j = omega (arith, r .few) in
@@ -284,21 +284,25 @@ module _ (i bits : ℕ) (items : List ℕ) (h : i < profileCount) (o : Octets it
         came = q .came;
         walks = r .walks ∙ sym c ∙ q .walks;
         here = q .here ∙ ap (λ x. x + m) (r .here) ∙ add-assoc k n m;
-        kind = q .kind ∙ r .kind;
+        kind = q .kind g ∙ r .kind;
       }
 
 -- no item is left
 pub later-none : (i : ℕ) (bs : List ℕ) → Later i 0 bs 1
-later-none i bs = (omega arith, λ w. record { came = w; walks = walk-none i 60 4 bs w; here = sym (add-zero (w .here)); kind = refl })
+later-none i bs = (omega arith, λ w. record { came = w; walks = walk-none i 60 4 bs w; here = sym (add-zero (w .here)); kind = λ g. refl })
 
 -- ---- the items, by a row of the table
 
-module _ (i a b rule left n m bits : ℕ) (bs : List ℕ) (h : i < profileCount) (o : Octets bs) (top : bits / 2 ^ 60 ≡ 7) (front : Front a (wordOf b) rule bs n) (rest : Later i left (drop n bs) (suc m)) where
+module _ (i a b rule left n m bits : ℕ) (bs : List ℕ) (h : i < profileCount) (fronted : hasFront i ≡ true) (o : Octets bs) (top : bits / 2 ^ 60 ≡ 7) (front : Front a (wordOf b) rule bs n) (rest : Later i left (drop n bs) (suc m)) where
   abbrev items : List ℕ
   items = drop (usedOf a) bs
 
+  -- the octets of FRN 1 to 3
+  abbrev ahead : ℕ
+  ahead = frontOctets i
+
   abbrev Ends : Type 0
-  Ends = (usedOf a + 5 ≤ n) × ((k : ℕ) → Walks i bits items (n - usedOf a + m) k)
+  Ends = (usedOf a + ahead ≤ n) × ((k : ℕ) → Walks i bits items (n - usedOf a + m) k)
 
   long : length items ≡ length bs - usedOf a
   long = length-drop (usedOf a) bs
@@ -313,29 +317,29 @@ module _ (i a b rule left n m bits : ℕ) (bs : List ℕ) (h : i < profileCount)
       let us : List Bool = runLeft i 4 ts in
       let p = eqb (wordOf b) 0 in
       let q = eqb (startOf a) (usedOf a) in
-      let r = eqb (tailOf a) (5 + sum) in
+      let r = eqb (tailOf a) (ahead + sum) in
       let z = eqb left (number us) in
       let spq : p && q && r ≡ true = both-left (p && q && r) z s in
       let sp : p && q ≡ true = both-left (p && q) r spq in
       let e₁ : wordOf b ≡ 0 = eqb-true _ _ (both-left p q sp) in
       let e₂ : startOf a ≡ usedOf a = eqb-true _ _ (both-right p q sp) in
-      let e₃ : tailOf a ≡ 5 + sum = eqb-true _ _ (both-right (p && q) r spq) in
+      let e₃ : tailOf a ≡ ahead + sum = eqb-true _ _ (both-right (p && q) r spq) in
       let e₄ : left ≡ number us = eqb-true _ _ (both-right (p && q && r) z s) in
       let w₁ : wordOf b % 16 ≡ 0 = ap (λ x. x % 16) e₁ in
       let w₂ : getD bs (startOf a) 0 * (wordOf b / 16 % 16) ≡ 0 = ap (λ x. getD bs (startOf a) 0 * (x / 16 % 16)) e₁ ∙ mul-zero (getD bs (startOf a) 0) in
-      let size : n ≡ usedOf a + (5 + sum) = omega (arith, front .size, w₁, w₂, e₂, e₃) in
-      let less : n - usedOf a ≡ 5 + sum = omega (arith, size) in
+      let size : n ≡ usedOf a + (ahead + sum) = omega (arith, front .size, w₁, w₂, e₂, e₃) in
+      let less : n - usedOf a ≡ ahead + sum = omega (arith, size) in
       let f : 4 ≡ 64 - length ts = omega (arith, ap length et, flags-length 60 (bits % 2 ^ 60)) in (
         omega (arith, size),
         λ k.
-            let r₁ : Reached i bits items h clean ts 5 k = subst (λ x. Reached i bits items h clean x 5 k) (sym et) (reach-three i bits items h clean k top (omega (arith, front .fits, size, long))) in
-            let r₂ : Reached i bits items h clean us (5 + sum) k = reach-run i bits items h clean ts 5 k 4 f r₁ (omega (arith, front .fits, size, long)) in
-            let g : Later i left (drop (5 + sum) items) (suc m) = subst (λ x. Later i left x (suc m)) (ap (λ x. drop x bs) size ∙ sym (drop-drop (5 + sum) (usedOf a) bs)) rest in
-            subst (λ x. Walks i bits items (x + m) k) (sym less) (reach-end i bits items h clean us (5 + sum) k left m r₂ e₄ g),
+            let r₁ : Reached i bits items h fronted clean ts ahead k = subst (λ x. Reached i bits items h fronted clean x ahead k) (sym et) (reach-three i bits items h fronted clean k top (omega (arith, front .fits, size, long))) in
+            let r₂ : Reached i bits items h fronted clean us (ahead + sum) k = reach-run i bits items h fronted clean ts ahead k 4 f r₁ (omega (arith, front .fits, size, long)) in
+            let g : Later i left (drop (ahead + sum) items) (suc m) = subst (λ x. Later i left x (suc m)) (ap (λ x. drop x bs) size ∙ sym (drop-drop (ahead + sum) (usedOf a) bs)) rest in
+            subst (λ x. Walks i bits items (x + m) k) (sym less) (reach-end i bits items h fronted clean us (ahead + sum) k left m r₂ e₄ g),
       )
 
   -- free items, one that is looked into, free items
-  then-ends : (s : ℕ) (us : List Bool) → ((k : ℕ) → usedOf a + (5 + s) ≤ length bs → Reached i bits items h clean us (5 + s) k) → soundThen i a b rule left s us ≡ true → Ends
+  then-ends : (s : ℕ) (us : List Bool) → ((k : ℕ) → usedOf a + (ahead + s) ≤ length bs → Reached i bits items h fronted clean us (ahead + s) k) → soundThen i a b rule left s us ≡ true → Ends
   then-ends s [] reach t = absurd (false≢true t)
   then-ends s (false ∷ vs) reach t = absurd (false≢true t)
   then-ends s (true ∷ vs) reach t =
@@ -345,7 +349,7 @@ module _ (i a b rule left n m bits : ℕ) (bs : List ℕ) (h : i < profileCount)
       let head : ℕ = getD bs (startOf a) 0 in
       let x : ℕ = w % 16 + head * (w / 16 % 16) in
       let p = ltb f frnCount in
-      let q = eqb (startOf a) (usedOf a + 5 + s) in
+      let q = eqb (startOf a) (usedOf a + ahead + s) in
       let r = soundSpecial w rule (layoutAt (placeRowAt (i * frnCount + f) .layout)) in
       let u = eqb (tailOf a) (runSum i g vs) in
       let v = eqb left (number (runLeft i g vs)) in
@@ -353,24 +357,24 @@ module _ (i a b rule left n m bits : ℕ) (bs : List ℕ) (h : i < profileCount)
       let t₂ : p && q && r ≡ true = both-left (p && q && r) u t₁ in
       let t₃ : p && q ≡ true = both-left (p && q) r t₂ in
       let few : f < frnCount = ltb-true f frnCount (both-left p q t₃) in
-      let e₁ : startOf a ≡ usedOf a + 5 + s = eqb-true _ _ (both-right p q t₃) in
+      let e₁ : startOf a ≡ usedOf a + ahead + s = eqb-true _ _ (both-right p q t₃) in
       let e₂ : tailOf a ≡ runSum i g vs = eqb-true _ _ (both-right (p && q && r) u t₁) in
       let e₃ : left ≡ number (runLeft i g vs) = eqb-true _ _ (both-right (p && q && r && u) v t) in
-      let e₄ : startOf a ≡ usedOf a + (5 + s) = omega (arith, e₁) in
-      let size : n ≡ usedOf a + (5 + s + x + runSum i g vs) = omega (arith, front .size, e₂, e₄) in
-      let less : n - usedOf a ≡ 5 + s + x + runSum i g vs = omega (arith, size) in
-      let here : drop (5 + s) items ≡ drop (startOf a) bs = drop-drop (5 + s) (usedOf a) bs ∙ ap (λ y. drop y bs) (sym e₄) in
-      let at : getD (drop (5 + s) items) 0 0 ≡ head = octet-here (startOf a) (drop (5 + s) items) bs here in
-      let rests : length (drop (5 + s) items) ≡ length bs - startOf a = ap length here ∙ length-drop (startOf a) bs in
-      let c : checkAt i f (drop (5 + s) items) ≡ ok x =
-      special-told i f w rule x (drop (5 + s) items) h few (octets-drop (5 + s) items clean) (both-right (p && q) r t₂) (omega (arith, rests, front .there)) (octet-at (drop (5 + s) items) (octets-drop (5 + s) items clean) 0)
+      let e₄ : startOf a ≡ usedOf a + (ahead + s) = omega (arith, e₁) in
+      let size : n ≡ usedOf a + (ahead + s + x + runSum i g vs) = omega (arith, front .size, e₂, e₄) in
+      let less : n - usedOf a ≡ ahead + s + x + runSum i g vs = omega (arith, size) in
+      let here : drop (ahead + s) items ≡ drop (startOf a) bs = drop-drop (ahead + s) (usedOf a) bs ∙ ap (λ y. drop y bs) (sym e₄) in
+      let at : getD (drop (ahead + s) items) 0 0 ≡ head = octet-here (startOf a) (drop (ahead + s) items) bs here in
+      let rests : length (drop (ahead + s) items) ≡ length bs - startOf a = ap length here ∙ length-drop (startOf a) bs in
+      let c : checkAt i f (drop (ahead + s) items) ≡ ok x =
+      special-told i f w rule x (drop (ahead + s) items) h few (octets-drop (ahead + s) items clean) (both-right (p && q) r t₂) (omega (arith, rests, front .there)) (octet-at (drop (ahead + s) items) (octets-drop (ahead + s) items clean) 0)
       (ap (λ y. w % 16 + y * (w / 16 % 16)) (sym at)) (omega (arith, rests, front .fits, size, e₄)) (omega (arith, front .least, at)) (ap (λ l. asks rule (rule / 2 ^ 32) (firstThree l)) here ∙ front .kept) in (
         omega (arith, size),
         λ k.
-            let r₁ : Reached i bits items h clean vs (5 + s + x) k = reach-one i bits items h clean vs (5 + s) x k (reach k (omega (arith, e₄, front .there))) c in
-            let r₂ : Reached i bits items h clean (runLeft i g vs) (5 + s + x + runSum i g vs) k = reach-run i bits items h clean vs (5 + s + x) k g refl r₁ (omega (arith, front .fits, size, long)) in
-            let z : Later i left (drop (5 + s + x + runSum i g vs) items) (suc m) = subst (λ y. Later i left y (suc m)) (ap (λ y. drop y bs) size ∙ sym (drop-drop (5 + s + x + runSum i g vs) (usedOf a) bs)) rest in
-            subst (λ y. Walks i bits items (y + m) k) (sym less) (reach-end i bits items h clean (runLeft i g vs) (5 + s + x + runSum i g vs) k left m r₂ e₃ z),
+            let r₁ : Reached i bits items h fronted clean vs (ahead + s + x) k = reach-one i bits items h fronted clean vs (ahead + s) x k (reach k (omega (arith, e₄, front .there))) c in
+            let r₂ : Reached i bits items h fronted clean (runLeft i g vs) (ahead + s + x + runSum i g vs) k = reach-run i bits items h fronted clean vs (ahead + s + x) k g refl r₁ (omega (arith, front .fits, size, long)) in
+            let z : Later i left (drop (ahead + s + x + runSum i g vs) items) (suc m) = subst (λ y. Later i left y (suc m)) (ap (λ y. drop y bs) size ∙ sym (drop-drop (ahead + s + x + runSum i g vs) (usedOf a) bs)) rest in
+            subst (λ y. Walks i bits items (y + m) k) (sym less) (reach-end i bits items h fronted clean (runLeft i g vs) (ahead + s + x + runSum i g vs) k left m r₂ e₃ z),
       )
 
   items-end : soundItems i a b rule left (flags 60 (bits % 2 ^ 60)) ≡ true → Ends
@@ -380,7 +384,7 @@ module _ (i a b rule left n m bits : ℕ) (bs : List ℕ) (h : i < profileCount)
       let us : List Bool = runLeft i 4 ts in
       let f : 4 ≡ 64 - length ts = omega (arith, flags-length 60 (bits % 2 ^ 60)) in
       either-way (soundFirst i a b left sum us) (soundThen i a b rule left sum us) s (first-ends ts refl)
-      (then-ends sum us (λ k l. reach-run i bits items h clean ts 5 k 4 f (reach-three i bits items h clean k top (omega (arith, l, long))) (omega (arith, l, long))))
+      (then-ends sum us (λ k l. reach-run i bits items h fronted clean ts ahead k 4 f (reach-three i bits items h fronted clean k top (omega (arith, l, long))) (omega (arith, l, long))))
     where
       either-way : {A : Type 0} (x y : Bool) → x || y ≡ true → (x ≡ true → A) → (y ≡ true → A) → A
       either-way true y e g k = g refl
@@ -396,24 +400,24 @@ module _ (a b rule left : ℕ) (s : soundShape a b rule left ≡ true) where
   abbrev read : Answer (ℕ × ℕ)
   read = setFrom (profileOf a) (length (categoryAt (profileOf a) .profile)) (lowOctets (usedOf a) a) 0 0
 
-  in-bounds : bounded a left ≡ true
+  in-bounds : bounded a b left ≡ true
   unfolding soundShape
-  in-bounds = both-left (bounded a left) (shapeBy (profileOf a) a b rule left read) s
+  in-bounds = both-left (bounded a b left) (shapeBy (profileOf a) a b rule left read) s
 
   by-set : shapeBy (profileOf a) a b rule left read ≡ true
   unfolding soundShape
-  by-set = both-right (bounded a left) (shapeBy (profileOf a) a b rule left read) s
+  by-set = both-right (bounded a b left) (shapeBy (profileOf a) a b rule left read) s
 
   pub shape-known : profileOf a < profileCount
   shape-known = ltb-true (profileOf a) profileCount (both-left (ltb (profileOf a) profileCount) _ in-bounds)
 
-  in-octets : ltb 0 (usedOf a) && (leb (usedOf a) 5 && (ltb left (2 ^ 60) && leb (usedOf a + 5) (startOf a + tailOf a))) ≡ true
+  in-octets : ltb 0 (usedOf a) && (leb (usedOf a) 5 && (ltb left (2 ^ 60) && ltb (placeOf b) (startOf a + tailOf a))) ≡ true
   in-octets = both-right (ltb (profileOf a) profileCount) _ in-bounds
 
   pub shape-some : 0 < usedOf a
   shape-some = ltb-true 0 (usedOf a) (both-left (ltb 0 (usedOf a)) _ in-octets)
 
-  in-five : leb (usedOf a) 5 && (ltb left (2 ^ 60) && leb (usedOf a + 5) (startOf a + tailOf a)) ≡ true
+  in-five : leb (usedOf a) 5 && (ltb left (2 ^ 60) && ltb (placeOf b) (startOf a + tailOf a)) ≡ true
   in-five = both-right (ltb 0 (usedOf a)) _ in-octets
 
   pub shape-few : usedOf a ≤ 5
@@ -423,9 +427,9 @@ module _ (a b rule left : ℕ) (s : soundShape a b rule left ≡ true) where
   shape-left = ltb-true left (2 ^ 60) (both-left (ltb left (2 ^ 60)) _ (both-right (leb (usedOf a) 5) _ in-five))
 
   -- the message type is before the end of what the shape says
-  pub shape-long : (bs : List ℕ) (n : ℕ) → Front a (wordOf b) rule bs n → usedOf a + 5 ≤ n
+  pub shape-long : (bs : List ℕ) (n : ℕ) → Front a (wordOf b) rule bs n → placeOf b < n
   shape-long bs n front =
-      let l : usedOf a + 5 ≤ startOf a + tailOf a = leb-true _ _ (both-right (ltb left (2 ^ 60)) _ (both-right (leb (usedOf a) 5) _ in-five)) in
+      let l : placeOf b < startOf a + tailOf a = ltb-true _ _ (both-right (ltb left (2 ^ 60)) _ (both-right (leb (usedOf a) 5) _ in-five)) in
       omega (arith, l, front .size)
 
   module _ (bs : List ℕ) (known : (j : ℕ) → Fits w8 (getD bs j 0)) (fits : length bs < 65_536) where
@@ -433,7 +437,7 @@ module _ (a b rule left : ℕ) (s : soundShape a b rule left ≡ true) where
     octets = octets-all bs known
 
     shape-end : (word n m c : ℕ) → 5 ≤ length bs → word ≡ lowNumber 5 bs → word * 2 ^ (64 - 8 * usedOf a) % 2 ^ 64 ≡ a * 2 ^ (64 - 8 * usedOf a) % 2 ^ 64
-        → Front a (wordOf b) rule bs n → c ≡ getD bs (usedOf a + 4) 0 → Listed (profileOf a) (typesOf b) c → Later (profileOf a) left (drop n bs) (suc m) → endAt (profileOf a) 0 bs ≡ ok (n + m)
+        → Front a (wordOf b) rule bs n → c ≡ getD bs (placeOf b) 0 → Listed (profileOf a) (typesOf b) c → Later (profileOf a) left (drop n bs) (suc m) → endAt (profileOf a) 0 bs ≡ ok (n + m)
     shape-end word n m c long ew ec front eq listed rest = go read refl by-set
       where
         go : (x : Answer (ℕ × ℕ)) → read ≡ x → shapeBy (profileOf a) a b rule left x ≡ true → endAt (profileOf a) 0 bs ≡ ok (n + m)
@@ -441,25 +445,28 @@ module _ (a b rule left : ℕ) (s : soundShape a b rule left ≡ true) where
         go (ok (bits, used)) e y =
             let i : ℕ = profileOf a in
             let p = eqb used (usedOf a) in
-            let q = eqb (bits / 2 ^ 60) 7 in
+            let q = soundFront i a b bits in
             let r = soundMask i bits (typesOf b) in
             let u = soundItems i a b rule left (flags 60 (bits % 2 ^ 60)) in
             let y₁ : p && q && r ≡ true = both-left (p && q && r) u y in
             let y₂ : p && q ≡ true = both-left (p && q) r y₁ in
             let e₁ : used ≡ usedOf a = eqb-true _ _ (both-left p q y₂) in
-            let top : bits / 2 ^ 60 ≡ 7 = eqb-true _ _ (both-right p q y₂) in
+            let y₃ : eqb (bits / 2 ^ 60) 7 && eqb (placeOf b) (usedOf a + typeAt i) ≡ true = both-right (hasFront i) _ (both-right p q y₂) in
+            let fronted : hasFront i ≡ true = both-left (hasFront i) _ (both-right p q y₂) in
+            let top : bits / 2 ^ 60 ≡ 7 = eqb-true _ _ (both-left (eqb (bits / 2 ^ 60) 7) _ y₃) in
+            let e₂ : placeOf b ≡ usedOf a + typeAt i = eqb-true _ _ (both-right (eqb (bits / 2 ^ 60) 7) _ y₃) in
             let set-is : setAt i bs ≡ ok (bits, used) = fspec-told i (usedOf a) a word bs (bits, used) octets shape-few long ew (cut-same word a (usedOf a) shape-some shape-few ec) e in
-            let ends = items-end i a b rule left n m bits bs shape-known octets top front rest (both-right (p && q && r) u y) in
-            let kind : c ≡ getD (take (length bs - usedOf a) (drop (usedOf a) bs)) 4 0 = type-here (usedOf a) c bs eq in
+            let ends = items-end i a b rule left n m bits bs shape-known fronted octets top front rest (both-right (p && q && r) u y) in
+            let kind : c ≡ getD (take (length bs - usedOf a) (drop (usedOf a) bs)) (typeAt i) 0 = type-here (usedOf a) (typeAt i) c bs (eq ∙ ap (λ x. getD bs x 0) e₂) in
             let n₁ : ℕ = n - usedOf a + m in
             let same : usedOf a + n₁ ≡ n + m = omega (arith, ends .0) in
-            quick-whole i bs known fits (set.Items (record { bits = bits }) (usedOf a)) (record { bits = bits }) (usedOf a) n₁ (ap (λ x. ok (bits, x)) (sym e₁) ∙ sym set-is) refl c kind
-            (type-told i bits (typesOf b) c (listed .row) shape-known top (both-right (p && q) r y₁) (listed .few) (listed .there) (listed .is))
-            (λ z. omega (arith, z, ends .0)) (subst (λ l. Passed i bits l n₁) (sym (to-end bs (usedOf a))) (passed-of i bits (drop (usedOf a) bs) n₁ (ends .1)))
+            quick-whole i bs known fits (set.Items (record { bits = bits }) (usedOf a)) (record { bits = bits }) (usedOf a) n₁ (ap (λ x. ok (bits, x)) (sym e₁) ∙ sym set-is) refl c (typeAt i) kind refl
+            (type-told i bits (typesOf b) c (listed .row) fronted top (both-right (p && q) r y₁) (listed .few) (listed .there) (listed .is))
+            (λ z. omega (arith, z, ends .0, front-some i fronted)) (subst (λ l. Passed i bits l n₁) (sym (to-end bs (usedOf a))) (passed-of i bits (drop (usedOf a) bs) n₁ (ends .1)))
             ∙ ap ok same
 
     -- the record of a profile, with the items that are left
-    module _ (i word n c : ℕ) (ep : profileOf a ≡ i) (long : 5 ≤ length bs) (ew : word ≡ lowNumber 5 bs) (ec : word * 2 ^ (64 - 8 * usedOf a) % 2 ^ 64 ≡ a * 2 ^ (64 - 8 * usedOf a) % 2 ^ 64) (front : Front a (wordOf b) rule bs n) (eq : c ≡ getD bs (usedOf a + 4) 0) (listed : Listed i (typesOf b) c) where
+    module _ (i word n c : ℕ) (ep : profileOf a ≡ i) (long : 5 ≤ length bs) (ew : word ≡ lowNumber 5 bs) (ec : word * 2 ^ (64 - 8 * usedOf a) % 2 ^ 64 ≡ a * 2 ^ (64 - 8 * usedOf a) % 2 ^ 64) (front : Front a (wordOf b) rule bs n) (eq : c ≡ getD bs (placeOf b) 0) (listed : Listed i (typesOf b) c) where
       pub shape-whole : (m : ℕ) → Later i left (take (length bs - n) (drop n bs)) m → (m ≡ 0 → ⊥) → endAt i 0 bs ≡ ok (n + m - 1)
       shape-whole zero rest z = absurd (z refl)
       shape-whole (suc m) rest z =

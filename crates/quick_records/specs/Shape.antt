@@ -13,7 +13,7 @@ use Rattle.tables.specs.Tables.{profileCount, frnCount, layoutAt, placeRowAt}
 use Rattle.sets.specs.Sets.{categoryAt, within}
 use Rattle.sets.specs.Steps.{setFrom, rowAt}
 use Rattle.quick_items.specs.Item.{firstThree, asks, soundSingle, soundCounted, allBelow}
-use Rattle.quick_records.specs.Record.{rowCount, typeSets, mustAt, mayAt, free}
+use Rattle.quick_records.specs.Record.{rowCount, typeSets, mustAt, mayAt, free, hasFront, frontOctets, typeAt}
 
 -- ---- octets as a number, the first one lowest
 
@@ -26,7 +26,7 @@ lowOctets zero x = []
 lowOctets (suc n) x = x % 256 ∷ lowOctets n (x / 256)
 
 -- ---- the columns of a row: FSPEC, its octets, where the item stands that is looked into, the octets after it, the profile; message types, the
--- item's word; its rule; the items that are left
+-- item's word, where the message type stands; the item's rule; the items that are left
 
 abbrev pub usedOf : ℕ → ℕ
 usedOf k = k / 2 ^ 40 % 16
@@ -44,7 +44,10 @@ abbrev pub typesOf : ℕ → ℕ
 typesOf k = k % 2 ^ 40
 
 abbrev pub wordOf : ℕ → ℕ
-wordOf k = k / 2 ^ 40
+wordOf k = k / 2 ^ 40 % 2 ^ 16
+
+abbrev pub placeOf : ℕ → ℕ
+placeOf k = k / 2 ^ 56
 
 -- ---- the message types, by the bits of their rows in the profile
 
@@ -76,15 +79,15 @@ soundSpecial w rule l =
     ltb 0 (w % 16 + w / 4_096 % 16 * (w / 16 % 16))
     && cond (eqb (w / 256 % 16) 1) (eqb (w / 16 % 16) 0 && soundSingle rule (rule / 2 ^ 32) w l) (soundCounted w l)
 
--- FRN 1 to 3 take five octets; then come the flags of FRN 4 on
+-- the front, FRN 1 to 3; then come the flags of FRN 4 on
 abbrev pub soundFirst : ℕ → ℕ → ℕ → ℕ → ℕ → List Bool → Bool
-soundFirst i a b left s us = eqb (wordOf b) 0 && eqb (startOf a) (usedOf a) && eqb (tailOf a) (5 + s) && eqb left (number us)
+soundFirst i a b left s us = eqb (wordOf b) 0 && eqb (startOf a) (usedOf a) && eqb (tailOf a) (frontOctets i + s) && eqb left (number us)
 
 abbrev pub soundThen : ℕ → ℕ → ℕ → ℕ → ℕ → ℕ → List Bool → Bool
 soundThen i a b rule left s [] = false
 soundThen i a b rule left s (false ∷ vs) = false
 soundThen i a b rule left s (true ∷ vs) =
-    ltb (63 - length vs) frnCount && eqb (startOf a) (usedOf a + 5 + s) && soundSpecial (wordOf b) rule (layoutAt (placeRowAt (i * frnCount + (63 - length vs)) .layout))
+    ltb (63 - length vs) frnCount && eqb (startOf a) (usedOf a + frontOctets i + s) && soundSpecial (wordOf b) rule (layoutAt (placeRowAt (i * frnCount + (63 - length vs)) .layout))
     && eqb (tailOf a) (runSum i (64 - length vs) vs) && eqb left (number (runLeft i (64 - length vs) vs))
 
 abbrev pub soundItems : ℕ → ℕ → ℕ → ℕ → ℕ → List Bool → Bool
@@ -92,17 +95,21 @@ soundItems i a b rule left ts = soundFirst i a b left (runSum i 4 ts) (runLeft i
 
 -- ---- a row, by its FSPEC
 
+-- the front is there, and the message type is where the row has it
+abbrev pub soundFront : ℕ → ℕ → ℕ → ℕ → Bool
+soundFront i a b bits = hasFront i && (eqb (bits / 2 ^ 60) 7 && eqb (placeOf b) (usedOf a + typeAt i))
+
 abbrev pub shapeBy : ℕ → ℕ → ℕ → ℕ → ℕ → Answer (ℕ × ℕ) → Bool
 shapeBy i a b rule left (ok (bits, used)) =
-    eqb used (usedOf a) && eqb (bits / 2 ^ 60) 7 && soundMask i bits (typesOf b) && soundItems i a b rule left (flags 60 (bits % 2 ^ 60))
+    eqb used (usedOf a) && soundFront i a b bits && soundMask i bits (typesOf b) && soundItems i a b rule left (flags 60 (bits % 2 ^ 60))
 shapeBy i a b rule left (refused n p) = false
 
-abbrev pub bounded : ℕ → ℕ → Bool
-bounded a left = ltb (profileOf a) profileCount && (ltb 0 (usedOf a) && (leb (usedOf a) 5 && (ltb left (2 ^ 60) && leb (usedOf a + 5) (startOf a + tailOf a))))
+abbrev pub bounded : ℕ → ℕ → ℕ → Bool
+bounded a b left = ltb (profileOf a) profileCount && (ltb 0 (usedOf a) && (leb (usedOf a) 5 && (ltb left (2 ^ 60) && ltb (placeOf b) (startOf a + tailOf a))))
 
 unfoldable pub soundShape : ℕ → ℕ → ℕ → ℕ → Bool
 soundShape a b rule left =
-    bounded a left
+    bounded a b left
     && shapeBy (profileOf a) a b rule left (setFrom (profileOf a) (length (categoryAt (profileOf a) .profile)) (lowOctets (usedOf a) a) 0 0)
 
 -- ---- the table: what message types must and may have, then shapes

@@ -13,21 +13,24 @@ pub const KINDS: usize = 112;
 pub const ROWS: usize = 24;
 // ---- end of what is made
 
-const WAYS: usize = 16;
+pub const WAYS: usize = 16;
 
 pub const SLOTS: usize = 64;
 
-// Where the ways start in the one table, and the shapes in the other.
+// Where the ways and the places of the message type start in the one table, and the shapes in the other.
 pub const FIRST_WAY: usize = PROFILES * KINDS;
+
+pub const FIRST_PLACE: usize = FIRST_WAY + PROFILES * WAYS;
 
 pub const FIRST_SHAPE: usize = PROFILES * 2 * ROWS;
 
-pub type Types = [u8; FIRST_WAY + PROFILES * WAYS];
+pub type Types = [u8; FIRST_PLACE + PROFILES];
 
 pub type Sets = [u64; FIRST_SHAPE + 4 * SLOTS];
 
 // Message types, and the octets of the first items. A type's row in its profile, 0 where it is unknown, by profile and type; then, by
-// profile and the presence bits of FRN 4 to 7, the octets of FRN 1 to 7 where FRN 1 to 3 are there and all are free and fixed, else 0.
+// profile and the presence bits of FRN 4 to 7, the octets of FRN 1 to 7 where FRN 1 to 3 are there, one of them the message type, and all
+// are free and fixed, else 0; then, by profile, how many octets of FRN 1 to 3 are before the message type.
 // ---- made by model/make.py: TYPES
 const TYPES: Types = [
     1, // I017/000  5.2.1  0  Network information
@@ -286,6 +289,8 @@ const TYPES: Types = [
     0, // category 018, FRN 1 to 3, 4, 5, 7
     13, // category 018, FRN 1 to 3, 4, 5, 6
     0, // category 018, FRN 1 to 3, 4, 5, 6, 7
+    4, // I017/000  5.2.1  among FRN 1 to 3
+    4, // I018/000  5.2.1  among FRN 1 to 3
 ];
 // ---- end of what is made
 
@@ -294,8 +299,8 @@ const TYPES: Types = [
 //
 // Then shapes, made by model/make.py, each where `slot_of` looks for it: FSPECs that are legal for some message type, all but those of Aircraft_report, with what follows
 // from them. A shape has four words, with columns, the right one first: the FSPEC, its first octet lowest; its octets; where in the record the item
-// stands that is looked into; how many octets the free items after it take; the category, less 17 _ the message types, bit n for row n; the item's word,
-// as in `quick_items::steps` _ the item's rule, as there _ the items that are left then. Where no item is looked into, the place is that of FRN 1, the word 0, the rule any bits.
+// stands that is looked into; how many octets the free items after it take; the profile _ the message types, bit n for row n; the item's word,
+// as in `quick_items::steps`; where in the record the message type stands _ the item's rule, as there _ the items that are left then. Where no item is looked into, the place is that of FRN 1, the word 0, the rule any bits.
 // ---- made by model/make.py: SETS
 const SETS: Sets = [
     0, // category 017: no message type
@@ -395,259 +400,259 @@ const SETS: Sets = [
     0x7C0D_0000_0000_0000, // I018/000 type 0x43  GICB_response
     0x7C0F_0000_0000_0000,
     0x1_05_01_1_00000000E0, // no shape: category 018, FSPEC E0 again
-    0x0000_000002006A,
+    0x05_0000_000002006A,
     0x28_FFFFFF_00_000000,
     0,
     0x1_05_01_1_00000000E0, // no shape: category 018, FSPEC E0 again
-    0x0000_000002006A,
+    0x05_0000_000002006A,
     0x28_FFFFFF_00_000000,
     0,
     0x1_05_01_1_00000000E0, // no shape: category 018, FSPEC E0 again
-    0x0000_000002006A,
+    0x05_0000_000002006A,
     0x28_FFFFFF_00_000000,
     0,
     0x1_07_13_4_003C0101E1, // category 018, FSPEC E1 01 01 3C: type 0x30
-    0x0104_0000010000,
+    0x08_0104_0000010000,
     0x3B_000000_13_000000,
     0,
     0x1_00_10_3_0000800DE9, // category 018, FSPEC E9 0D 80: type 0x40
-    0x0103_0000100000,
+    0x07_0103_0000100000,
     0x28_A8BFFF_00_000000,
     0,
     0x1_00_0D_5_02012901E9, // category 018, FSPEC E9 01 29 01 02: type 0x11
-    0x0101_0000000100,
+    0x09_0101_0000000100,
     0x3C_000000_10_000000,
     0x0000_1000_1000_0000,
     0x1_0A_03_3_0000803DE9, // category 018, FSPEC E9 3D 80: type 0x40
-    0x0000_0000100000,
+    0x07_0000_0000100000,
     0x28_FFFFFF_00_000000,
     0x001D_0000_0000_0000,
     0x1_07_04_4_00020101F1, // category 018, FSPEC F1 01 01 02: type 0x01
-    0x0000_0000000004,
+    0x08_0000_0000000004,
     0x28_FFFFFF_00_000000,
     0,
     0x1_0D_02_2_0000000CE9, // category 018, FSPEC E9 0C: type 0x40
-    0x0000_0000100000,
+    0x06_0000_0000100000,
     0x28_FFFFFF_00_000000,
     0,
     0x1_0A_02_2_0000003CE9, // category 018, FSPEC E9 3C: type 0x40
-    0x0000_0000100000,
+    0x06_0000_0000100000,
     0x28_FFFFFF_00_000000,
     0x001C_0000_0000_0000,
     0x1_05_01_1_00000000E0, // no shape: category 018, FSPEC E0 again
-    0x0000_000002006A,
+    0x05_0000_000002006A,
     0x28_FFFFFF_00_000000,
     0,
     0x1_0A_04_4_00200101F1, // category 018, FSPEC F1 01 01 20: type 0x32
-    0x0000_0000040000,
+    0x08_0000_0000040000,
     0x28_FFFFFF_00_000000,
     0,
     0x1_05_01_1_00000000E0, // no shape: category 018, FSPEC E0 again
-    0x0000_000002006A,
+    0x05_0000_000002006A,
     0x28_FFFFFF_00_000000,
     0,
     0x1_05_01_1_00000000E0, // no shape: category 018, FSPEC E0 again
-    0x0000_000002006A,
+    0x05_0000_000002006A,
     0x28_FFFFFF_00_000000,
     0,
     0x1_00_18_3_0000800FF9, // category 018, FSPEC F9 0F 80: type 0x43
-    0x0103_0000800000,
+    0x07_0103_0000800000,
     0x28_A8BFFF_00_000000,
     0,
     0x1_00_0B_2_00000040F9, // category 018, FSPEC F9 40: type 0x23
-    0x3210_0000002000,
+    0x06_3210_0000002000,
     0x28_FFFFFF_00_000000,
     0,
     0x1_05_01_1_00000000E0, // no shape: category 018, FSPEC E0 again
-    0x0000_000002006A,
+    0x05_0000_000002006A,
     0x28_FFFFFF_00_000000,
     0,
     0x0_00_0A_2_000000FCEB, // category 017, FSPEC EB FC: type 10
-    0x0103_0000000004,
+    0x06_0103_0000000004,
     0x28_A8BFFF_00_000000,
     0x00FC_0000_0000_0000,
     0x1_0C_02_2_00000008E9, // category 018, FSPEC E9 08: type 0x41
-    0x0000_0000200000,
+    0x06_0000_0000200000,
     0x28_FFFFFF_00_000000,
     0,
     0x1_05_01_1_00000000E0, // no shape: category 018, FSPEC E0 again
-    0x0000_000002006A,
+    0x05_0000_000002006A,
     0x28_FFFFFF_00_000000,
     0,
     0x1_00_11_3_0000800DF9, // category 018, FSPEC F9 0D 80: type 0x43
-    0x0103_0000800000,
+    0x07_0103_0000800000,
     0x28_A8BFFF_00_000000,
     0,
     0x0_00_0C_2_000000FCEF, // category 017, FSPEC EF FC: type 10
-    0x0103_0000000004,
+    0x06_0103_0000000004,
     0x28_A8BFFF_00_000000,
     0x00FC_0000_0000_0000,
     0x1_05_01_1_00000000E0, // no shape: category 018, FSPEC E0 again
-    0x0000_000002006A,
+    0x05_0000_000002006A,
     0x28_FFFFFF_00_000000,
     0,
     0x1_05_01_1_00000000E0, // no shape: category 018, FSPEC E0 again
-    0x0000_000002006A,
+    0x05_0000_000002006A,
     0x28_FFFFFF_00_000000,
     0,
     0x1_05_01_1_00000000E0, // no shape: category 018, FSPEC E0 again
-    0x0000_000002006A,
+    0x05_0000_000002006A,
     0x28_FFFFFF_00_000000,
     0,
     0x0_00_07_2_00000002E1, // category 017, FSPEC E1 02: type 30, 31, 32, 33
-    0x0231_0000000780,
+    0x06_0231_0000000780,
     0x28_FFFFFF_00_000000,
     0,
     0x1_08_03_3_0000801DE9, // category 018, FSPEC E9 1D 80: type 0x40
-    0x0000_0000100000,
+    0x07_0000_0000100000,
     0x28_FFFFFF_00_000000,
     0x001D_0000_0000_0000,
     0x0_06_03_3_00008001E1, // category 017, FSPEC E1 01 80: type 110, 111
-    0x0000_0000001800,
+    0x07_0000_0000001800,
     0x28_FFFFFF_00_000000,
     0,
     0x0_00_0A_2_000000F8EB, // category 017, FSPEC EB F8: type 10
-    0x0103_0000000004,
+    0x06_0103_0000000004,
     0x28_A8BFFF_00_000000,
     0x00F8_0000_0000_0000,
     0x1_08_02_2_0000001CE9, // category 018, FSPEC E9 1C: type 0x40
-    0x0000_0000100000,
+    0x06_0000_0000100000,
     0x28_FFFFFF_00_000000,
     0x001C_0000_0000_0000,
     0x1_05_01_1_00000000E0, // category 018, FSPEC E0: type 0x00, 0x02, 0x04, 0x05, 0x31
-    0x0000_000002006A,
+    0x05_0000_000002006A,
     0x28_FFFFFF_00_000000,
     0,
     0x1_05_01_1_00000000E0, // no shape: category 018, FSPEC E0 again
-    0x0000_000002006A,
+    0x05_0000_000002006A,
     0x28_FFFFFF_00_000000,
     0,
     0x0_00_0C_2_000000F8EF, // category 017, FSPEC EF F8: type 10
-    0x0103_0000000004,
+    0x06_0103_0000000004,
     0x28_A8BFFF_00_000000,
     0x00F8_0000_0000_0000,
     0x1_05_01_1_00000000E0, // no shape: category 018, FSPEC E0 again
-    0x0000_000002006A,
+    0x05_0000_000002006A,
     0x28_FFFFFF_00_000000,
     0,
     0x1_0D_02_2_00000008F9, // category 018, FSPEC F9 08: type 0x42
-    0x0000_0000400000,
+    0x06_0000_0000400000,
     0x28_FFFFFF_00_000000,
     0,
     0x1_07_0D_4_002C0101E1, // category 018, FSPEC E1 01 01 2C: type 0x30
-    0x0104_0000010000,
+    0x08_0104_0000010000,
     0x3B_000000_13_000000,
     0,
     0x1_05_01_1_00000000E0, // no shape: category 018, FSPEC E0 again
-    0x0000_000002006A,
+    0x05_0000_000002006A,
     0x28_FFFFFF_00_000000,
     0,
     0x0_08_01_1_00000000E8, // category 017, FSPEC E8: type 20, 21, 22, 23
-    0x0000_0000000078,
+    0x05_0000_0000000078,
     0x28_FFFFFF_00_000000,
     0,
     0x1_08_01_1_00000000E8, // category 018, FSPEC E8: type 0x21, 0x41
-    0x0000_0000200800,
+    0x05_0000_0000200800,
     0x28_FFFFFF_00_000000,
     0,
     0x1_05_01_1_00000000E0, // no shape: category 018, FSPEC E0 again
-    0x0000_000002006A,
+    0x05_0000_000002006A,
     0x28_FFFFFF_00_000000,
     0,
     0x1_00_0B_3_00002801E9, // category 018, FSPEC E9 01 28: type 0x11
-    0x0101_0000000100,
+    0x07_0101_0000000100,
     0x3C_000000_10_000000,
     0x0000_1000_0000_0000,
     0x0_0A_01_1_00000000EC, // category 017, FSPEC EC: type 22
-    0x0000_0000000020,
+    0x05_0000_0000000020,
     0x28_FFFFFF_00_000000,
     0,
     0x1_0C_01_1_00000000EC, // category 018, FSPEC EC: type 0x21
-    0x0000_0000000800,
+    0x05_0000_0000000800,
     0x28_FFFFFF_00_000000,
     0,
     0x1_05_01_1_00000000E0, // no shape: category 018, FSPEC E0 again
-    0x0000_000002006A,
+    0x05_0000_000002006A,
     0x28_FFFFFF_00_000000,
     0,
     0x1_05_01_1_00000000E0, // no shape: category 018, FSPEC E0 again
-    0x0000_000002006A,
+    0x05_0000_000002006A,
     0x28_FFFFFF_00_000000,
     0,
     0x0_00_06_1_00000000F0, // category 017, FSPEC F0: type 0
-    0x1221_0000000002,
+    0x05_1221_0000000002,
     0x28_FFFFFF_00_000000,
     0,
     0x1_06_01_1_00000000F0, // category 018, FSPEC F0: type 0x01, 0x03, 0x04, 0x32
-    0x0000_0000040034,
+    0x05_0000_0000040034,
     0x28_FFFFFF_00_000000,
     0,
     0x1_05_01_1_00000000E0, // no shape: category 018, FSPEC E0 again
-    0x0000_000002006A,
+    0x05_0000_000002006A,
     0x28_FFFFFF_00_000000,
     0,
     0x1_00_12_3_0000802DE9, // category 018, FSPEC E9 2D 80: type 0x40
-    0x0103_0000100000,
+    0x07_0103_0000100000,
     0x28_A8BFFF_00_000000,
     0,
     0x1_05_01_1_00000000E0, // no shape: category 018, FSPEC E0 again
-    0x0000_000002006A,
+    0x05_0000_000002006A,
     0x28_FFFFFF_00_000000,
     0,
     0x1_00_0E_2_000000C0ED, // category 018, FSPEC ED C0: type 0x20
-    0x0101_0000000400,
+    0x06_0101_0000000400,
     0x3F_000000_17_000000,
     0x0040_0000_0000_0000,
     0x1_0F_02_2_0000002CE9, // category 018, FSPEC E9 2C: type 0x40
-    0x0000_0000100000,
+    0x06_0000_0000100000,
     0x28_FFFFFF_00_000000,
     0,
     0x1_05_01_1_00000000E0, // no shape: category 018, FSPEC E0 again
-    0x0000_000002006A,
+    0x05_0000_000002006A,
     0x28_FFFFFF_00_000000,
     0,
     0x1_05_01_1_00000000E0, // no shape: category 018, FSPEC E0 again
-    0x0000_000002006A,
+    0x05_0000_000002006A,
     0x28_FFFFFF_00_000000,
     0,
     0x1_09_01_1_00000000F8, // category 018, FSPEC F8: type 0x22, 0x42
-    0x0000_0000401000,
+    0x05_0000_0000401000,
     0x28_FFFFFF_00_000000,
     0,
     0x1_06_04_4_00020101E1, // category 018, FSPEC E1 01 01 02: type 0x00, 0x12
-    0x0000_0000000202,
+    0x08_0000_0000000202,
     0x28_FFFFFF_00_000000,
     0,
     0x1_00_0A_1_00000000FA, // category 018, FSPEC FA: type 0x22
-    0x1241_0000001000,
+    0x05_1241_0000001000,
     0x28_FFFFFF_00_000000,
     0,
     0x1_05_01_1_00000000E0, // no shape: category 018, FSPEC E0 again
-    0x0000_000002006A,
+    0x05_0000_000002006A,
     0x28_FFFFFF_00_000000,
     0,
     0x1_07_0C_4_00048101E9, // category 018, FSPEC E9 01 81 04: type 0x34
-    0x0103_0000080000,
+    0x08_0103_0000080000,
     0x28_A8BFFF_00_000000,
     0,
     0x1_09_04_4_00200101E1, // category 018, FSPEC E1 01 01 20: type 0x31
-    0x0000_0000020000,
+    0x08_0000_0000020000,
     0x28_FFFFFF_00_000000,
     0,
     0x1_00_08_3_00004001E1, // category 018, FSPEC E1 01 40: type 0x26, 0x27
-    0x1231_000000C000,
+    0x07_1231_000000C000,
     0x28_FFFFFF_00_000000,
     0,
     0x1_05_01_1_00000000E0, // no shape: category 018, FSPEC E0 again
-    0x0000_000002006A,
+    0x05_0000_000002006A,
     0x28_FFFFFF_00_000000,
     0,
     0x1_05_01_1_00000000E0, // no shape: category 018, FSPEC E0 again
-    0x0000_000002006A,
+    0x05_0000_000002006A,
     0x28_FFFFFF_00_000000,
     0,
     0x1_00_0A_2_00000040E9, // category 018, FSPEC E9 40: type 0x23
-    0x3210_0000002000,
+    0x06_3210_0000002000,
     0x28_FFFFFF_00_000000,
     0,
 ];

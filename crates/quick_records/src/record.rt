@@ -1,9 +1,11 @@
 // The record that is plainly legal: its set, what its message type asks for, its items.
+use super::lent::FIRST_PLACE;
 use super::lent::FIRST_WAY;
 use super::lent::KINDS;
 use super::lent::ROWS;
 use super::lent::Sets;
 use super::lent::Types;
+use super::lent::WAYS;
 use quick_items::Steps;
 use quick_items::octet;
 use quick_items::quick_item;
@@ -16,13 +18,13 @@ ghost use Prim.Native.Nat.{_/_, _≤_, _<_, _+_, _-_, _^_};
 ghost use lib.ListN.{length};
 ghost use Rattle.quick_items.specs.Item.{Plainly, soundSteps};
 ghost use Rattle.sets.specs.Steps.{judgeSet};
-ghost use Rattle.quick_records.specs.Record.{soundTypes, Content, Later, Passed, endAt};
+ghost use Rattle.quick_records.specs.Record.{hasFront, frontOctets, soundTypes, Content, Later, Passed, endAt};
 ghost use Rattle.quick_records.specs.Shape.{soundSets};
 ghost use Rattle.tables.specs.Tables.{profileCount};
 
 // Whether a record has what its message type asks for: true only where it does.
 fn is_content(types: &Types, sets: &Sets, profile: usize, items: ItemSet, kind: u8) -> bool
-    requires { ⌜ (soundTypes (now types) ≡ true) × (soundSets (now sets) ≡ true) × (profile < profileCount) × (items .bits / 2 ^ 60 ≡ 7) ⌝ }
+    requires { ⌜ (soundTypes (now types) ≡ true) × (soundSets (now sets) ≡ true) × (profile < profileCount) × (hasFront profile ≡ true) × (items .bits / 2 ^ 60 ≡ 7) ⌝ }
     ensures { λ r. ⌜ Content r (judgeSet profile (items .bits) kind) ⌝ }
 {
     let number = octet(kind);
@@ -68,21 +70,28 @@ pub fn later_items(steps: &Steps, profile: usize, bits: u64, part: &[u8]) -> usi
     part.len() - rest.len() + 1
 }
 
-// How many octets the items of a set take that has FRN 1 to 3: the first three or the first seven at once, then one by one.
-fn quick_items(steps: &Steps, types: &Types, profile: usize, bits: u64, part: &[u8]) -> usize
-    requires { ⌜ (soundSteps (now steps) ≡ true) × (soundTypes (now types) ≡ true) × (profile < profileCount) × (bits / 2 ^ 60 ≡ 7) × (length (now part) < 65536) ⌝ }
+// How many octets the items of a set take that has a front of so many octets: the first three or the first seven at once, then one by one.
+fn quick_items(
+    steps: &Steps,
+    types: &Types,
+    profile: usize,
+    front: usize,
+    bits: u64,
+    part: &[u8],
+) -> usize
+    requires { ⌜ (soundSteps (now steps) ≡ true) × (soundTypes (now types) ≡ true) × (profile < profileCount) × (hasFront profile ≡ true) × (front ≡ frontOctets profile) × (bits / 2 ^ 60 ≡ 7) × (length (now part) < 65536) ⌝ }
     ensures { λ r. ⌜ Passed profile bits (now (part .entry)) r ⌝ }
 {
-    let sum = octet(types[FIRST_WAY + profile * 16 + ((bits >> 56) % 16) as usize]);
+    let sum = octet(types[FIRST_WAY + profile * WAYS + ((bits >> 56) % 16) as usize]);
     if sum == 0 {
-        if part.len() < 5 {
+        if part.len() < front {
             return 0;
         }
-        let n = later_items(steps, profile, bits % 0x1000_0000_0000_0000, &part[5..]);
+        let n = later_items(steps, profile, bits % 0x1000_0000_0000_0000, &part[front..]);
         if n == 0 {
             return 0;
         }
-        return 4 + n;
+        return front + n - 1;
     }
     if part.len() < sum {
         return 0;
@@ -102,21 +111,26 @@ pub fn quick_record(steps: &Steps, types: &Types, sets: &Sets, profile: usize, p
     if PROFILES <= profile {
         return 0;
     }
+    let front = octet(types[FIRST_WAY + profile * WAYS]);
+    if front == 0 {
+        return 0;
+    }
     let SetRead::Items { set, octets } = ItemSet::from_octets(profile, part) else {
         return 0;
     };
     let items = &part[octets..];
-    if items.len() < 5 {
+    if items.len() < front {
         return 0;
     }
     let bits = set.bits;
     if bits >> 60 != 7 {
         return 0;
     }
-    if !is_content(types, sets, profile, set, items[4]) {
+    let place = octet(types[FIRST_PLACE + profile]);
+    if !is_content(types, sets, profile, set, items[place]) {
         return 0;
     }
-    let n = quick_items(steps, types, profile, bits, items);
+    let n = quick_items(steps, types, profile, front, bits, items);
     if n == 0 {
         return 0;
     }

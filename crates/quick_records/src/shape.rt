@@ -107,11 +107,16 @@ fn by_shape(
     if five << up != shape << up {
         return 0;
     }
-    let size = front_size(shape, item / 0x100_0000_0000, rule, part);
+    let size = front_size(shape, item / 0x100_0000_0000 % 0x1_0000, rule, part);
     if size == 0 {
         return 0;
     }
-    if !is_listed(types, profile, item % 0x100_0000_0000, part[used + 4]) {
+    if !is_listed(
+        types,
+        profile,
+        item % 0x100_0000_0000,
+        part[item / 0x100_0000_0000_0000],
+    ) {
         return 0;
     }
     if left == 0 {

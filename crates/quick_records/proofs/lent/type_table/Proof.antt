@@ -4,16 +4,17 @@ use Rattle.rules.specs.Answer.{_>>=_, if_then_else_}
 use Rattle.rules.specs.Presence.{number, flags}
 use Rattle.rules.specs.Record.{messageOf}
 use Rattle.rules.specs.Catalogue.{categories}
+use Rattle.tables.specs.Places.{frnAs}
 use Rattle.tables.specs.FieldRules.{singles}
 use Rattle.tables.specs.Tables.{layoutAt, layouts, groupAt, groups}
 use Rattle.sets.specs.Sets.{categoryAt, bitsOf}
-use Rattle.sets.specs.Steps.{rowAt}
-use Rattle.quick_records.specs.Record.{typeSets, soundTypes}
+use Rattle.sets.specs.Steps.{typeFrn, rowAt}
+use Rattle.quick_records.specs.Record.{typeSets, hasFront, frontOctets, typeAt, soundTypes}
 use Rattle.quick_records.proofs.lent.type_table.Statement.{statement}
 use Rattle.quick_records.proofs.lent.type_table.Tie as tie
 
 returns : tie.Need-returns
-unfolding soundTypes typeSets rowAt messageOf if_then_else_ _>>=_ flags singles layoutAt layouts groupAt groups categoryAt categories bitsOf number
+unfolding soundTypes hasFront frontOctets typeAt typeSets typeFrn frnAs rowAt messageOf if_then_else_ _>>=_ flags singles layoutAt layouts groupAt groups categoryAt categories bitsOf number
 returns c = refl
 
 pub type-table-spec : {M : Type 1} → statement M

@@ -82,7 +82,7 @@ row c =
     ∙ ap₂ (λ x y. ok (x, y)) (sym (sets-read _ (c .before .before .before .before .before .before .before .before .before .before .pre .1) _ (omega (arith, few (c .before .before .before .before .before), c .before .before .before .before .before .before .before .before .before .before .pre .2)))) (sym (sets-read _ (c .before .before .before .before .before .before .before .before .before .before .pre .1) _ (omega (arith, few (c .before .before .before .before .before), c .before .before .before .before .before .before .before .before .before .before .pre .2))))
 
 returns-4 : tie.Need-returns-4
-returns-4 c = content _ _ _ _ _ (c .before .before .before .before .before .before .before .before .before .before .pre .2) (c .before .before .before .before .before .before .before .before .before .before .pre .3) (row c) (c .before .before .before .is-within .ensures) (c .before .before .if3 .left) (c .is-within2 .ensures)
+returns-4 c = content _ _ _ _ _ (c .before .before .before .before .before .before .before .before .before .before .pre .3) (c .before .before .before .before .before .before .before .before .before .before .pre .4) (row c) (c .before .before .before .is-within .ensures) (c .before .before .if3 .left) (c .is-within2 .ensures)
 
 pub is-content-spec : {M : Type 1} → statement M
 is-content-spec =

@@ -21,7 +21,7 @@ abbrev μ-loop : tie.MeasureT-loop
 μ-loop steps profile bits part left₀ rest₀ left rest = left
 
 loop-holds : tie.Need-loop-holds Inv-loop μ-loop
-loop-holds c = stand-first _ _ _ (c .before .pre .1) (c .before .pre .2)
+loop-holds c = stand-first _ _ _ (c .before .pre .2)
 
 -- the item with the highest bit that is left
 of : (c : tie.In-loop Inv-loop μ-loop) → Next (c .before .loop .left) (c .before .loop .inv .below) (c .loop-test .taken)
@@ -64,7 +64,7 @@ loop-less : tie.Need-loop-less Inv-loop μ-loop
 loop-less c = omega (arith, there c, c .weight .ensures, pow-pos (63 - leadingZeros 64 (c .before .before .before .before .before .loop .left)))
 
 loop-again : tie.Need-loop-again Inv-loop μ-loop
-loop-again c = rw (c .weight .ensures) (stand-next _ _ _ (c .before .before .before .before .before .before .before .pre .1) _ _ (c .before .before .before .before .before .loop .inv) (c .before .before .before .before .loop-test .taken) _ refl _ (item (c .before .before)))
+loop-again c = rw (c .weight .ensures) (stand-next _ _ _ _ _ (c .before .before .before .before .before .loop .inv) (c .before .before .before .before .loop-test .taken) _ refl _ (item (c .before .before)))
 
 sub-result : tie.Need-sub-result Inv-loop μ-loop
 sub-result c = omega (arith, c .before .loop .inv .fewer)
@@ -73,7 +73,7 @@ add-result : tie.Need-add-result Inv-loop μ-loop
 add-result c = record { fits = omega (arith, c .before .before .before .pre .3) }
 
 returns-2 : tie.Need-returns-2 Inv-loop μ-loop
-returns-2 c = stand-end _ _ _ (c .before .before .before .pre .1) _ _ _ (c .before .loop .inv) (c .loop-test .left) refl
+returns-2 c = stand-end _ _ _ _ _ _ (c .before .loop .inv) (c .loop-test .left) refl
 
 pub later-items-spec : {M : Type 1} → statement M
 later-items-spec =

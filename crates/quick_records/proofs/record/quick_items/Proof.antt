@@ -41,10 +41,13 @@ returns-2 : tie.Need-returns-2
 returns-2 c = search needs
 
 add-result : tie.Need-add-result
-add-result c = record { fits = omega (arith, later-within _ _ _ _ (c .before .later-items .ensures) (c .if3 .left), c .before .before .before .before .before .before .before .before .pre .4, c .before .before .later-items-arg .given .2) }
+add-result c = record { fits = omega (arith, later-within _ _ _ _ (c .before .later-items .ensures) (c .if3 .left), c .before .before .before .before .before .before .before .before .pre .6, c .before .before .later-items-arg .given .2) }
+
+sub-result : tie.Need-sub-result
+sub-result c = search needs
 
 returns-3 : tie.Need-returns-3
-returns-3 c = pass-three _ _ _ (c .before .before .before .before .before .before .before .before .pre .2) (octets-all (c .before .before .before .before .before .before .before .before .args .part .now) (c .before .before .before .before .before .before .before .shared-slice-known .given)) (c .before .before .before .before .before .before .before .before .pre .3) _ (c .before .before .before .if2 .left) (c .before .later-items .ensures) (c .if3 .left)
+returns-3 c = pass-three _ _ _ (c .before .before .before .before .before .before .before .before .pre .2) (c .before .before .before .before .before .before .before .before .pre .3) (octets-all (c .before .before .before .before .before .before .before .before .args .part .now) (c .before .before .before .before .before .before .before .shared-slice-known .given)) (c .before .before .before .before .before .before .before .before .pre .5) _ _ (c .before .before .before .before .before .before .before .before .pre .4) (c .before .before .before .if2 .left) (c .before .later-items .ensures) (c .if3 .left)
 
 returns-4 : tie.Need-returns-4
 returns-4 c = search needs
@@ -65,14 +68,14 @@ returns-5 : tie.Need-returns-5
 returns-5 c = search needs
 
 add-result-2 : tie.Need-add-result-2
-add-result-2 c = record { fits = omega (arith, later-within _ _ _ _ (c .before .later-items2 .ensures) (c .if5 .left), c .before .before .before .before .before .before .before .before .pre .4, c .before .before .later-items-arg2 .given .2, c .before .before .before .before .before .octet .ensures .1) }
+add-result-2 c = record { fits = omega (arith, later-within _ _ _ _ (c .before .later-items2 .ensures) (c .if5 .left), c .before .before .before .before .before .before .before .before .pre .6, c .before .before .later-items-arg2 .given .2, c .before .before .before .before .before .octet .ensures .1) }
 
-sub-result : tie.Need-sub-result
-sub-result c = search needs
+sub-result-2 : tie.Need-sub-result-2
+sub-result-2 c = search needs
 
 returns-6 : tie.Need-returns-6
 returns-6 c =
-    pass-sum _ _ _ (c .before .before .before .before .before .before .before .before .pre .2) (octets-all (c .before .before .before .before .before .before .before .before .args .part .now) (c .before .before .before .before .before .before .before .shared-slice-known .given)) (c .before .before .before .before .before .before .before .before .pre .3) _ _ _ _ (c .before .before .before .before .before .before .before .before .pre .1) refl (c .before .before .before .before .before .octet .ensures .0) (c .before .before .before .before .if1 .left) (c .before .before .before .if4 .left)
+    pass-sum _ _ _ (c .before .before .before .before .before .before .before .before .pre .2) (c .before .before .before .before .before .before .before .before .pre .3) (octets-all (c .before .before .before .before .before .before .before .before .args .part .now) (c .before .before .before .before .before .before .before .shared-slice-known .given)) (c .before .before .before .before .before .before .before .before .pre .5) _ _ _ _ (c .before .before .before .before .before .before .before .before .pre .1) refl (c .before .before .before .before .before .octet .ensures .0) (c .before .before .before .before .if1 .left) (c .before .before .before .if4 .left)
     (c .before .later-items2 .ensures) (c .if5 .left)
 
 pub quick-items-spec : {M : Type 1} → statement M
@@ -91,6 +94,7 @@ quick-items-spec =
     later-items-requires
     returns-2
     add-result
+    sub-result
     returns-3
     returns-4
     sub-later-items-2
@@ -99,5 +103,5 @@ quick-items-spec =
     later-items-requires-2
     returns-5
     add-result-2
-    sub-result
+    sub-result-2
     returns-6)

@@ -1,9 +1,9 @@
 -- `quick_records::shape::by_shape` meets its contract. Assumes nothing.
-use Prim.Native.Nat.{_+_, _-_, _≤_}
+use Prim.Native.Nat.{_<_}
 use mathlib.Core.Path.{refl}
 use native.Mathlib.Omega.{arith}
 use lib.ListN.{length, getD}
-use Rattle.quick_records.specs.Shape.{usedOf, wordOf, typesOf, Front, Listed}
+use Rattle.quick_records.specs.Shape.{wordOf, placeOf, typesOf, Front, Listed}
 use Rattle.quick_records.proofs.RecordLaws.{tell, later-within}
 use Rattle.quick_records.proofs.ShapeLaws.{front-of, listed-right, shape-known, shape-some, shape-few, shape-left, shape-long, shape-whole, shape-only}
 use borrow.Author.Needs.{needs}
@@ -34,14 +34,11 @@ front-size-requires c κs = search needs
 returns-3 : tie.Need-returns-3
 returns-3 c = search needs
 
-add-is-listed : tie.Need-add-is-listed
-add-is-listed c = search needs
-
 -- as far as the shape goes
 front : (c : tie.Else3) → Front (c .before .before .before .before .before .args .shape) (wordOf (c .before .before .before .before .before .args .item)) (c .before .before .before .before .before .args .rule) (c .before .before .before .before .before .args .part .now) (c .before .front-size .result)
 front c = front-of _ _ _ _ _ (c .before .front-size .ensures) (c .if3 .left)
 
-reaches : (c : tie.Else3) → usedOf (c .before .before .before .before .before .args .shape) + 5 ≤ length (c .before .before .before .before .before .args .part .now)
+reaches : (c : tie.Else3) → placeOf (c .before .before .before .before .before .args .item) < length (c .before .before .before .before .before .args .part .now)
 reaches c = omega (arith, shape-long _ _ _ _ (c .before .before .before .before .before .pre .2) _ _ (front c), front c .fits)
 
 shared-slice-read-is-listed : tie.Need-shared-slice-read-is-listed
@@ -53,7 +50,7 @@ is-listed-requires c κs = (c .before .before .before .before .before .before .p
 returns-4 : tie.Need-returns-4
 returns-4 c = search needs
 
-listed : (c : tie.Else4) → Listed (c .before .before .before .before .before .before .before .before .args .profile) (typesOf (c .before .before .before .before .before .before .before .before .args .item)) (getD (c .before .before .before .before .before .before .before .before .args .part .now) (usedOf (c .before .before .before .before .before .before .before .before .args .shape) + 4) 0)
+listed : (c : tie.Else4) → Listed (c .before .before .before .before .before .before .before .before .args .profile) (typesOf (c .before .before .before .before .before .before .before .before .args .item)) (getD (c .before .before .before .before .before .before .before .before .args .part .now) (placeOf (c .before .before .before .before .before .before .before .before .args .item)) 0)
 listed c = listed-right (c .before .is-listed .result) _ _ _ (c .before .is-listed .ensures) (c .if4 .left)
 
 returns-5 : tie.Need-returns-5
@@ -95,7 +92,6 @@ by-shape-spec =
     returns-2
     front-size-requires
     returns-3
-    add-is-listed
     shared-slice-read-is-listed
     is-listed-requires
     returns-4
