@@ -330,21 +330,24 @@ def quads_of_set(frns):
 def measured(shape):
     """The two words of a shape in crates/measuring, or nothing where one octet does not tell its size."""
     raw, used = rows.fspec(shape.frns)
-    base, time, parts = used, 0, []
+    base, starts, parts = used, {}, []
     for frn in shape.frns:
         item = rows.places_of(shape.profile)[frn - 1].item
-        is_time = item.reference == PROFILES[shape.profile].time
-        if item.form == "extended" or is_time and parts:
+        if item.form == "extended":
             return None
-        if is_time:
-            time = base
+        if not parts:
+            starts[frn] = base
         if item.form != "fixed":
             parts.append((base, item.octets))
         base += {"fixed": item.octets, "list": 1, "led": 0}[item.form]
-    if len(parts) > 1:
-        return None
     place, part = parts[0] if parts else (0, 0)
-    return "0x%X_0000_%X_%010X" % (shape.profile, used, raw), "0x%02X_%02X_%02X_%X" % (time, base, place, part)
+    time = kind = untimed = 0
+    if rows.time_frn(shape.profile) in shape.frns:
+        time, kind = starts.get(rows.time_frn(shape.profile)), starts.get(rows.type_frn(shape.profile))
+        untimed = next((1 + number for number in PROFILES[shape.profile].untimed), 0)
+    if len(parts) > 1 or part > 15 or base > 255 or None in (time, kind):
+        return None
+    return "0x%X_0000_%X_%010X" % (shape.profile, used, raw), "0x%03X_%02X_%02X_%02X_%02X_%X" % (untimed, kind, time, base, place, part)
 
 
 def measured_shapes():

@@ -1,15 +1,15 @@
 -- Where the items of a set end.
 --
--- In order: the octets of an item; numbers as the code has them; flags end to end; the next item of a set; FRN 1 to 3; the items before an FRN and from it
--- on; what is measured, by cases. Assumes nothing.
+-- In order: the octets of an item; numbers as the code has them; flags end to end; the next item of a set; the items before an FRN and from it on; what is
+-- measured, by cases. Assumes nothing.
 use Prim.Native.Nat.{ℕ, zero, suc, _+_, _-_, _*_, _/_, _%_, _^_, _≤_, _<_}
 use mathlib.Core.Path.{_≡_, refl, sym, ap, ap₂, _∙_, subst}
-use mathlib.Core.Bool.{Bool, true, false, _&&_}
+use mathlib.Core.Bool.{Bool, true, false}
 use mathlib.Core.Option.{Option, none, some}
 use mathlib.Core.Logic.{⊎-elim}
 use mathlib.Core.List.{List, [], _∷_, _++_}
 use native.Mathlib.Omega.{arith}
-use native.Mathlib.Nat.{mod-lt, mod-eq-of-lt, mod-eq-sub-mod, div-eq-of-lt, pow-suc, add-zero, one-mul}
+use native.Mathlib.Nat.{mod-lt, mod-eq-of-lt, mod-eq-sub-mod, div-eq-of-lt, pow-suc, add-zero, one-mul, mul-le-mul-left}
 use lib.Count.{leadingZeros, leading-top}
 use lib.Pow.{pow-pos, pow-mono, split, high, low, shl-exact}
 use lib.Dec.{leb, eqb, ltb}
@@ -22,8 +22,10 @@ use Rattle.rules.proofs.AnswerLaws.{if-true, if-false, both-left, both-right, O
 use Rattle.rules.proofs.PresenceLaws.{flags-length}
 use Rattle.layouts.proofs.ReadLaws.{le-or-lt}
 use Rattle.tables.specs.Tables.{profileCount, frnCount, groups, layouts, groupAt, layoutAt, placeRowAt}
+use Rattle.tables.specs.Profiles.{profileRowAt}
 use Rattle.items.specs.Answers.{profileIn}
 use Rattle.sets.specs.Sets.{setAt}
+use Rattle.sets.specs.Steps.{typeFrn}
 use Rattle.sets.specs.Answers.{setOf}
 use Rattle.sets.specs.declared.ItemSet.{ItemSet}
 use Rattle.sets.specs.declared.SetRead.{SetRead}
@@ -33,25 +35,34 @@ use Rattle.quick_items.specs.Item.{allBelow, octetsBy, rowOctets, isPlace, rowO
 use Rattle.quick_items.proofs.ItemLaws.{octet-at, all-below}
 use Rattle.measuring.specs.Measure.{endFrom, endOf, startOf, timeFrn, isIn, isUntimed, clockAt, timeIn, sized, measureBy, measureIn, measureOf}
 use Rattle.measuring.specs.Shape.{isFixed}
+use Rattle.measuring.proofs.CategoryLaws.{untimed-told}
 
 -- ---- the octets of an item
 
--- of no item at a place of the tables more than 255 parts of four octets after the count
-few-at : allBelow profileCount (λ i. allBelow frnCount (λ f. allBelow 256 (λ x. leb (rowOctets (rowOf i f) x) 1_021))) ≡ true
+-- the parts of no item have more octets than an octet counts
+few-at : allBelow profileCount (λ i. allBelow frnCount (λ f. leb (groupAt (rowOf i f .first) .octets) 255)) ≡ true
 unfolding groupAt layoutAt placeRowAt groups layouts categories
 few-at = refl
 
-octets-most : (i f x : ℕ) → x < 256 → octetsAt i f x ≤ 1_021
+octets-by : (k n x : ℕ) → n ≤ 255 → x < 256 → octetsBy k n x ≤ 65_026
+octets-by zero n x l h = omega arith
+octets-by (suc zero) n x l h = omega arith
+octets-by (suc (suc zero)) n x l h = let m : x * n ≤ x * 255 = mul-le-mul-left x l in omega arith
+octets-by (suc (suc (suc zero))) n x l h = omega arith
+octets-by (suc (suc (suc (suc k)))) n x l h = omega arith
+
+octets-most : (i f x : ℕ) → x < 256 → octetsAt i f x ≤ 65_026
 unfolding octetsAt if_then_else_
 octets-most i f x h = go (isPlace i f) refl
   where
-    go : (p : Bool) → isPlace i f ≡ p → (if p then rowOctets (rowOf i f) x else 0) ≤ 1_021
+    go : (p : Bool) → isPlace i f ≡ p → (if p then rowOctets (rowOf i f) x else 0) ≤ 65_026
     go true e =
         let j : i < profileCount = ltb-true i profileCount (both-left (ltb i profileCount) (ltb f frnCount) e) in
         let k : f < frnCount = ltb-true f frnCount (both-right (ltb i profileCount) (ltb f frnCount) e) in
-        leb-true _ 1_021
-        (all-below 256 (λ y. leb (rowOctets (rowOf i f) y) 1_021) x
-        (all-below frnCount (λ g. allBelow 256 (λ y. leb (rowOctets (rowOf i g) y) 1_021)) f (all-below profileCount (λ j. allBelow frnCount (λ g. allBelow 256 (λ y. leb (rowOctets (rowOf j g) y) 1_021))) i few-at j) k) h)
+        octets-by (rowOf i f .kind) _ x
+        (leb-true _ 255
+        (all-below frnCount (λ g. leb (groupAt (rowOf i g .first) .octets) 255) f
+        (all-below profileCount (λ j. allBelow frnCount (λ g. leb (groupAt (rowOf j g .first) .octets) 255)) i few-at j) k)) h
     go false e = omega arith
 
 -- one part has as many, whatever its first octet is
@@ -84,18 +95,6 @@ module _ (bs : List ℕ) (at : ℕ) where
 pub early-few : (bits f : ℕ) {early : ℕ} → early ≡ bits / 2 ^ (64 - f) * 2 ^ (64 - f) → early ≤ bits
 early-few bits f e = omega (arith, e, split bits (64 - f))
 
--- the FRN of the time, and who has none
-frn-of : (t : Bool) → (1 ≤ (if t then 7 else 15)) × ((if t then 7 else 15) ≤ 15)
-unfolding if_then_else_
-frn-of true = (omega arith, omega arith)
-frn-of false = (omega arith, omega arith)
-
-pub frn-few : (i : ℕ) {f : ℕ} → f ≡ timeFrn i → (1 ≤ f) × (f ≤ 15)
-frn-few i e = (omega (arith, e, frn-of (eqb i 0) .0), omega (arith, e, frn-of (eqb i 0) .1))
-
-pub not-018 : (i : ℕ) (t : Bool) → (i ≡ 1 → ⊥) → false ≡ eqb i 1 && t
-not-018 i t h = rw (ne-eqb i 1 h)
-
 module _ (i : ℕ) (bs : List ℕ) where
   -- ---- flags end to end
 
@@ -105,7 +104,7 @@ module _ (i : ℕ) (bs : List ℕ) where
   end-least (false ∷ ts) f at = end-least ts (f + 1) at
   end-least (true ∷ ts) f at = omega (arith, end-least ts (f + 1) (at + octetsAt i f (getD bs at 0)))
 
-  pub end-most : Octets bs → (ts : List Bool) (f at : ℕ) → endFrom i ts f bs at ≤ at + 1_021 * length ts
+  pub end-most : Octets bs → (ts : List Bool) (f at : ℕ) → endFrom i ts f bs at ≤ at + 65_026 * length ts
   unfolding endFrom
   end-most o [] f at = omega arith
   end-most o (false ∷ ts) f at = omega (arith, end-most o ts (f + 1) at)
@@ -185,7 +184,7 @@ module _ (i : ℕ) (bs : List ℕ) where
   ended left at z = ap (λ x. endFrom i (flags 63 x) 1 bs at) z ∙ end-none 63 1 at
 
   -- a place that the items pass lies before their end, which is not far
-  pub end-far : Octets bs → (bits at : ℕ) → endOf i bits bs at ≤ at + 64_323
+  pub end-far : Octets bs → (bits at : ℕ) → endOf i bits bs at ≤ at + 4_096_638
   unfolding endOf
   end-far o bits at = omega (arith, end-most o (flags 63 bits) 1 at, flags-length 63 bits)
 
@@ -206,40 +205,11 @@ module _ (i : ℕ) (bs : List ℕ) where
       pub stand-next : (f : ℕ) → Next left at f → {n : ℕ} → n ≡ octetsAt i f (getD bs at 0) → Standing bits from (left - 2 ^ (63 - f)) (at + n)
       stand-next f x e = record { below = omega (arith, s .below); same = ap (λ n. endOf i (left - 2 ^ (63 - f)) bs (at + n)) e ∙ sym (x .on) ∙ s .same }
 
-      pub stand-near : Octets bs → at ≤ from + 64_323
+      pub stand-near : Octets bs → at ≤ from + 4_096_638
       stand-near o = omega (arith, end-past left at, s .same, end-far o bits from)
 
       pub stand-end : left ≡ 0 → at ≡ endOf i bits bs from
       stand-end z = sym (ended left at z) ∙ s .same
-
-  -- ---- FRN 1 to 3
-
-  three-at : allBelow profileCount (λ j. isFixed j 1 && (isFixed j 2 && (isFixed j 3 && eqb (octetsAt j 1 0 + octetsAt j 2 0 + octetsAt j 3 0) 5))) ≡ true
-  unfolding octetsAt if_then_else_ groupAt layoutAt placeRowAt groups layouts categories
-  three-at = refl
-
-  first-three : i < profileCount → (x y z : ℕ) → octetsAt i 1 x + octetsAt i 2 y + octetsAt i 3 z ≡ 5
-  first-three h x y z =
-      let a : Bool = isFixed i 1 in
-      let b : Bool = isFixed i 2 in
-      let c : Bool = isFixed i 3 in
-      let d : Bool = eqb (octetsAt i 1 0 + octetsAt i 2 0 + octetsAt i 3 0) 5 in
-      let t : a && (b && (c && d)) ≡ true = all-below profileCount (λ j. isFixed j 1 && (isFixed j 2 && (isFixed j 3 && eqb (octetsAt j 1 0 + octetsAt j 2 0 + octetsAt j 3 0) 5))) i three-at h in
-      let u : b && (c && d) ≡ true = both-right a (b && (c && d)) t in
-      let v : c && d ≡ true = both-right b (c && d) u in
-      omega
-      (arith, octets-fixed i 1 x (both-left a (b && (c && d)) t), octets-fixed i 2 y (both-left b (c && d) u), octets-fixed i 3 z (both-left c d v), eqb-true (octetsAt i 1 0 + octetsAt i 2 0 + octetsAt i 3 0) 5 (both-right c d v))
-
-  pub end-three : i < profileCount → (bits at : ℕ) → bits / 2 ^ 60 ≡ 7 → endOf i (bits % 2 ^ 60) bs (at + 5) ≡ endOf i bits bs at
-  unfolding endOf endFrom flags
-  end-three h bits at b =
-      let to : ℕ = at + octetsAt i 1 (getD bs at 0) in
-      let on : ℕ = to + octetsAt i 2 (getD bs to 0) in
-      let e : at + 5 ≡ on + octetsAt i 3 (getD bs on 0) = omega (arith, first-three h (getD bs at 0) (getD bs to 0) (getD bs on 0)) in
-      end-blank 3 60 (bits % 2 ^ 60) 1 (at + 5) (mod-lt bits (pow-pos 60))
-      ∙ ap (endFrom i (flags 60 (bits % 2 ^ 60)) 4 bs) e
-      ∙ ap (λ x. endFrom i (flags 60 (bits % 2 ^ 60)) 4 bs (endFrom i (flags 3 x) 1 bs at)) (sym b)
-      ∙ sym (end-split 3 60 bits 1 at (omega arith))
 
   -- ---- the items before an FRN, and from it on
 
@@ -278,10 +248,13 @@ module _ (i : ℕ) (bs : List ℕ) where
 
   -- ---- what is measured, by cases
 
-  pub untimed-is : (bits used : ℕ) {early start x : ℕ} → i ≡ 1 → early ≡ bits / 2 ^ (64 - 3) * 2 ^ (64 - 3) → start ≡ endOf i early bs used
-      → x ≡ getD bs start 0 → eqb x 64 ≡ isUntimed i (getD bs (startOf i 3 bits bs used) 0)
+  pub untimed-is : (bits used f : ℕ) {n early start x : ℕ} → n ≡ profileRowAt i .untimed → f ≡ typeFrn i → early ≡ bits / 2 ^ (64 - f) * 2 ^ (64 - f)
+      → start ≡ endOf i early bs used → x ≡ getD bs start 0 → eqb (x + 1) n ≡ isUntimed i (getD bs (startOf i (typeFrn i) bits bs used) 0)
   unfolding startOf
-  untimed-is bits used h a b d = rw (eq-eqb i 1 h) (ap (λ x. eqb x 64) (d ∙ ap (λ x. getD bs x 0) (b ∙ ap (λ x. endOf i x bs used) a)))
+  untimed-is bits used f en ef a b d =
+      untimed-told i en _
+      ∙ ap (isUntimed i)
+      (d ∙ ap (λ x. getD bs x 0) (b ∙ ap (λ x. endOf i x bs used) a ∙ ap (λ f. endOf i (bits / 2 ^ (64 - f) * 2 ^ (64 - f)) bs used) ef))
 
   module _ (bits used : ℕ) {n : ℕ} (e : n ≡ endOf i bits bs used) where
     pub measure-past : length bs < n → sized 0 none ≡ measureBy i bs (ok (bits, used))
@@ -296,7 +269,7 @@ module _ (i : ℕ) (bs : List ℕ) where
     unfolding timeIn
     time-absent z = if-false _ (ap (λ x. isIn x bits) (sym ef) ∙ ne-eqb (bits / 2 ^ (63 - f) % 2) 1 z) refl
 
-    module _ (z : bits / 2 ^ (63 - f) % 2 ≡ 1) {u : Bool} (eu : u ≡ isUntimed i (getD bs (startOf i 3 bits bs used) 0)) where
+    module _ (z : bits / 2 ^ (63 - f) % 2 ≡ 1) {u : Bool} (eu : u ≡ isUntimed i (getD bs (startOf i (typeFrn i) bits bs used) 0)) where
       timed-in : isIn (timeFrn i) bits ≡ true
       timed-in = ap (λ x. isIn x bits) (sym ef) ∙ eq-eqb (bits / 2 ^ (63 - f) % 2) 1 z
 
@@ -309,13 +282,13 @@ module _ (i : ℕ) (bs : List ℕ) where
       time-there y q = ap (clockAt bs) (q ∙ ap (λ x. startOf i x bits bs used) ef) ∙ sym (if-true _ timed-in (if-false _ (sym eu ∙ y) refl))
 
   -- the items before the time's, and those from it on
-  module _ (bits used : ℕ) {f early start : ℕ} (ef : f ≡ timeFrn i) (ee : early ≡ bits / 2 ^ (64 - f) * 2 ^ (64 - f)) (es : start ≡ endOf i early bs used) where
+  module _ (bits used f : ℕ) {early start : ℕ} (ee : early ≡ bits / 2 ^ (64 - f) * 2 ^ (64 - f)) (es : start ≡ endOf i early bs used) where
     pub starts : start ≡ startOf i f bits bs used
     unfolding startOf
     starts = es ∙ ap (λ x. endOf i x bs used) ee
 
-    pub ends : bits < 2 ^ 63 → {end : ℕ} → end ≡ endOf i (bits - early) bs start → end ≡ endOf i bits bs used
-    ends b en = en ∙ ap₂ (λ x y. endOf i (bits - x) bs y) ee starts ∙ end-from f bits used b (frn-few i ef .0) (omega (arith, frn-few i ef .1))
+    pub ends : bits < 2 ^ 63 → 1 ≤ f → f ≤ 63 → {end : ℕ} → end ≡ endOf i (bits - early) bs start → end ≡ endOf i bits bs used
+    ends b one few en = en ∙ ap₂ (λ x y. endOf i (bits - x) bs y) ee starts ∙ end-from f bits used b one few
 
 -- by the set that was read
 module _ (cat : ℕ) (bs : List ℕ) {i : ℕ} (s : SetRead) (ei : i ≡ profileIn cat categories) (es : setOf s ≡ setAt i bs) where

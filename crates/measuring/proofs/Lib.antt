@@ -1,3 +1,4 @@
+pub mod CategoryLaws
 pub mod EndLaws
 pub mod SizeLaws
 pub mod MeasureLaws

@@ -19,16 +19,18 @@ use Rattle.rules.proofs.AnswerLaws.{if-true, if-false, both-left, both-right}
 use Rattle.rules.specs.Catalogue.{categories}
 use Rattle.items.specs.Answers.{profileIn}
 use Rattle.sets.specs.Sets.{categoryAt, setAt}
-use Rattle.sets.specs.Steps.{setFrom}
+use Rattle.sets.specs.Steps.{setFrom, typeFrn}
 use Rattle.sets.proofs.SetLaws.{octets-all}
 use Rattle.quick_items.specs.Item.{allBelow, octetsBy, isPlace, rowOf, octetsAt}
 use Rattle.tables.specs.Tables.{groupAt}
+use Rattle.tables.specs.Profiles.{profileRowAt}
 use Rattle.quick_items.proofs.ItemLaws.{all-below}
 use Rattle.quick_records.specs.Shape.{shapeCount, lowNumber, lowOctets, usedOf, profileOf}
 use Rattle.quick_records.proofs.ShapeLaws.{cut-same, fspec-told}
 use Rattle.measuring.specs.Measure.{endFrom, endOf, startOf, timeFrn, isIn, isUntimed, clockAt, timeIn, sized, measureBy, measureIn, measureOf}
 use Rattle.measuring.specs.declared.record.Measured.{Measured}
-use Rattle.measuring.specs.Shape.{isFixed, partOctets, isEven, baseFrom, allFixed, oneList, flagsBefore, startsAt, timeAt, timeOf, baseOf, placeOf, partOf, rowBy, soundRow, soundShapes, Told}
+use Rattle.measuring.specs.Shape.{isFixed, partOctets, isEven, baseFrom, allFixed, oneList, flagsBefore, startsAt, timeAt, untimedOf, kindOf, timeOf, baseOf, placeOf, partOf, rowBy, soundRow, soundShapes, Told}
+use Rattle.measuring.proofs.CategoryLaws.{untimed-told}
 use Rattle.measuring.proofs.EndLaws.{octets-fixed}
 
 -- ---- an item, by its first octet
@@ -126,41 +128,43 @@ starts-at i f bits used at bs h =
     let b : Bool = eqb (used + baseFrom i (flagsBefore f bits) 1) at in
     all-fixed i (flagsBefore f bits) 1 bs used (both-left a b h) ∙ eqb-true _ _ (both-right a b h)
 
--- by the place of the time, 0 where there is none, and that of the message type
+-- by the places of the time, 0 where there is none, and of the message type, and one more than the untimed type
 abbrev pub timeBy : ℕ → ℕ → ℕ → List ℕ → Option ℕ
-timeBy i at kind bs = if eqb at 0 then none else if isUntimed i (getD bs kind 0) then none else clockAt bs at
+timeBy at kind untimed bs = if eqb at 0 then none else if eqb (getD bs kind 0 + 1) untimed then none else clockAt bs at
 
-time-at : (i bits used at : ℕ) (bs : List ℕ) → timeAt i bits used at ≡ true → timeIn i bits bs used ≡ timeBy i at (used + 4) bs
+time-at : (i bits used at kind untimed : ℕ) (bs : List ℕ) → timeAt i bits used at kind untimed ≡ true → timeIn i bits bs used ≡ timeBy at kind untimed bs
 unfolding timeIn
-time-at i bits used at bs h = go (isIn (timeFrn i) bits) h
+time-at i bits used at kind untimed bs h = go (isIn (timeFrn i) bits) h
   where
-    go : (t : Bool) → cond t (ltb 0 at && startsAt i 3 bits used (used + 4) && startsAt i (timeFrn i) bits used at) (eqb at 0) ≡ true
-        → (if t then if isUntimed i (getD bs (startOf i 3 bits bs used) 0) then none else clockAt bs (startOf i (timeFrn i) bits bs used) else none) ≡ timeBy i at (used + 4) bs
+    go : (t : Bool)
+        → cond t (ltb 0 at && startsAt i (timeFrn i) bits used at && startsAt i (typeFrn i) bits used kind && eqb untimed (profileRowAt i .untimed)) (eqb at 0) ≡ true
+        → (if t then if isUntimed i (getD bs (startOf i (typeFrn i) bits bs used) 0) then none else clockAt bs (startOf i (timeFrn i) bits bs used) else none)
+        ≡ timeBy at kind untimed bs
     go false e = if-false _ refl (sym (if-true _ e refl))
     go true e =
         let a : Bool = ltb 0 at in
-        let b : Bool = startsAt i 3 bits used (used + 4) in
-        let c : Bool = startsAt i (timeFrn i) bits used at in
-        let e₁ : a && b ≡ true = both-left (a && b) c e in
-        let some : at ≡ 0 → ⊥ = λ z. omega (arith, z, ltb-true 0 at (both-left a b e₁)) in
+        let b : Bool = startsAt i (timeFrn i) bits used at in
+        let c : Bool = startsAt i (typeFrn i) bits used kind in
+        let d : Bool = eqb untimed (profileRowAt i .untimed) in
+        let e₁ : a && b && c ≡ true = both-left (a && b && c) d e in
+        let e₂ : a && b ≡ true = both-left (a && b) c e₁ in
+        let some : at ≡ 0 → ⊥ = λ z. omega (arith, z, ltb-true 0 at (both-left a b e₂)) in
         if-true _ refl
-        (ap₂ (λ x y. if isUntimed i (getD bs x 0) then none else clockAt bs y) (starts-at i 3 bits used (used + 4) bs (both-right a b e₁))
-        (starts-at i (timeFrn i) bits used at bs (both-right (a && b) c e))
+        (ap₂ (λ x y. if isUntimed i (getD bs x 0) then none else clockAt bs y) (starts-at i (typeFrn i) bits used kind bs (both-right (a && b) c e₁))
+        (starts-at i (timeFrn i) bits used at bs (both-right a b e₂))
+        ∙ ap (λ u. if u then none else clockAt bs at) (sym (untimed-told i (eqb-true _ _ (both-right (a && b && c) d e)) (getD bs kind 0)))
         ∙ sym (if-false _ (ne-eqb at 0 some) refl))
 
-pub kind-is : (i k : ℕ) → i ≡ 1 → eqb k 64 ≡ isUntimed i k
-kind-is i k e = rw e
-
 -- as the code finds it
-module _ (i at kind : ℕ) (bs : List ℕ) where
-  pub time-none : at ≡ 0 → timeBy i at kind bs ≡ none
+module _ (at kind untimed : ℕ) (bs : List ℕ) where
+  pub time-none : at ≡ 0 → timeBy at kind untimed bs ≡ none
   time-none e = if-true _ (eq-eqb at 0 e) refl
 
-  pub time-untimed : {t : Bool} {k : ℕ} → (at ≡ 0 → ⊥) → k ≡ getD bs kind 0 → t ≡ isUntimed i k → t ≡ true → timeBy i at kind bs ≡ none
-  time-untimed z ek et e = if-false _ (ne-eqb at 0 z) (if-true _ (ap (isUntimed i) (sym ek) ∙ sym et ∙ e) refl)
+  pub time-untimed : {k : ℕ} → (at ≡ 0 → ⊥) → k ≡ getD bs kind 0 → k + 1 ≡ untimed → timeBy at kind untimed bs ≡ none
+  time-untimed z ek e = if-false _ (ne-eqb at 0 z) (if-true _ (ap (λ k. eqb (k + 1) untimed) (sym ek) ∙ eq-eqb _ _ e) refl)
 
-  pub time-clock : {t : Bool} {k : ℕ} → (at ≡ 0 → ⊥) → k ≡ getD bs kind 0 → t ≡ isUntimed i k → t ≡ false → timeBy i at kind bs ≡ clockAt bs at
-  time-clock z ek et e = if-false _ (ne-eqb at 0 z) (if-false _ (ap (isUntimed i) (sym ek) ∙ sym et ∙ e) refl)
+  pub time-clock : {k : ℕ} → (at ≡ 0 → ⊥) → k ≡ getD bs kind 0 → (k + 1 ≡ untimed → ⊥) → timeBy at kind untimed bs ≡ clockAt bs at
+  time-clock z ek e = if-false _ (ne-eqb at 0 z) (if-false _ (ap (λ k. eqb (k + 1) untimed) (sym ek) ∙ ne-eqb _ _ e) refl)
 
 -- ---- a record
 
@@ -207,21 +211,18 @@ module _ (t : List ℕ) (s : soundShapes t ≡ true) (k a b : ℕ) (l : k < shap
   -- octets that start with the shape's FSPEC, of its profile
   pub shape-told : (i word x : ℕ) (t : Option ℕ) (bs : List ℕ) (r : Measured) → ((j : ℕ) → Fits w8 (getD bs j 0)) → profileOf a ≡ i → 5 ≤ length bs
       → word ≡ lowNumber 5 bs → word * 2 ^ (64 - 8 * usedOf a) % 2 ^ 64 ≡ a * 2 ^ (64 - 8 * usedOf a) % 2 ^ 64
-      → x ≡ getD bs (placeOf b) 0 → baseOf b + x * partOf b ≤ length bs → timeBy i (timeOf b) (usedOf a + 4) bs ≡ t → r ≡ sized (baseOf b + x * partOf b) t → Told r i bs
+      → x ≡ getD bs (placeOf b) 0 → baseOf b + x * partOf b ≤ length bs → timeBy (timeOf b) (kindOf b) (untimedOf b) bs ≡ t → r ≡ sized (baseOf b + x * partOf b) t → Told r i bs
   unfolding soundRow endOf
   shape-told i word x t bs r known ep long ew ec ex fits et er z =
-      subst (λ j. timeBy j (timeOf b) (usedOf a + 4) bs ≡ t → measureIn j bs ≡ sized (baseOf b + x * partOf b) t) ep
-      (go read refl (both-right within (rowBy (profileOf a) a b read) row)) et
-      ∙ sym er
+      subst (λ j. measureIn j bs ≡ sized (baseOf b + x * partOf b) t) ep (go read refl (both-right within (rowBy (profileOf a) a b read) row)) ∙ sym er
     where
-      go : (r : Answer (ℕ × ℕ)) → read ≡ r → rowBy (profileOf a) a b r ≡ true → timeBy (profileOf a) (timeOf b) (usedOf a + 4) bs ≡ t
-          → measureIn (profileOf a) bs ≡ sized (baseOf b + x * partOf b) t
-      go (refused n p) e y g = absurd (false≢true y)
-      go (ok (bits, used)) e y g =
+      go : (r : Answer (ℕ × ℕ)) → read ≡ r → rowBy (profileOf a) a b r ≡ true → measureIn (profileOf a) bs ≡ sized (baseOf b + x * partOf b) t
+      go (refused n p) e y = absurd (false≢true y)
+      go (ok (bits, used)) e y =
           let ts : List Bool = flags 63 bits in
           let j : ℕ = profileOf a in
           let p : Bool = eqb used (usedOf a) in
-          let q : Bool = timeAt j bits used (timeOf b) in
+          let q : Bool = timeAt j bits used (timeOf b) (kindOf b) (untimedOf b) in
           let r : Bool = eqb (baseOf b) (used + baseFrom j ts 1) in
           let u : Bool = oneList j (placeOf b) (partOf b) ts 1 used in
           let y₁ : p && q && r ≡ true = both-left (p && q && r) u y in
@@ -231,6 +232,5 @@ module _ (t : List ℕ) (s : soundShapes t ≡ true) (k a b : ℕ) (l : k < shap
           let ends : endFrom j ts 1 bs used ≡ baseOf b + x * partOf b =
           one-list j (placeOf b) (partOf b) ts 1 bs used (both-right (p && q && r) u y)
           ∙ ap₂ (λ m n. m + n * partOf b) (sym (eqb-true _ _ (both-right (p && q) r y₁))) (sym ex) in
-          let time : timeIn j bits bs used ≡ t =
-          time-at j bits used (timeOf b) bs (both-right p q y₂) ∙ ap (λ k. timeBy j (timeOf b) (k + 4) bs) (eqb-true used (usedOf a) (both-left p q y₂)) ∙ g in
+          let time : timeIn j bits bs used ≡ t = time-at j bits used (timeOf b) (kindOf b) (untimedOf b) bs (both-right p q y₂) ∙ et in
           measured j bits used (baseOf b + x * partOf b) t bs set-is ends time fits

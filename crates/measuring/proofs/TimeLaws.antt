@@ -1,9 +1,9 @@
 -- What is measured of a record that is legal is its length and its time, as the rules have them (document 02, W-201).
 --
--- In order: the categories; octets that lie in others; an item of one number; a record that was read; its time; its length; the theorem. Assumes nothing.
-use Prim.Native.Nat.{ℕ, suc, _+_, _*_, _≤_, _<_}
+-- In order: octets that lie in others; an item of one number; a record that was read; its time; its length; the theorem. Assumes nothing.
+use Prim.Native.Nat.{ℕ, _+_, _*_, _^_, _≤_, _<_}
 use mathlib.Core.Path.{_≡_, refl, sym, ap, ap₂, _∙_, subst}
-use mathlib.Core.Bool.{Bool, true, false, _||_}
+use mathlib.Core.Bool.{Bool, true, false}
 use mathlib.Core.Logic.{⊎-elim}
 use mathlib.Core.Option.{Option, none, some}
 use mathlib.Core.List.{List, [], _∷_, _++_}
@@ -14,67 +14,33 @@ use lib.ListN.{length, getD, drop, length-append, List·getD-append}
 use lib.Seq.{getD-append-add}
 use lib.IntN.{pos}
 use borrow.Author.Tests.{le-leb}
-use Rattle.rules.specs.Answer.{ok, _>>=_, if_then_else_, later, octetsOf}
-use Rattle.rules.specs.Field.{value, unsigned}
-use Rattle.rules.specs.Layout.{Layout, Values, flatten, item, joined, writeItem}
+use Rattle.rules.specs.Answer.{ok, if_then_else_, octetsOf}
+use Rattle.rules.specs.Layout.{Values, flatten, joined}
 use Rattle.rules.specs.Presence.{has}
 use Rattle.rules.specs.Record.{Category, Place, Record, places, items, valueOf, typeOf, judge, writePlace, writeRecord, readRecord}
 use Rattle.rules.specs.Block.{categoryOf}
-use Rattle.rules.specs.Category017.{category017}
-use Rattle.rules.specs.Category018.{category018}
 use Rattle.rules.specs.Catalogue.{categories}
 use Rattle.rules.specs.Entry.{RecordMap, Laid, layoutAs, laid, laidAs, laidItems, mapOf}
 use Rattle.rules.specs.Entry as entry
 use Rattle.rules.specs.Merge.{numberIn, isOneOf, recordTime}
-use Rattle.rules.proofs.AnswerLaws.{refused-ok, bind-in, bind-elim, if-inv, if-true, if-false, some-inj, none-some, later-in, octetsOf-ok, Octets, Split}
-use Rattle.rules.proofs.Tables.{distinct, tables-hold, sound-of}
+use Rattle.rules.proofs.AnswerLaws.{refused-ok, bind-in, bind-elim, if-inv, if-true, some-inj, none-some, later-in, octetsOf-ok, Octets, Split}
+use Rattle.rules.proofs.Tables.{distinct}
 use Rattle.rules.proofs.RecordLaws.{record-laws}
 use Rattle.rules.proofs.EntryLaws.{Lies, lies-second, itemOctets, RecordWritten, record-written, ItemFound, item-found, indexAs, start-found, start-absent}
-use Rattle.rules.proofs.NumberLaws.{IsNumber, number-item}
+use Rattle.rules.proofs.NumberLaws.{IsNumber}
 use Rattle.rules.proofs.Demands.{map-start}
+use Rattle.tables.specs.Places.{frnAs}
+use Rattle.tables.specs.Profiles.{orNone, frnIn}
 use Rattle.items.specs.Answers.{profileIn}
+use Rattle.items.proofs.PlaceLaws.{missed}
 use Rattle.sets.specs.Sets.{categoryAt}
+use Rattle.sets.specs.Steps.{typeFrn}
+use Rattle.sets.proofs.ProfileLaws.{places-few, places-distinct}
+use Rattle.sets.proofs.UsableLaws.{set-bounds}
 use Rattle.records.specs.Answers.{recordAt}
 use Rattle.measuring.specs.Measure.{endOf, startOf, timeFrn, isIn, isUntimed, clockAt, timeIn, sized, measureBy, measureIn, measureOf}
-use Rattle.measuring.proofs.EndLaws.{frn-few}
+use Rattle.measuring.proofs.CategoryLaws.{isNumber, number-is, type-number, time-number, frn-index, frn-missing, category-named}
 use Rattle.measuring.proofs.MeasureLaws as laws
-
--- ---- the categories: where the time and the message type stand, and whose time is none
-
-abbrev numberOf : ℕ → ℕ → ℕ → Layout
-numberOf n w hi = item n (value w (unsigned 0 hi) ∷ [])
-
-record Row (i : ℕ) (c : Category) : Type 0 where
-  is : categoryAt i ≡ c
-  time-frn : indexAs (c .time) (places c) + 1 ≡ timeFrn i
-  type-frn : indexAs 0 (places c) + 1 ≡ 3
-  untimed : (kind : ℕ) → isUntimed i kind ≡ has kind (c .untimed)
-  time-layout : layoutAs (c .time) (places c) ≡ some (numberOf 3 24 11_059_199)
-  type-layout : layoutAs 0 (places c) ≡ some (numberOf 1 8 255)
-
-or-false : (t : Bool) → t ≡ t || false
-or-false true = refl
-or-false false = refl
-
-row-017 : Row 0 category017
-unfolding categoryAt categories if_then_else_
-row-017 = record { is = refl; time-frn = refl; type-frn = refl; untimed = λ k. refl; time-layout = refl; type-layout = refl }
-
-row-018 : Row 1 category018
-unfolding categoryAt categories if_then_else_
-row-018 = record { is = refl; time-frn = refl; type-frn = refl; untimed = λ k. or-false (eqb k 64); time-layout = refl; type-layout = refl }
-
-row : (cat : ℕ) (c : Category) → categoryOf cat categories ≡ some c → Row (profileIn cat categories) c
-unfolding categoryOf profileIn categories
-row cat c h =
-    ⊎-elim
-    (λ (e, g). subst (λ i. Row i c) (sym (if-true _ e refl)) (subst (Row 0) (some-inj g) row-017))
-    (λ (e, g).
-    ⊎-elim
-    (λ (e₁, g₁). subst (λ i. Row i c) (sym (if-false _ e (ap suc (if-true _ e₁ refl)))) (subst (Row 1) (some-inj g₁) row-018))
-    (λ (e₁, g₁). none-some g₁)
-    (if-inv (eqb cat (category018 .cat)) (some category018) none g))
-    (if-inv (eqb cat (category017 .cat)) (some category017) (if eqb cat (category018 .cat) then some category018 else none) h)
 
 -- ---- octets that lie in others
 
@@ -153,8 +119,10 @@ same-time bs t s (some v) (there u z l n) false =
 
 -- ---- a record that was read, with one octet before it: there no start is 0
 
-module _ (i : ℕ) (c : Category) (bs : List ℕ) (r : Record) (rest : List ℕ) (the : Row i c) (once : distinct (places c) ≡ true) (few : length (places c) ≤ 35)
-    (o : Octets bs) (short : 1 + length bs < 65_536) (reads : readRecord c bs ≡ ok (r, rest)) where
+module _ (i : ℕ) (bs : List ℕ) (r : Record) (rest : List ℕ) (o : Octets bs) (short : 1 + length bs < 65_536) (reads : readRecord (categoryAt i) bs ≡ ok (r, rest)) where
+  abbrev c : Category
+  c = categoryAt i
+
   abbrev m : RecordMap
   m = mapOf c (record { start = 1; value = r })
 
@@ -163,7 +131,7 @@ module _ (i : ℕ) (c : Category) (bs : List ℕ) (r : Record) (rest : List ℕ)
 
   map-is : recordAt i 1 bs ≡ ok m
   unfolding recordAt
-  map-is = ap (λ d. later 1 (readRecord d bs >>= λ x. ok (mapOf d (record { start = 1; value = x .0 })))) (the .is) ∙ later-in 1 (bind-in _ reads refl)
+  map-is = later-in 1 (bind-in _ reads refl)
 
   lay : laws.Laid i 1 bs o short m
   lay = laws.laid i 1 bs o short m map-is
@@ -180,53 +148,68 @@ module _ (i : ℕ) (c : Category) (bs : List ℕ) (r : Record) (rest : List ℕ)
       (lies-second (written .fspec) (itemOctets (places c) (flatten r))
       (record { before = 0 ∷ []; after = rest; joins = ap (λ l. 0 ∷ l) (split .joins ∙ ap (λ l. l ++ rest) (written .joins)); starts = refl }))
 
-  seen : (ref n w hi : ℕ) → layoutAs ref (places c) ≡ some (numberOf n w hi) → indexAs ref (places c) < 35
-      → Seen bs (isIn (indexAs ref (places c) + 1) (lay .bits)) (start (indexAs ref (places c) + 1)) n (valueOf ref (items c r))
-  seen ref n w hi layout low = by (valueOf ref (items c r)) refl
+  once : distinct (places c) ≡ true
+  once = places-distinct i
+
+  low : lay .bits < 2 ^ 63
+  low = set-bounds i bs (lay .bits) (lay .used) (lay .set-is) .0
+
+  seen : (ref n : ℕ) → isNumber n (layoutAs ref (places c)) ≡ true
+      → Seen bs (isIn (frnIn ref c) (lay .bits)) (start (frnIn ref c)) n (valueOf ref (items c r))
+  seen ref n number = by (valueOf ref (items c r)) refl (frnAs ref 1 (places c)) refl
     where
       g : ℕ
       g = indexAs ref (places c)
 
       at : getD (m .starts) g 0 ≡ entry.startOf (getD (laidItems c 1 r) g none)
-      at = map-start c (record { start = 1; value = r }) g few
+      at = map-start c (record { start = 1; value = r }) g (places-few i)
 
-      by : (x : Option Values) → valueOf ref (items c r) ≡ x → Seen bs (isIn (g + 1) (lay .bits)) (start (g + 1)) n x
-      by none e = absent (go (isIn (g + 1) (lay .bits)) refl)
+      found : (v : Values) → valueOf ref (items c r) ≡ some v → ItemFound (places c) (flatten r) ref (1 + length r) (0 ∷ bs) v
+      found v e = item-found (places c) (flatten r) ref (1 + length r) (0 ∷ bs) v (written .each) once items-lie e
+
+      -- at an FRN that is one more than the index
+      here : (f : ℕ) → f ≡ g + 1 → g < 35 → (x : Option Values) → valueOf ref (items c r) ≡ x → (t : Bool) → isIn f (lay .bits) ≡ t → Seen bs t (start f) n x
+      here f ef few none e true z =
+          absurd (omega (arith, lay .there g few (ap (λ y. isIn y (lay .bits)) (sym ef) ∙ z), at ∙ start-absent (places c) (flatten r) ref (1 + length r) e))
+      here f ef few none e false z = absent refl
+      here f ef few (some v) e true z = go (found v e)
         where
-          go : (t : Bool) → isIn (g + 1) (lay .bits) ≡ t → isIn (g + 1) (lay .bits) ≡ false
-          go true z = absurd (omega (arith, lay .there g low z, at ∙ start-absent (places c) (flatten r) ref (1 + length r) e))
-          go false z = z
-      by (some v) e =
-          let f : ItemFound (places c) (flatten r) ref (1 + length r) (0 ∷ bs) v =
-          item-found (places c) (flatten r) ref (1 + length r) (0 ∷ bs) v (written .each) once items-lie e in
-          let k : IsNumber n v (f .out) = number-item n w 0 hi v (f .out) (ap (λ y. writeItem y v) (some-inj (sym layout ∙ f .is-layout)) ∙ f .writes) in
-          let s : getD (m .starts) g 0 ≡ f .item .start = at ∙ start-found (places c) (flatten r) ref (1 + length r) (f .item) once (f .is-laid) in
-          go f k s (isIn (g + 1) (lay .bits)) refl
+          go : ItemFound (places c) (flatten r) ref (1 + length r) (0 ∷ bs) v → Seen bs true (start f) n (some v)
+          go it =
+              let k : IsNumber n v (it .out) = number-is n (it .layout) v (it .out) (ap (isNumber n) (sym (it .is-layout)) ∙ number) (it .writes) in
+              let s : getD (m .starts) g 0 ≡ it .item .start = at ∙ start-found (places c) (flatten r) ref (1 + length r) (it .item) once (it .is-laid) in
+              let p : it .item .start ≡ 1 + start f = sym s ∙ lay .there g few (ap (λ y. isIn y (lay .bits)) (sym ef) ∙ z) ∙ ap (λ y. 1 + start y) (sym ef) in
+              subst (λ x. Seen bs true (start f) n (some x)) (sym (k .value-is)) (there (it .out) refl (lies-on (subst (λ x. Lies (0 ∷ bs) x (it .out)) p (it .lies))) (k .size))
+      here f ef few (some v) e false z = go (found v e)
         where
-          go : (f : ItemFound (places c) (flatten r) ref (1 + length r) (0 ∷ bs) v) → IsNumber n v (f .out) → getD (m .starts) g 0 ≡ f .item .start
-              → (t : Bool) → isIn (g + 1) (lay .bits) ≡ t → Seen bs (isIn (g + 1) (lay .bits)) (start (g + 1)) n (some v)
-          go f k s true z =
-              subst (λ x. Seen bs (isIn (g + 1) (lay .bits)) (start (g + 1)) n (some x)) (sym (k .value-is))
-              (there (f .out) z (lies-on (subst (λ x. Lies (0 ∷ bs) x (f .out)) (sym s ∙ lay .there g low z) (f .lies))) (k .size))
-          go f k s false z = absurd (omega (arith, s, lay .absent g low z, laid-low ref (1 + length r) (places c) (flatten r) (f .item) (f .is-laid)))
+          go : ItemFound (places c) (flatten r) ref (1 + length r) (0 ∷ bs) v → Seen bs false (start f) n (some v)
+          go it =
+              let s : getD (m .starts) g 0 ≡ it .item .start = at ∙ start-found (places c) (flatten r) ref (1 + length r) (it .item) once (it .is-laid) in
+              absurd
+              (omega
+              (arith, s, lay .absent g few (ap (λ y. isIn y (lay .bits)) (sym ef) ∙ z), laid-low ref (1 + length r) (places c) (flatten r) (it .item) (it .is-laid)))
+
+      by : (x : Option Values) → valueOf ref (items c r) ≡ x → (q : Option ℕ) → frnAs ref 1 (places c) ≡ q
+          → Seen bs (isIn (orNone q) (lay .bits)) (start (orNone q)) n x
+      by none e none d = absent (frn-missing (lay .bits) low)
+      by (some v) e none d = none-some (sym (missed ref 1 (places c) d .layout) ∙ found v e .is-layout)
+      by x e (some f) d =
+          let k = frn-index ref 1 (places c) f d in
+          here f (omega (arith, k .0)) (omega (arith, k .1, places-few i)) x e (isIn f (lay .bits)) refl
 
   -- ---- its time
 
-  time-low : timeFrn i ≤ 15
-  time-low = frn-few i refl .1
-
-  type-seen : Seen bs (isIn 3 (lay .bits)) (start 3) 1 (valueOf 0 (items c r))
-  type-seen =
-      subst (λ f. Seen bs (isIn f (lay .bits)) (start f) 1 (valueOf 0 (items c r))) (the .type-frn)
-      (seen 0 1 8 255 (the .type-layout) (omega (arith, the .type-frn)))
+  type-seen : Seen bs (isIn (typeFrn i) (lay .bits)) (start (typeFrn i)) 1 (valueOf 0 (items c r))
+  unfolding typeFrn
+  type-seen = seen 0 1 (type-number i)
 
   time-seen : Seen bs (isIn (timeFrn i) (lay .bits)) (start (timeFrn i)) 3 (valueOf (c .time) (items c r))
-  time-seen =
-      subst (λ f. Seen bs (isIn f (lay .bits)) (start f) 3 (valueOf (c .time) (items c r))) (the .time-frn)
-      (seen (c .time) 3 24 11_059_199 (the .time-layout) (omega (arith, the .time-frn, time-low)))
+  time-seen = seen (c .time) 3 (time-number i)
 
-  type-known : (kind : ℕ) → typeOf (valueOf 0 (items c r)) ≡ ok kind → isUntimed i (getD bs (start 3) 0) ≡ isOneOf (typeOf (valueOf 0 (items c r))) (c .untimed)
-  type-known kind e = same-type bs (isIn 3 (lay .bits)) (start 3) kind (valueOf 0 (items c r)) type-seen e (isUntimed i) (c .untimed) (the .untimed)
+  type-known : (kind : ℕ) → typeOf (valueOf 0 (items c r)) ≡ ok kind
+      → isUntimed i (getD bs (start (typeFrn i)) 0) ≡ isOneOf (typeOf (valueOf 0 (items c r))) (c .untimed)
+  type-known kind e =
+      same-type bs (isIn (typeFrn i) (lay .bits)) (start (typeFrn i)) kind (valueOf 0 (items c r)) type-seen e (isUntimed i) (c .untimed) (λ k. refl)
 
   time-is : timeIn i (lay .bits) bs (lay .used) ≡ recordTime c r
   unfolding timeIn recordTime writeRecord judge
@@ -257,6 +240,6 @@ module _ (i : ℕ) (c : Category) (bs : List ℕ) (r : Record) (rest : List ℕ)
 pub measure-is : (cat : ℕ) (c : Category) → categoryOf cat categories ≡ some c → (bs : List ℕ) (r : Record) (rest : List ℕ) → Octets bs → length bs < 65_533
     → readRecord c bs ≡ ok (r, rest) → measureOf cat bs ≡ sized (length (octetsOf (writeRecord c r))) (recordTime c r)
 unfolding measureOf
-measure-is cat c named bs r rest o short reads =
-    measures (profileIn cat categories) c bs r rest (row cat c named) (sound-of categories tables-hold cat c named .references)
-    (sound-of categories tables-hold cat c named .few) o (omega arith) reads
+measure-is cat c named bs r rest o short =
+    subst (λ d. readRecord d bs ≡ ok (r, rest) → measureIn (profileIn cat categories) bs ≡ sized (length (octetsOf (writeRecord d r))) (recordTime d r))
+    (category-named cat c named) (measures (profileIn cat categories) bs r rest o (omega arith))

@@ -3,16 +3,18 @@
 --
 -- In order: the items of a set; the time; a record.
 use Prim.Native.Nat.{ℕ, _+_, _-_, _*_, _/_, _%_, _^_}
-use mathlib.Core.Bool.{Bool, true, false, _&&_}
+use mathlib.Core.Bool.{Bool, true, false}
 use mathlib.Core.Option.{Option, none, some}
 use mathlib.Core.List.{List, [], _∷_}
 use lib.Dec.{eqb, leb}
 use lib.ListN.{length, getD}
 use Rattle.rules.specs.Answer.{Answer, ok, refused, if_then_else_}
-use Rattle.rules.specs.Presence.{flags}
+use Rattle.rules.specs.Presence.{flags, has}
 use Rattle.rules.specs.Catalogue.{categories}
+use Rattle.tables.specs.Profiles.{frnIn}
 use Rattle.items.specs.Answers.{profileIn}
-use Rattle.sets.specs.Sets.{setAt}
+use Rattle.sets.specs.Sets.{categoryAt, setAt}
+use Rattle.sets.specs.Steps.{typeFrn}
 use Rattle.quick_items.specs.Item.{octetsAt}
 use Rattle.measuring.specs.declared.record.Measured.{Measured}
 
@@ -32,16 +34,16 @@ startOf i f bits bs at = endOf i (bits / 2 ^ (64 - f) * 2 ^ (64 - f)) bs at
 
 -- ---- the time of a record whose set has been read
 
--- I017/140 is FRN 7, I018/002 is FRN 15
+-- the FRN of the time, 0 where the profile has none
 abbrev pub timeFrn : ℕ → ℕ
-timeFrn i = if eqb i 0 then 7 else 15
+timeFrn i = frnIn (categoryAt i .time) (categoryAt i)
 
 abbrev pub isIn : ℕ → ℕ → Bool
 isIn f bits = eqb (bits / 2 ^ (63 - f) % 2) 1
 
--- a GICB_extraction of category 018; the message type is FRN 3
+-- a message type whose records count as untimed
 abbrev pub isUntimed : ℕ → ℕ → Bool
-isUntimed i kind = eqb i 1 && eqb kind 64
+isUntimed i kind = has kind (categoryAt i .untimed)
 
 unfoldable pub clockAt : List ℕ → ℕ → Option ℕ
 clockAt bs at = if leb (at + 3) (length bs) then some (getD bs at 0 * 65_536 + getD bs (at + 1) 0 * 256 + getD bs (at + 2) 0) else none
@@ -49,7 +51,7 @@ clockAt bs at = if leb (at + 3) (length bs) then some (getD bs at 0 * 65_536 + g
 unfoldable pub timeIn : ℕ → ℕ → List ℕ → ℕ → Option ℕ
 timeIn i bits bs at =
     if isIn (timeFrn i) bits
-    then if isUntimed i (getD bs (startOf i 3 bits bs at) 0) then none else clockAt bs (startOf i (timeFrn i) bits bs at)
+    then if isUntimed i (getD bs (startOf i (typeFrn i) bits bs at) 0) then none else clockAt bs (startOf i (timeFrn i) bits bs at)
     else none
 
 -- ---- a record

@@ -1,5 +1,5 @@
--- Shapes: FSPECs that records mostly have, each with the size of a record that has it, by one octet at most, and where its time stands. A row of the table
--- says nothing that the profiles do not have. Assumes nothing.
+-- Shapes: FSPECs that records mostly have, each with the size of a record that has it, by one octet at most, where its time stands, and by which octet it
+-- counts as untimed. A row of the table says nothing that the profiles do not have. Assumes nothing.
 --
 -- In order: an item; the items of flags; the time; a row; the table; what an answer tells.
 use Prim.Native.Nat.{ℕ, _+_, _-_, _*_, _/_, _%_, _^_}
@@ -10,8 +10,9 @@ use lib.Dec.{leb, ltb, eqb}
 use lib.ListN.{length, getD}
 use Rattle.rules.specs.Answer.{Answer, ok, refused}
 use Rattle.rules.specs.Presence.{flags}
+use Rattle.tables.specs.Profiles.{profileRowAt}
 use Rattle.sets.specs.Sets.{categoryAt}
-use Rattle.sets.specs.Steps.{setFrom}
+use Rattle.sets.specs.Steps.{setFrom, typeFrn}
 use Rattle.quick_items.specs.Item.{allBelow, rowOf, octetsAt}
 use Rattle.quick_records.specs.Shape.{shapeCount, lowOctets, usedOf, profileOf}
 use Rattle.measuring.specs.Measure.{timeFrn, isIn, measureIn}
@@ -60,12 +61,22 @@ flagsBefore f bits = flags 63 (bits / 2 ^ (64 - f) * 2 ^ (64 - f))
 abbrev pub startsAt : ℕ → ℕ → ℕ → ℕ → ℕ → Bool
 startsAt i f bits used at = allFixed i (flagsBefore f bits) 1 && eqb (used + baseFrom i (flagsBefore f bits) 1) at
 
--- the time stands at a place, and the message type is the fifth octet of the items; 0 where there is no time
-abbrev pub timeAt : ℕ → ℕ → ℕ → ℕ → Bool
-timeAt i bits used at = cond (isIn (timeFrn i) bits) (ltb 0 at && startsAt i 3 bits used (used + 4) && startsAt i (timeFrn i) bits used at) (eqb at 0)
+-- the time stands at a place, 0 where there is none; where there is one, the message type stands at a place, and its untimed number is one more than the
+-- type whose records count as untimed, 0 where there is no such
+abbrev pub timeAt : ℕ → ℕ → ℕ → ℕ → ℕ → ℕ → Bool
+timeAt i bits used at kind untimed =
+    cond (isIn (timeFrn i) bits)
+    (ltb 0 at && startsAt i (timeFrn i) bits used at && startsAt i (typeFrn i) bits used kind && eqb untimed (profileRowAt i .untimed))
+    (eqb at 0)
 
--- ---- a row: the FSPEC, its octets and the profile, in the columns of the shapes of `quick_records`; where the time stands, the octets of the
--- record without the parts of its list, where the list stands, the octets of a part
+-- ---- a row: the FSPEC, its octets and the profile, in the columns of the shapes of `quick_records`; one more than the untimed message type, where the
+-- message type stands, where the time stands, the octets of the record without the parts of its list, where the list stands, the octets of a part
+
+abbrev pub untimedOf : ℕ → ℕ
+untimedOf k = k / 68_719_476_736
+
+abbrev pub kindOf : ℕ → ℕ
+kindOf k = k / 268_435_456 % 256
 
 abbrev pub timeOf : ℕ → ℕ
 timeOf k = k / 1_048_576 % 256
@@ -83,7 +94,7 @@ partOf k = k % 16
 abbrev pub rowBy : ℕ → ℕ → ℕ → Answer (ℕ × ℕ) → Bool
 rowBy i a b (refused n p) = false
 rowBy i a b (ok (bits, used)) =
-    eqb used (usedOf a) && timeAt i bits used (timeOf b) && eqb (baseOf b) (used + baseFrom i (flags 63 bits) 1)
+    eqb used (usedOf a) && timeAt i bits used (timeOf b) (kindOf b) (untimedOf b) && eqb (baseOf b) (used + baseFrom i (flags 63 bits) 1)
     && oneList i (placeOf b) (partOf b) (flags 63 bits) 1 used
 
 unfoldable pub soundRow : ℕ → ℕ → Bool

@@ -6,14 +6,16 @@ use quick_items::steps;
 use quick_items::word_of;
 use sets::ItemSet;
 use sets::SetRead;
-use tables::PROFILES;
+use sets::type_frn;
 use tables::profile_of;
+use tables::profile_row;
 ghost use mathlib.Core.Path.{_≡_};
 ghost use mathlib.Core.Bool.{true};
 ghost use mathlib.Core.Option.{none};
 ghost use Prim.Native.Nat.{_-_, _*_, _/_, _^_, _≤_, _<_};
 ghost use lib.ListN.{getD};
 ghost use Rattle.rules.specs.Answer.{ok};
+ghost use Rattle.sets.specs.Steps.{typeFrn};
 ghost use Rattle.quick_items.specs.Item.{exactSteps, octetsAt};
 ghost use Rattle.measuring.specs.Measure.{endOf, startOf, timeFrn, isUntimed, clockAt, timeIn, sized, measureBy, measureOf};
 
@@ -53,7 +55,7 @@ fn octets_at(t: &Steps, profile: usize, frn: usize, part: &[u8], at: usize) -> u
 
 // Where the items of a set end, from a place on.
 fn items_from(t: &Steps, profile: usize, bits: u64, part: &[u8], from: usize) -> usize
-    requires { ⌜ (bits < 2 ^ 63) × (from < 0x8000_0000_0001_0000) × (exactSteps (now t) ≡ true) ⌝ }
+    requires { ⌜ (bits < 2 ^ 63) × (from < 0x8000_0000_0040_0000) × (exactSteps (now t) ≡ true) ⌝ }
     ensures { λ r. ⌜ r ≡ endOf profile bits (now (part .entry)) from ⌝ }
 {
     let mut left = bits;
@@ -66,19 +68,6 @@ fn items_from(t: &Steps, profile: usize, bits: u64, part: &[u8], from: usize) ->
     at
 }
 
-// The same; FRN 1 to 3 have five octets together.
-fn items_end(t: &Steps, profile: usize, bits: u64, part: &[u8], from: usize) -> usize
-    requires { ⌜ (bits < 2 ^ 63) × (from < 2 ^ 63) × (exactSteps (now t) ≡ true) ⌝ }
-    ensures { λ r. ⌜ r ≡ endOf profile bits (now (part .entry)) from ⌝ }
-{
-    if profile < PROFILES {
-        if bits >> 60 == 7 {
-            return items_from(t, profile, bits % 0x1000_0000_0000_0000, part, from + 5);
-        }
-    }
-    items_from(t, profile, bits, part, from)
-}
-
 // Those of a set that stand before an FRN.
 fn before(bits: u64, frn: usize) -> u64
     requires { ⌜ (1 ≤ frn) × (frn ≤ 63) ⌝ }
@@ -87,15 +76,17 @@ fn before(bits: u64, frn: usize) -> u64
     (bits >> (64 - frn)) << (64 - frn)
 }
 
-// Whether the record is a GICB_extraction of category 018.
+// Whether the record's message type is one that counts as untimed.
 fn is_untimed(t: &Steps, profile: usize, bits: u64, part: &[u8], from: usize) -> bool
     requires { ⌜ (bits < 2 ^ 63) × (from < 2 ^ 63) × (exactSteps (now t) ≡ true) ⌝ }
-    ensures { λ r. ⌜ r ≡ isUntimed profile (getD (now (part .entry)) (startOf profile 3 bits (now (part .entry)) from) 0) ⌝ }
+    ensures { λ r. ⌜ r ≡ isUntimed profile (getD (now (part .entry)) (startOf profile (typeFrn profile) bits (now (part .entry)) from) 0) ⌝ }
 {
-    if profile != 1 {
+    let untimed_type = profile_row(profile).untimed as usize;
+    if untimed_type == 0 {
         return false;
     }
-    octet_at(part, items_from(t, profile, before(bits, 3), part, from)) == 64
+    let place = items_from(t, profile, before(bits, type_frn(profile)), part, from);
+    octet_at(part, place) + 1 == untimed_type
 }
 
 // A record of so many octets that is not timed.
@@ -118,7 +109,7 @@ fn wide(x: u8) -> u64
 
 // One of so many octets whose time stands at a place.
 pub fn timed(size: usize, part: &[u8], at: usize) -> Measured
-    requires { ⌜ at < 0x8000_0000_0002_0000 ⌝ }
+    requires { ⌜ at < 0x8000_0000_0080_0000 ⌝ }
     ensures { λ r. ⌜ r ≡ sized size (clockAt (now (part .entry)) at) ⌝ }
 {
     if part.len() < at + 3 {
@@ -131,11 +122,11 @@ pub fn timed(size: usize, part: &[u8], at: usize) -> Measured
     }
 }
 
-// The FRN of the time: I017/140, I018/002.
+// The FRN of the time, 0 where the profile has none.
 fn time_frn(profile: usize) -> usize
     ensures { λ r. ⌜ r ≡ timeFrn profile ⌝ }
 {
-    if profile == 0 { 7 } else { 15 }
+    profile_row(profile).time as usize
 }
 
 // A record that is not timed, whose set has been read.
@@ -143,7 +134,7 @@ fn measure_untimed(t: &Steps, profile: usize, bits: u64, part: &[u8], from: usiz
     requires { ⌜ (bits < 2 ^ 63) × (from < 2 ^ 63) × (timeIn profile bits (now part) from ≡ none) × (exactSteps (now t) ≡ true) ⌝ }
     ensures { λ r. ⌜ r ≡ measureBy profile (now (part .entry)) (ok (bits, from)) ⌝ }
 {
-    let end = items_end(t, profile, bits, part, from);
+    let end = items_from(t, profile, bits, part, from);
     if part.len() < end {
         return untimed(0);
     }
@@ -163,7 +154,7 @@ fn measure_set(t: &Steps, profile: usize, bits: u64, part: &[u8], from: usize) -
         return measure_untimed(t, profile, bits, part, from);
     }
     let early = before(bits, frn);
-    let start = items_end(t, profile, early, part, from);
+    let start = items_from(t, profile, early, part, from);
     let end = items_from(t, profile, bits - early, part, start);
     if part.len() < end {
         return untimed(0);

@@ -2,18 +2,26 @@
 use Prim.Native.Nat.{_+_, _≤_}
 use mathlib.Core.Path.{_≡_, sym, subst, _∙_}
 use native.Mathlib.Omega.{arith}
+use borrow.Author.Needs.{needs}
 use Rattle.sets.proofs.SetLaws.{octets-all}
 use Rattle.measuring.specs.Measure.{startOf, endOf}
-use Rattle.measuring.proofs.EndLaws.{end-far, frn-few, early-few, time-absent, time-none, time-there, starts, ends, measure-past, measure-there}
-use borrow.Author.Needs.{needs}
+use Rattle.measuring.proofs.CategoryLaws.{time-few, frn-some}
+use Rattle.measuring.proofs.EndLaws.{end-far, early-few, time-absent, time-none, time-there, starts, ends, measure-past, measure-there}
 use Rattle.measuring.proofs.record.measure_set.Statement.{statement}
 use Rattle.measuring.proofs.record.measure_set.Tie as tie
 
 time-frn-requires : tie.Need-time-frn-requires
 time-frn-requires c κs = search needs
 
+-- the FRN of the time; where the set has it, it is one
+few : (c : tie.After-time-frn) → c .time-frn .result ≤ 35
+few c = omega (arith, time-few (c .before .before .args .profile), c .time-frn .ensures)
+
+some : (c : tie.Else1) → 1 ≤ c .before .time-frn .result
+some c = frn-some _ (c .before .before .before .args .bits) (c .before .before .before .pre .0) (c .if1 .left)
+
 sub-if1 : tie.Need-sub-if1
-sub-if1 c = omega (arith, frn-few (c .before .before .args .profile) (c .time-frn .ensures) .1)
+sub-if1 c = omega (arith, few c)
 
 shr-if1 : tie.Need-shr-if1
 shr-if1 c = search needs
@@ -35,29 +43,29 @@ returns-2 : tie.Need-returns-2
 returns-2 c = search needs
 
 before-requires : tie.Need-before-requires
-before-requires c κs = (frn-few (c .before .before .before .before .before .args .profile) (c .before .before .before .time-frn .ensures) .0, omega (arith, frn-few (c .before .before .before .before .before .args .profile) (c .before .before .before .time-frn .ensures) .1))
+before-requires c κs = (some (c .before .before), omega (arith, few (c .before .before .before)))
 
-items-end-requires : tie.Need-items-end-requires
-items-end-requires c κs = (omega (arith, early-few _ _ (c .before2 .ensures), c .before .before .before .before .before .before .pre .0), c .before .before .before .before .before .before .pre .1, c .before .before .before .before .before .before .pre .2)
+items-from-requires : tie.Need-items-from-requires
+items-from-requires c κs = (omega (arith, early-few _ _ (c .before2 .ensures), c .before .before .before .before .before .before .pre .0), omega (arith, c .before .before .before .before .before .before .pre .1), c .before .before .before .before .before .before .pre .2)
 
 sub-items-from : tie.Need-sub-items-from
 sub-items-from c = early-few _ _ (c .before .before2 .ensures)
 
 -- the time stands not far from the record's start
-near : (c : tie.After-items-end) → c .items-end .result ≤ c .before .before .before .before .before .before .before .args .from + 64_323
+near : (c : tie.After-items-from) → c .items-from .result ≤ c .before .before .before .before .before .before .before .args .from + 4_096_638
 near c =
-    subst (λ x. x ≤ c .before .before .before .before .before .before .before .args .from + 64_323) (sym (c .items-end .ensures))
+    subst (λ x. x ≤ c .before .before .before .before .before .before .before .args .from + 4_096_638) (sym (c .items-from .ensures))
     (end-far _ (c .before .before .before .before .before .before .before .args .part .now) (octets-all (c .before .before .before .before .before .before .before .args .part .now) (c .before .before .before .before .before .before .shared-slice-known .given)) _ _)
 
-start-is : (c : tie.After-items-end) → c .items-end .result ≡ startOf (c .before .before .before .before .before .before .before .args .profile) (c .before .before .before .before .before .time-frn .result) (c .before .before .before .before .before .before .before .args .bits) (c .before .before .before .before .before .before .before .args .part .now) (c .before .before .before .before .before .before .before .args .from)
-start-is c = starts _ (c .before .before .before .before .before .before .before .args .part .now) _ _ (c .before .before .before .before .before .time-frn .ensures) (c .before .before2 .ensures) (c .items-end .ensures)
+start-is : (c : tie.After-items-from) → c .items-from .result ≡ startOf (c .before .before .before .before .before .before .before .args .profile) (c .before .before .before .before .before .time-frn .result) (c .before .before .before .before .before .before .before .args .bits) (c .before .before .before .before .before .before .before .args .part .now) (c .before .before .before .before .before .before .before .args .from)
+start-is c = starts _ (c .before .before .before .before .before .before .before .args .part .now) _ _ _ (c .before .before2 .ensures) (c .items-from .ensures)
 
-end-is : (c : tie.After-items-from) → c .items-from .result ≡ endOf (c .before .before .before .before .before .before .before .before .args .profile) (c .before .before .before .before .before .before .before .before .args .bits) (c .before .before .before .before .before .before .before .before .args .part .now) (c .before .before .before .before .before .before .before .before .args .from)
+end-is : (c : tie.After-items-from2) → c .items-from2 .result ≡ endOf (c .before .before .before .before .before .before .before .before .args .profile) (c .before .before .before .before .before .before .before .before .args .bits) (c .before .before .before .before .before .before .before .before .args .part .now) (c .before .before .before .before .before .before .before .before .args .from)
 end-is c =
-    ends _ (c .before .before .before .before .before .before .before .before .args .part .now) _ _ (c .before .before .before .before .before .before .time-frn .ensures) (c .before .before .before2 .ensures) (c .before .items-end .ensures) (c .before .before .before .before .before .before .before .before .pre .0) (c .items-from .ensures)
+    ends _ (c .before .before .before .before .before .before .before .before .args .part .now) _ _ (c .before .before .before .before .before .before .time-frn .result) (c .before .before .before2 .ensures) (c .before .items-from .ensures) (c .before .before .before .before .before .before .before .before .pre .0) (some (c .before .before .before .before .before)) (omega (arith, few (c .before .before .before .before .before .before))) (c .items-from2 .ensures)
 
-items-from-requires : tie.Need-items-from-requires
-items-from-requires c κs = (omega (arith, c .before .before .before .before .before .before .before .pre .0), omega (arith, c .before .before .before .before .before .before .before .pre .1, near c), c .before .before .before .before .before .before .before .pre .2)
+items-from-requires-2 : tie.Need-items-from-requires-2
+items-from-requires-2 c κs = (omega (arith, c .before .before .before .before .before .before .before .pre .0), omega (arith, c .before .before .before .before .before .before .before .pre .1, near c), c .before .before .before .before .before .before .before .pre .2)
 
 untimed-requires : tie.Need-untimed-requires
 untimed-requires c κs = search needs
@@ -87,9 +95,9 @@ measure-set-spec =
     measure-untimed-requires-2
     returns-2
     before-requires
-    items-end-requires
-    sub-items-from
     items-from-requires
+    sub-items-from
+    items-from-requires-2
     untimed-requires
     returns-3
     timed-requires

@@ -1,15 +1,18 @@
--- `record::time_frn` meets its contract. Assumes nothing.
-use mathlib.Core.Path.{refl, sym}
-use borrow.Author.Tests.{eq-eqb, ne-eqb}
-use Rattle.rules.proofs.AnswerLaws.{if-true, if-false}
+-- `record::time_frn` meets its contract: the table of profiles has the FRN of the time. Assumes nothing.
+use mathlib.Core.Path.{ap, _∙_}
+use borrow.Author.Needs.{needs}
+use Rattle.tables.proofs.ProfileLaws.{row-time}
 use Rattle.measuring.proofs.record.time_frn.Statement.{statement}
 use Rattle.measuring.proofs.record.time_frn.Tie as tie
 
-returns : tie.Need-returns
-returns c = sym (if-true _ (eq-eqb _ 0 (c .if1 .taken)) refl)
+profile-row-requires : tie.Need-profile-row-requires
+profile-row-requires c κs = search needs
 
-returns-2 : tie.Need-returns-2
-returns-2 c = sym (if-false _ (ne-eqb _ 0 (c .if1 .left)) refl)
+cast-result : tie.Need-cast-result
+cast-result c = search needs
+
+returns : tie.Need-returns
+returns c = ap (λ r. r .time) (c .before .profile-row .ensures) ∙ row-time _
 
 pub time-frn-spec : {M : Type 1} → statement M
-time-frn-spec = tie.close (tie.spec returns returns-2)
+time-frn-spec = tie.close (tie.spec profile-row-requires cast-result returns)

@@ -7,7 +7,7 @@ use native.Mathlib.Omega.{arith}
 use Rattle.quick_records.specs.Shape.{usedOf}
 use Rattle.measuring.specs.declared.record.Measured.{Measured}
 use Rattle.measuring.specs.Measure.{sized}
-use Rattle.measuring.specs.Shape.{timeOf, baseOf, partOf, Told}
+use Rattle.measuring.specs.Shape.{untimedOf, kindOf, timeOf, baseOf, partOf, Told}
 use Rattle.measuring.proofs.ShapeLaws.{parts-fit, timeBy, time-none, time-untimed, time-clock, told-none, shape-some, shape-few, shape-told}
 use borrow.Author.Needs.{needs}
 use Rattle.measuring.proofs.shape.measure_shape.Statement.{statement}
@@ -115,10 +115,7 @@ module _ (c : tie.Else5) where
   abbrev octets : List ℕ
   octets = c .before .before .before .before .before .before .before .before .before .before .before .before .before .before .args .part .now
 
-  abbrev kind : ℕ
-  kind = usedOf (c .before .before .before .before .before .before .before .before .long .result) + 4
-
-  told : (t : Option ℕ) (r : Measured) → timeBy profile (timeOf row) kind octets ≡ t → r ≡ sized (baseOf row + c .before .octet .result * partOf row) t
+  told : (t : Option ℕ) (r : Measured) → timeBy (timeOf row) (kindOf row) (untimedOf row) octets ≡ t → r ≡ sized (baseOf row + c .before .octet .result * partOf row) t
       → Told r profile octets
   told t r et er =
       shape-told (c .before .before .before .before .before .before .before .before .before .before .before .before .before .before .args .shapes .now) (c .before .before .before .before .before .before .before .before .before .before .before .before .before .before .pre) _ _ _ (c .before .before .before .before .before .before .before .before .before .before .slot-of .ensures) (c .before .before .before .before .before .before .before .before .long .ensures) (c .before .before .before .before .long2 .ensures)
@@ -128,30 +125,27 @@ untimed-requires-6 : tie.Need-untimed-requires-6
 untimed-requires-6 c κs = search needs
 
 returns-6 : tie.Need-returns-6
-returns-6 c = told (c .before .before) _ _ (time-none (profile (c .before .before)) (timeOf (row (c .before .before))) (kind (c .before .before)) (octets (c .before .before)) (c .before .if6 .taken)) (c .untimed6 .ensures)
-
-add-octet-at : tie.Need-add-octet-at
-add-octet-at c = search needs
+returns-6 c = told (c .before .before) _ _ (time-none (timeOf (row (c .before .before))) (kindOf (row (c .before .before))) (untimedOf (row (c .before .before))) (octets (c .before .before)) (c .before .if6 .taken)) (c .untimed6 .ensures)
 
 octet-at-requires : tie.Need-octet-at-requires
 octet-at-requires c κs = search needs
 
-is-extraction-requires : tie.Need-is-extraction-requires
-is-extraction-requires c κs = search needs
+add-if7 : tie.Need-add-if7
+add-if7 c = search needs
 
 untimed-requires-7 : tie.Need-untimed-requires-7
 untimed-requires-7 c κs = search needs
 
 returns-7 : tie.Need-returns-7
 returns-7 c =
-    told (c .before .before .before .before .before) _ _ (time-untimed (profile (c .before .before .before .before .before)) (timeOf (row (c .before .before .before .before .before))) (kind (c .before .before .before .before .before)) (octets (c .before .before .before .before .before)) (c .before .before .before .before .if6 .left) (c .before .before .before .octet-at .ensures .0) (c .before .before .is-extraction .ensures) (c .before .if7 .taken)) (c .untimed7 .ensures)
+    told (c .before .before .before .before) _ _ (time-untimed (timeOf (row (c .before .before .before .before))) (kindOf (row (c .before .before .before .before))) (untimedOf (row (c .before .before .before .before))) (octets (c .before .before .before .before)) (c .before .before .before .if6 .left) (c .before .before .octet-at .ensures .0) (c .before .if7 .taken)) (c .untimed7 .ensures)
 
 timed-requires : tie.Need-timed-requires
 timed-requires c κs = search needs
 
 returns-8 : tie.Need-returns-8
 returns-8 c =
-    told (c .before .before .before .before .before) _ _ (time-clock (profile (c .before .before .before .before .before)) (timeOf (row (c .before .before .before .before .before))) (kind (c .before .before .before .before .before)) (octets (c .before .before .before .before .before)) (c .before .before .before .before .if6 .left) (c .before .before .before .octet-at .ensures .0) (c .before .before .is-extraction .ensures) (c .before .if7 .left)) (c .timed .ensures)
+    told (c .before .before .before .before) _ _ (time-clock (timeOf (row (c .before .before .before .before))) (kindOf (row (c .before .before .before .before))) (untimedOf (row (c .before .before .before .before))) (octets (c .before .before .before .before)) (c .before .before .before .if6 .left) (c .before .before .octet-at .ensures .0) (c .before .if7 .left)) (c .timed .ensures)
 
 pub measure-shape-spec : {M : Type 1} → statement M
 measure-shape-spec =
@@ -187,9 +181,8 @@ measure-shape-spec =
     returns-5
     untimed-requires-6
     returns-6
-    add-octet-at
     octet-at-requires
-    is-extraction-requires
+    add-if7
     untimed-requires-7
     returns-7
     timed-requires
