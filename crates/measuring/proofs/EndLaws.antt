@@ -6,12 +6,11 @@ use Prim.Native.Nat.{ℕ, zero, suc, _+_, _-_, _*_, _/_, _%_, _^_, _≤_, _<_}
 use mathlib.Core.Path.{_≡_, refl, sym, ap, ap₂, _∙_, subst}
 use mathlib.Core.Bool.{Bool, true, false}
 use mathlib.Core.Option.{Option, none, some}
-use mathlib.Core.Logic.{⊎-elim}
 use mathlib.Core.List.{List, [], _∷_, _++_}
 use native.Mathlib.Omega.{arith}
-use native.Mathlib.Nat.{mod-lt, mod-eq-of-lt, mod-eq-sub-mod, div-eq-of-lt, pow-suc, add-zero, one-mul, mul-le-mul-left}
-use lib.Count.{leadingZeros, leading-top}
-use lib.Pow.{pow-pos, pow-mono, split, high, low, shl-exact}
+use native.Mathlib.Nat.{mod-lt, mod-eq-of-lt, div-eq-of-lt, add-zero, mul-le-mul-left}
+use lib.Count.{leadingZeros}
+use lib.Pow.{pow-pos, pow-mono, split, high, low}
 use lib.Dec.{leb, eqb, ltb}
 use lib.ListN.{length, getD}
 use borrow.Author.Tests.{leb-true, ltb-true, eqb-true, le-leb, lt-leb, eq-eqb, ne-eqb}
@@ -20,7 +19,6 @@ use Rattle.rules.specs.Presence.{flags}
 use Rattle.rules.specs.Catalogue.{categories}
 use Rattle.rules.proofs.AnswerLaws.{if-true, if-false, both-left, both-right, Octets}
 use Rattle.rules.proofs.PresenceLaws.{flags-length}
-use Rattle.layouts.proofs.ReadLaws.{le-or-lt}
 use Rattle.tables.specs.Tables.{profileCount, frnCount, groups, layouts, groupAt, layoutAt, placeRowAt}
 use Rattle.tables.specs.Profiles.{profileRowAt}
 use Rattle.items.specs.Answers.{profileIn}
@@ -30,7 +28,7 @@ use Rattle.sets.specs.Answers.{setOf}
 use Rattle.sets.specs.declared.ItemSet.{ItemSet}
 use Rattle.sets.specs.declared.SetRead.{SetRead}
 use Rattle.sets.specs.declared.SetRead.the-variants as set
-use Rattle.sets.proofs.FlagLaws.{flags-split}
+use Rattle.sets.proofs.FlagLaws.{flags-split, First, first, first-from, first-rest, first-flags}
 use Rattle.quick_items.specs.Item.{allBelow, octetsBy, rowOctets, isPlace, rowOf, octetsAt}
 use Rattle.quick_items.proofs.ItemLaws.{octet-at, all-below}
 use Rattle.measuring.specs.Measure.{endFrom, endOf, startOf, timeFrn, isIn, isUntimed, clockAt, timeIn, sized, measureBy, measureIn, measureOf}
@@ -74,10 +72,6 @@ octets-fixed i f x h = ap (λ k. if isPlace i f then octetsBy k (groupAt (rowOf 
     e = eqb-true (rowOf i f .kind) 1 h
 
 -- ---- numbers as the code has them
-
--- one bit, moved up
-pub bit-is : (f : ℕ) → 1 * 2 ^ (63 - f) % 2 ^ 64 ≡ 2 ^ (63 - f)
-bit-is f = shl-exact 1 (63 - f) 64 (omega arith) (omega arith) ∙ one-mul (2 ^ (63 - f))
 
 -- three octets, the higher first
 module _ (bs : List ℕ) (at : ℕ) where
@@ -151,32 +145,27 @@ module _ (i : ℕ) (bs : List ℕ) where
     pub on : endOf i left bs at ≡ endOf i (left - 2 ^ (63 - f)) bs (at + octetsAt i f (getD bs at 0))
 
   pub next : (left at : ℕ) → left < 2 ^ 63 → (left ≡ 0 → ⊥) → Next left at (leadingZeros 64 left)
-  unfolding endOf endFrom flags
+  unfolding endOf endFrom
   next left at h z =
       let f : ℕ = leadingZeros 64 left in
-      let t = leading-top 64 left (⊎-elim (λ (y : left ≤ 0). absurd (z (omega arith))) (λ y. y) (le-or-lt left 0)) (omega arith) in
-      let j : ℕ = t .0 in
-      let a : f + suc j ≡ 64 = t .1 in
-      let b : j < 63 = ⊎-elim (λ (z : 63 ≤ j). absurd (let p : 2 ^ 63 ≤ 2 ^ j = pow-mono z in omega (arith, t .2))) (λ z. z) (le-or-lt 63 j) in
-      let w : 63 - f ≡ j = omega arith in
-      let d : left - 2 ^ j < 2 ^ j = omega (arith, t .3, pow-suc 2 j) in
-      let m : left % 2 ^ j ≡ left - 2 ^ j = mod-eq-sub-mod (t .2) ∙ mod-eq-of-lt d in
+      let t : First left f = first left z (omega arith) in
+      let j : 1 ≤ f = first-from left f t 1 h in
+      let others : ℕ = left - 2 ^ (63 - f) in
       let to : ℕ = at + octetsAt i f (getD bs at 0) in
-      let e₁ : 63 ≡ 62 - j + suc j = omega arith in
-      let e₂ : 1 + (62 - j) ≡ f = omega arith in
-      let e₃ : f + 1 ≡ 1 + (63 - j) = omega arith in
-      let e₄ : 63 - j + j ≡ 63 = omega arith in
+      let e₁ : 63 ≡ f - 1 + (64 - f) = omega (arith, t .few) in
+      let e₂ : 1 + (f - 1) ≡ f = omega arith in
+      let e₃ : f + 1 ≡ 1 + f = omega arith in
+      let e₄ : f + (63 - f) ≡ 63 = omega (arith, t .few) in
       record {
-        few = omega arith;
-        there = rw w (t .2);
+        few = t .few;
+        there = t .there;
         on =
             ap (λ x. endFrom i (flags x left) 1 bs at) e₁
-            ∙ end-blank (62 - j) (suc j) left 1 at (t .3)
-            ∙ ap (λ x. endFrom i (flags (suc j) left) x bs at) e₂
-            ∙ ap (λ ts. endFrom i ts f bs at) (ap₂ _∷_ (le-leb (2 ^ j) left (t .2)) (ap (flags j) m))
-            ∙ ap (λ x. endFrom i (flags j (left - 2 ^ j)) x bs to) e₃
-            ∙ sym (end-blank (63 - j) j (left - 2 ^ j) 1 to d)
-            ∙ ap₂ (λ x y. endFrom i (flags x (left - 2 ^ y)) 1 bs to) e₄ (sym w);
+            ∙ end-blank (f - 1) (64 - f) left 1 at (t .none-before)
+            ∙ ap₂ (λ ts x. endFrom i ts x bs at) (first-flags left f t) e₂
+            ∙ ap (λ x. endFrom i (flags (63 - f) others) x bs to) e₃
+            ∙ sym (end-blank f (63 - f) others 1 to (first-rest left f t))
+            ∙ ap (λ x. endFrom i (flags x others) 1 bs to) e₄;
       }
 
   pub ended : (left at : ℕ) → left ≡ 0 → endOf i left bs at ≡ at

@@ -4,11 +4,9 @@
 use Prim.Native.Nat.{ℕ, _+_, _*_, _^_, _≤_, _<_}
 use mathlib.Core.Path.{_≡_, refl, sym, ap, ap₂, _∙_, subst}
 use mathlib.Core.Bool.{Bool, true, false}
-use mathlib.Core.Logic.{⊎-elim}
 use mathlib.Core.Option.{Option, none, some}
 use mathlib.Core.List.{List, [], _∷_, _++_}
 use native.Mathlib.Omega.{arith}
-use native.Mathlib.Nat.{le-of-eq}
 use lib.Dec.{eqb}
 use lib.ListN.{length, getD, drop, length-append, List·getD-append}
 use lib.Seq.{getD-append-add}
@@ -17,13 +15,13 @@ use borrow.Author.Tests.{le-leb}
 use Rattle.rules.specs.Answer.{ok, if_then_else_, octetsOf}
 use Rattle.rules.specs.Layout.{Values, flatten, joined}
 use Rattle.rules.specs.Presence.{has}
-use Rattle.rules.specs.Record.{Category, Place, Record, places, items, valueOf, typeOf, judge, writePlace, writeRecord, readRecord}
+use Rattle.rules.specs.Record.{Category, Record, places, items, valueOf, typeOf, judge, writeRecord, readRecord}
 use Rattle.rules.specs.Block.{categoryOf}
 use Rattle.rules.specs.Catalogue.{categories}
-use Rattle.rules.specs.Entry.{RecordMap, Laid, layoutAs, laid, laidAs, laidItems, mapOf}
+use Rattle.rules.specs.Entry.{RecordMap, Laid, layoutAs, laid, laidItems, mapOf}
 use Rattle.rules.specs.Entry as entry
 use Rattle.rules.specs.Merge.{numberIn, isOneOf, recordTime}
-use Rattle.rules.proofs.AnswerLaws.{refused-ok, bind-in, bind-elim, if-inv, if-true, some-inj, none-some, later-in, octetsOf-ok, Octets, Split}
+use Rattle.rules.proofs.AnswerLaws.{refused-ok, bind-in, bind-elim, if-true, none-some, later-in, octetsOf-ok, Octets, Split}
 use Rattle.rules.proofs.Tables.{distinct}
 use Rattle.rules.proofs.RecordLaws.{record-laws}
 use Rattle.rules.proofs.EntryLaws.{Lies, lies-second, itemOctets, RecordWritten, record-written, ItemFound, item-found, indexAs, start-found, start-absent}
@@ -32,6 +30,7 @@ use Rattle.rules.proofs.Demands.{map-start}
 use Rattle.tables.specs.Places.{frnAs}
 use Rattle.tables.specs.Profiles.{orNone, frnIn}
 use Rattle.items.specs.Answers.{profileIn}
+use Rattle.rules.proofs.PlaceLaws.{laid-low}
 use Rattle.items.proofs.PlaceLaws.{missed}
 use Rattle.sets.specs.Sets.{categoryAt}
 use Rattle.sets.specs.Steps.{typeFrn}
@@ -67,18 +66,6 @@ three-joined (x ∷ []) h = absurd (omega arith)
 three-joined (x ∷ (y ∷ [])) h = absurd (omega arith)
 three-joined (x ∷ (y ∷ (z ∷ []))) h = omega arith
 three-joined (x ∷ (y ∷ (z ∷ (w ∷ u)))) h = absurd (omega arith)
-
--- an item lies no earlier than the first may
-laid-low : (ref k : ℕ) (ps : List (Option Place)) (vs : List (Option Values)) (l : Laid) → laidAs ref (laid k ps vs) ≡ some l → k ≤ l .start
-laid-low ref k [] vs l h = none-some h
-laid-low ref k (p ∷ ps) [] l h = none-some h
-laid-low ref k (p ∷ ps) (none ∷ vs) l h = laid-low ref k ps vs l h
-laid-low ref k (none ∷ ps) (some v ∷ vs) l h = laid-low ref k ps vs l h
-laid-low ref k (some p ∷ ps) (some v ∷ vs) l h =
-    ⊎-elim
-    (λ (e, g). le-of-eq (ap (λ y. y .start) (some-inj g)))
-    (λ (e, g). omega (arith, laid-low ref (k + length (octetsOf (writePlace p v))) ps vs l g))
-    (if-inv (eqb ref (p .reference)) _ (laidAs ref (laid (k + length (octetsOf (writePlace p v))) ps vs)) h)
 
 -- without the octet before all
 lies-on : {bs : List ℕ} {s : ℕ} {u : List ℕ} → Lies (0 ∷ bs) (1 + s) u → Lies bs s u

@@ -7,8 +7,10 @@ use quick_items::word_of;
 use sets::ItemSet;
 use sets::SetRead;
 use sets::type_frn;
+use sets::weight;
 use tables::profile_of;
 use tables::profile_row;
+use tables::wide;
 ghost use mathlib.Core.Path.{_≡_};
 ghost use mathlib.Core.Bool.{true};
 ghost use mathlib.Core.Option.{none};
@@ -63,7 +65,7 @@ fn items_from(t: &Steps, profile: usize, bits: u64, part: &[u8], from: usize) ->
     while left != 0 {
         let frn = u64::leading_zeros(left) as usize;
         at = at + octets_at(t, profile, frn, part, at);
-        left = left - (1u64 << (63 - frn));
+        left = left - weight(frn);
     }
     at
 }
@@ -98,13 +100,6 @@ pub fn untimed(size: usize) -> Measured
         timed: false,
         time: 0,
     }
-}
-
-// An octet of a time of day.
-fn wide(x: u8) -> u64
-    ensures { λ r. ⌜ (r ≡ x) × (r < 256) ⌝ }
-{
-    x as u64
 }
 
 // One of so many octets whose time stands at a place.

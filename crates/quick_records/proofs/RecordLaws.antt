@@ -7,15 +7,14 @@ use mathlib.Core.Bool.{Bool, true, false, not, _&&_, false≢true}
 use mathlib.Core.Logic.{⊎-elim}
 use mathlib.Core.List.{List, [], _∷_, _++_}
 use native.Mathlib.Omega.{arith}
-use native.Mathlib.Nat.{add-assoc, add-zero, zero-add, mod-lt, mod-eq-of-lt, mod-eq-sub-mod, pow-suc}
-use lib.Count.{leadingZeros, leading-top}
-use lib.Pow.{pow-pos, pow-mono}
+use native.Mathlib.Nat.{add-assoc, add-zero, zero-add, mod-lt}
+use lib.Pow.{pow-pos}
 use lib.Dec.{ltb, eqb}
 use lib.ListN.{length, take, drop, getD, replicate, length-drop}
 use lib.Seq.{drop-drop, getD-drop}
 use mir.Syntax.{w8}
 use mir.Val.{Fits}
-use borrow.Author.Tests.{lt-leb, le-leb, ltb-true, eqb-true, eq-eqb, ne-eqb}
+use borrow.Author.Tests.{ltb-true, eqb-true, eq-eqb, ne-eqb}
 use Rattle.rules.specs.Answer.{Answer, ok, refused, if_then_else_}
 use Rattle.rules.specs.Presence.{flags}
 use Rattle.rules.specs.Entry.{RecordMap, mapOf}
@@ -35,10 +34,10 @@ use Rattle.quick_records.specs.Record.{kindCount, rowCount, wayCount, ty
 use Rattle.sets.specs.declared.ItemSet.{ItemSet}
 use Rattle.sets.specs.declared.SetRead.{SetRead}
 use Rattle.sets.specs.declared.SetRead.the-variants as set
-use Rattle.sets.proofs.FlagLaws.{flags-split, has-bit}
+use Rattle.sets.proofs.FlagLaws.{flags-split, has-bit, First, first-from, first-rest, first-flags}
 use Rattle.sets.proofs.SetLaws.{octets-all, to-end}
 use Rattle.records.proofs.PlaceLaws.{check-within}
-use Rattle.records.proofs.WalkLaws.{walk-none}
+use Rattle.records.proofs.WalkLaws.{walk-none, walk-skip}
 use Rattle.sets.proofs.JudgeLaws.{judge-right}
 use Rattle.records.proofs.RecordLaws.{record-law, record-read, RecordRead}
 
@@ -189,19 +188,6 @@ pub tell : (n : ℕ) (a : Answer ℕ) → a ≡ ok n → Plainly n a
 tell zero a h = tt
 tell (suc n) a h = h
 
--- ---- flags that are not set
-
-pub blank : (i j m f left : ℕ) (bs : List ℕ) (w : Came) → left < 2 ^ m → walk i (flags (j + m) left) f bs w ≡ walk i (flags m left) (f + j) bs w
-unfolding walk flags
-blank i zero m f left bs w h = ap₂ (λ x y. walk i (flags x left) y bs w) (zero-add m) (sym (add-zero f))
-blank i (suc j) m f left bs w h =
-    let k : left < 2 ^ (j + m) = (let p : 2 ^ m ≤ 2 ^ (j + m) = pow-mono (omega arith) in omega arith) in
-    let e : suc j + m ≡ suc (j + m) = omega arith in
-    let g : f + 1 + j ≡ f + suc j = omega arith in
-    ap (λ x. walk i (flags x left) f bs w) e
-    ∙ rw (lt-leb (2 ^ (j + m)) left k, mod-eq-of-lt k) (blank i j m (f + 1) left bs w h)
-    ∙ ap (λ x. walk i (flags m left) x bs w) g
-
 -- ---- one item, and items that are free
 
 pub one : (i f n : ℕ) (ts : List Bool) (bs : List ℕ) (w : Came) → checkAt i f bs ≡ ok n → walk i (true ∷ ts) f bs w ≡ walk i ts (f + 1) (drop n bs) (passed i f n (take n bs) w)
@@ -303,45 +289,6 @@ module _ (i : ℕ) (us : List Bool) (bs : List ℕ) (k : ℕ) (h : i < profileCo
       go (suc (suc (suc zero))) p q = at a₃ (a₁ + a₂) (free-three i g .0) ∙ ap (λ x. getD bs (a₁ + x) 0) (sym (add-zero a₂))
       go (suc (suc (suc (suc t)))) p q = absurd (omega arith)
 
--- ---- the next item of a set: the highest bit that is left
-
-module _ (left : ℕ) (below : left < 2 ^ 60) (some : left ≡ 0 → ⊥) where
-  -- the FRN and the place of its bit make 63
-  pub record Next : Type 0 where
-    pub bit : ℕ
-    pub frn : leadingZeros 64 left + bit ≡ 63
-    pub low : bit < 60
-    pub there : 2 ^ bit ≤ left
-    pub top : left < 2 ^ suc bit
-
-  pub next : Next
-  next =
-      let t = leading-top 64 left (⊎-elim (λ (z : left ≤ 0). absurd (some (omega arith))) (λ z. z) (le-or-lt left 0)) (omega (arith, below)) in
-      record {
-        bit = t .0;
-        frn = omega (arith, t .1);
-        low = ⊎-elim (λ (z : 60 ≤ t .0). absurd (let p : 2 ^ 60 ≤ 2 ^ t .0 = pow-mono z in omega (arith, below, t .2))) (λ z. z) (le-or-lt 60 (t .0));
-        there = t .2;
-        top = t .3;
-      }
-
-  module _ (f : ℕ) (ef : f ≡ leadingZeros 64 left) where
-    weight-is : 63 - f ≡ next .bit
-    weight-is = omega (arith, next .frn)
-
-    pub weight-there : 2 ^ (63 - f) ≤ left
-    weight-there = rw weight-is (next .there)
-
-    less : left - 2 ^ (63 - f) < 2 ^ next .bit
-    less = let e : 2 ^ suc (next .bit) ≡ 2 ^ next .bit * 2 = pow-suc 2 (next .bit) in let w : 2 ^ (63 - f) ≡ 2 ^ next .bit = ap (λ x. 2 ^ x) weight-is in omega (arith, next .top)
-
-    taken : flags (suc (next .bit)) left ≡ true ∷ flags (next .bit) (left - 2 ^ (63 - f))
-    unfolding flags
-    taken =
-        let m : left % 2 ^ next .bit ≡ left - 2 ^ (63 - f) =
-        mod-eq-sub-mod (next .there) ∙ mod-eq-of-lt (subst (λ x. left - 2 ^ x < 2 ^ next .bit) weight-is less) ∙ ap (λ x. left - 2 ^ x) (sym weight-is) in
-        rw (le-leb (2 ^ next .bit) left (next .there), m)
-
 -- ---- the steps of the loop: what is left of the set has no FRN under 4, and walking on from FRN 4 gives what the whole walk gives
 
 -- where a walk over the items has come
@@ -360,15 +307,18 @@ module _ (i bits : ℕ) (part : List ℕ) where
   pub stand-first : bits < 2 ^ 60 → Standing i bits part bits part
   stand-first b = record { below = b; fewer = omega arith; onward = λ w. record { came = w; walks = refl; here = omega arith; kind = λ g. refl } }
 
-  pub stand-next : (left : ℕ) (rest : List ℕ) (s : Standing i bits part left rest) (some : left ≡ 0 → ⊥) (f : ℕ) (ef : f ≡ leadingZeros 64 left) (n : ℕ) → checkAt i f rest ≡ ok n → Standing i bits part (left - 2 ^ (63 - f)) (take (length rest - n) (drop n rest))
-  stand-next left rest s some f ef n c =
-      let x : Next left (s .below) some = next left (s .below) some in
-      let d : left - 2 ^ (63 - f) < 2 ^ x .bit = less left (s .below) some f ef in
-      let j : ℕ = x .bit in
+  pub stand-next : (left : ℕ) (rest : List ℕ) (s : Standing i bits part left rest) (f : ℕ) → First left f → (n : ℕ) → checkAt i f rest ≡ ok n → Standing i bits part (left - 2 ^ (63 - f)) (take (length rest - n) (drop n rest))
+  stand-next left rest s f x n c =
+      let d : left - 2 ^ (63 - f) < 2 ^ (63 - f) = first-rest left f x in
+      let j : 4 ≤ f = first-from left f x 4 (s .below) in
       let l : n ≤ length rest = check-within i f rest n c in
       let m : length (drop n rest) ≡ length rest - n = length-drop n rest in
+      let e₁ : 60 ≡ f - 4 + (64 - f) = omega (arith, x .few) in
+      let e₂ : 4 + (f - 4) ≡ f = omega arith in
+      let e₃ : f + 1 ≡ 4 + (f - 3) = omega arith in
+      let e₄ : f - 3 + (63 - f) ≡ 60 = omega (arith, x .few) in
       record {
-        below = (let q : j ≤ 60 = omega (arith, x .low) in let p : 2 ^ j ≤ 2 ^ 60 = pow-mono q in omega (arith, d));
+        below = omega (arith, s .below);
         fewer = rw to-end (omega (arith, s .fewer));
         onward = λ y.
             let w : Came = s .onward y .came in
@@ -377,15 +327,15 @@ module _ (i bits : ℕ) (part : List ℕ) where
               came = v;
               walks =
                   s .onward y .walks
-                  ∙ ap (λ y. walk i (flags y left) 4 rest w) (omega (arith, x .low))
-                  ∙ blank i (59 - j) (suc j) 4 left rest w (x .top)
-                  ∙ ap₂ (λ ts y. walk i ts y rest w) (taken left (s .below) some f ef) (omega (arith, x .low, x .frn))
-                  ∙ one i f n (flags j (left - 2 ^ (63 - f))) rest w c
-                  ∙ ap (λ y. walk i (flags j (left - 2 ^ (63 - f))) y (drop n rest) v) (omega (arith, x .low, x .frn))
-                  ∙ sym (blank i (60 - j) j 4 (left - 2 ^ (63 - f)) (drop n rest) v d)
-                  ∙ ap₂ (λ y r. walk i (flags y (left - 2 ^ (63 - f))) 4 r v) (omega (arith, x .low)) (sym (to-end rest n));
+                  ∙ ap (λ y. walk i (flags y left) 4 rest w) e₁
+                  ∙ walk-skip i (f - 4) (64 - f) 4 left rest w (x .none-before)
+                  ∙ ap₂ (λ ts y. walk i ts y rest w) (first-flags left f x) e₂
+                  ∙ one i f n (flags (63 - f) (left - 2 ^ (63 - f))) rest w c
+                  ∙ ap (λ y. walk i (flags (63 - f) (left - 2 ^ (63 - f))) y (drop n rest) v) e₃
+                  ∙ sym (walk-skip i (f - 3) (63 - f) 4 (left - 2 ^ (63 - f)) (drop n rest) v d)
+                  ∙ ap₂ (λ y r. walk i (flags y (left - 2 ^ (63 - f))) 4 r v) e₄ (sym (to-end rest n));
               here = ap (λ z. z + n) (s .onward y .here) ∙ rw to-end (omega (arith, s .fewer));
-              kind = λ g. kind-stays i f n (take n rest) w g (omega (arith, x .low, x .frn)) ∙ s .onward y .kind g;
+              kind = λ g. kind-stays i f n (take n rest) w g (omega arith) ∙ s .onward y .kind g;
             };
       }
 
@@ -470,7 +420,7 @@ module _ (i bits : ℕ) (part : List ℕ) (h : i < profileCount) (f : hasFront i
               ∙ s .walks
               ∙ ap (λ x. walk i (flags 56 (bits % 2 ^ 56)) (4 + x) (drop (freeSum i 4 (flags 4 v)) (drop m₁ part)) (s .came)) (flags-length 4 v)
               ∙ ap (λ r. walk i (flags 56 (bits % 2 ^ 56)) 8 r (s .came)) (drop-drop (freeSum i 4 (flags 4 v)) m₁ part ∙ ap (λ x. drop x part) (sym en) ∙ sym (to-end part n))
-              ∙ sym (blank i 4 56 4 (bits % 2 ^ 56) (take (length part - n) (drop n part)) (s .came) (mod-lt bits (pow-pos 56)))
+              ∙ sym (walk-skip i 4 56 4 (bits % 2 ^ 56) (take (length part - n) (drop n part)) (s .came) (mod-lt bits (pow-pos 56)))
               ∙ q .walks;
           here = q .here ∙ ap (λ x. x + m) (s .here) ∙ (let e : u .here + freeSum i 4 (flags 4 v) + m ≡ k + (n + m) = omega (arith, third-here i (flags 60 (bits % 2 ^ 60)) part k h f o l₁) in e);
           kind = q .kind f ∙ s .kind ∙ third-kind i (flags 60 (bits % 2 ^ 60)) part k h f o l₁;

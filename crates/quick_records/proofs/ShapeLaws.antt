@@ -31,12 +31,12 @@ use Rattle.records.specs.Walk.{Came, passed, walk, startAt}
 use Rattle.sets.specs.Steps.{rowAt, judgeSet, ended, setFrom}
 use Rattle.sets.specs.declared.SetRead.the-variants as set
 use Rattle.sets.proofs.SetLaws.{set-law, octets-all, to-end}
-use Rattle.records.proofs.WalkLaws.{walk-none}
+use Rattle.records.proofs.WalkLaws.{walk-none, walk-skip}
 use Rattle.quick_items.specs.Item.{Plainly, firstThree, asks, soundSingle, soundCounted, allBelow}
 use Rattle.quick_records.specs.Record.{kindCount, rowCount, typeSets, mustAt, mayAt, soundTypes, free, hasFront, frontOctets, typeAt, Content, Goes, Later, Walks, Passed, endAt}
 use Rattle.quick_records.specs.Shape.{shapeCount, setCount, lowNumber, lowOctets, usedOf, startOf, tailOf, profileOf, typesOf, wordOf, placeOf, soundType, soundMask, isFree, runSum, runLeft, soundSpecial, soundFirst, soundThen, soundItems, soundFront, shapeBy, bounded, soundShape, soundShapeAt, soundSets, Front, Fronts, Listed, OfType}
 use Rattle.quick_items.proofs.ItemLaws.{octet-at, cut, free-check, ruled-told, counted-told, told, all-below, other}
-use Rattle.quick_records.proofs.RecordLaws.{row-under, row-read, front-some, blank, one, none-here, kind-stays, Skipped, third, first-three, third-here, third-kind, seven, content, quick-whole}
+use Rattle.quick_records.proofs.RecordLaws.{row-under, row-read, front-some, one, none-here, kind-stays, Skipped, third, first-three, third-here, third-kind, seven, content, quick-whole}
 
 octet-here : (n : ℕ) (xs bs : List ℕ) → xs ≡ drop n bs → getD xs 0 0 ≡ getD bs n 0
 octet-here n xs bs e = ap (λ l. getD l 0 0) e ∙ getD-drop n bs 0 0 ∙ ap (λ y. getD bs y 0) (add-zero n)
@@ -278,7 +278,7 @@ module _ (i bits : ℕ) (items : List ℕ) (h : i < profileCount) (g : hasFront 
       let b : 64 - length us ≡ 4 + j = omega (arith, r .few) in
       let c : walk i (flags 60 left) 4 (drop n items) (r .came) ≡ walk i us (64 - length us) (drop n items) (r .came) =
       ap₂ (λ x y. walk i (flags x y) 4 (drop n items) (r .came)) (sym a) e
-      ∙ blank i j (length us) 4 (number us) (drop n items) (r .came) (number-lt us)
+      ∙ walk-skip i j (length us) 4 (number us) (drop n items) (r .came) (number-lt us)
       ∙ ap₂ (λ x y. walk i x y (drop n items) (r .came)) (flags-number us) (sym b) in
       record {
         came = q .came;

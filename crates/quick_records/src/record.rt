@@ -11,6 +11,7 @@ use quick_items::octet;
 use quick_items::quick_item;
 use sets::ItemSet;
 use sets::SetRead;
+use sets::weight;
 use tables::PROFILES;
 ghost use mathlib.Core.Path.{_≡_};
 ghost use mathlib.Core.Bool.{true};
@@ -41,14 +42,6 @@ fn is_content(types: &Types, sets: &Sets, profile: usize, items: ItemSet, kind: 
         return false;
     }
     items.is_within(ItemSet { bits: sets[at + 1] })
-}
-
-// The bit of an FRN.
-fn weight(frn: usize) -> u64
-    requires { ⌜ frn ≤ 63 ⌝ }
-    ensures { λ r. ⌜ r ≡ 2 ^ (63 - frn) ⌝ }
-{
-    1u64 << (63 - frn)
 }
 
 // One more than the octets of the items of a set that has no FRN under 4.

@@ -1,12 +1,11 @@
 -- `record::items_from` meets its contract: at each turn, what is left of the set ends where the whole set does. Assumes nothing.
-use Prim.Native.Nat.{_+_, _-_, _*_, _%_, _^_}
-use mathlib.Core.Path.{_≡_}
+use Prim.Native.Nat.{_+_, _-_, _^_, _≤_}
 use native.Mathlib.Omega.{arith}
 use lib.Pow.{pow-pos}
 use lib.Count.{leadingZeros}
 use borrow.Author.Needs.{needs}
 use Rattle.sets.proofs.SetLaws.{octets-all}
-use Rattle.measuring.proofs.EndLaws.{Standing, stand-first, Next, next, bit-is, stand-next, stand-near, stand-end}
+use Rattle.measuring.proofs.EndLaws.{Standing, stand-first, Next, next, stand-next, stand-near, stand-end}
 use Rattle.measuring.proofs.record.items_from.Statement.{statement}
 use Rattle.measuring.proofs.record.items_from.Tie as tie
 
@@ -29,9 +28,6 @@ cast-frn c = record { fits = omega (arith, of c .few) }
 octets-at-requires : tie.Need-octets-at-requires Inv-loop μ-loop
 octets-at-requires c κs = search needs
 
-bit : (c : tie.After-octets-at Inv-loop μ-loop) → 1 * 2 ^ (63 - leadingZeros 64 (c .before .before .loop .left)) % 2 ^ 64 ≡ 2 ^ (63 - leadingZeros 64 (c .before .before .loop .left))
-bit c = bit-is _
-
 onward : (c : tie.After-octets-at Inv-loop μ-loop)
     → Standing (c .before .before .before .before .args .profile) (c .before .before .before .before .args .part .now) (c .before .before .before .before .args .bits) (c .before .before .before .before .args .from) (c .before .before .loop .left - 2 ^ (63 - leadingZeros 64 (c .before .before .loop .left))) (c .before .before .loop .at + c .octets-at .result)
 onward c = stand-next _ _ _ _ _ _ (c .before .before .loop .inv) _ (of (c .before)) (c .octets-at .ensures)
@@ -39,20 +35,20 @@ onward c = stand-next _ _ _ _ _ _ (c .before .before .loop .inv) _ (of (c .befor
 add-at : tie.Need-add-at Inv-loop μ-loop
 add-at c = record { fits = omega (arith, stand-near _ _ _ _ _ _ (onward c) (octets-all (c .before .before .before .before .args .part .now) (c .before .before .before .shared-slice-known .given)), c .before .before .before .before .pre .1) }
 
+weight-requires : tie.Need-weight-requires Inv-loop μ-loop
+weight-requires c κs = of (c .before) .few
+
+there : (c : tie.After-weight Inv-loop μ-loop) → c .weight .result ≤ c .before .before .before .loop .left
+there c = rw (c .weight .ensures) (of (c .before .before) .there)
+
 sub-left : tie.Need-sub-left Inv-loop μ-loop
-sub-left c = omega (arith, of (c .before) .few)
-
-shl-left : tie.Need-shl-left Inv-loop μ-loop
-shl-left c = search needs
-
-sub-left-2 : tie.Need-sub-left-2 Inv-loop μ-loop
-sub-left-2 c = rw (bit c) (of (c .before) .there)
+sub-left c = there c
 
 loop-less : tie.Need-loop-less Inv-loop μ-loop
-loop-less c = rw (bit c) (omega (arith, of (c .before) .there, pow-pos (63 - leadingZeros 64 (c .before .before .loop .left))))
+loop-less c = omega (arith, there c, c .weight .ensures, pow-pos (63 - leadingZeros 64 (c .before .before .before .loop .left)))
 
 loop-again : tie.Need-loop-again Inv-loop μ-loop
-loop-again c = rw (bit c) (onward c)
+loop-again c = rw (c .weight .ensures) (onward (c .before))
 
 returns : tie.Need-returns Inv-loop μ-loop
 returns c = stand-end _ _ _ _ _ _ (c .before .loop .inv) (c .loop-test .left)
@@ -67,9 +63,8 @@ items-from-spec =
     cast-frn
     octets-at-requires
     add-at
+    weight-requires
     sub-left
-    shl-left
-    sub-left-2
     loop-less
     loop-again
     returns)

@@ -10,7 +10,8 @@ use Rattle.rules.specs.Answer.{ok}
 use Rattle.items.specs.Answers.{checkAt}
 use Rattle.records.proofs.PlaceLaws.{check-within}
 use Rattle.quick_items.proofs.ItemLaws.{told}
-use Rattle.quick_records.proofs.RecordLaws.{Standing, stand-first, Next, next, weight-there, stand-next, stand-end}
+use Rattle.sets.proofs.FlagLaws.{First, first}
+use Rattle.quick_records.proofs.RecordLaws.{Standing, stand-first, stand-next, stand-end}
 use Rattle.quick_records.proofs.record.later_items.Statement.{statement}
 use Rattle.quick_records.proofs.record.later_items.Tie as tie
 
@@ -24,11 +25,11 @@ loop-holds : tie.Need-loop-holds Inv-loop μ-loop
 loop-holds c = stand-first _ _ _ (c .before .pre .2)
 
 -- the item with the highest bit that is left
-of : (c : tie.In-loop Inv-loop μ-loop) → Next (c .before .loop .left) (c .before .loop .inv .below) (c .loop-test .taken)
-of c = next (c .before .loop .left) (c .before .loop .inv .below) (c .loop-test .taken)
+of : (c : tie.In-loop Inv-loop μ-loop) → First (c .before .loop .left) (leadingZeros 64 (c .before .loop .left))
+of c = first (c .before .loop .left) (c .loop-test .taken) (omega (arith, c .before .loop .inv .below))
 
 cast-frn : tie.Need-cast-frn Inv-loop μ-loop
-cast-frn c = record { fits = omega (arith, of c .frn) }
+cast-frn c = record { fits = omega (arith, of c .few) }
 
 quick-item-requires : tie.Need-quick-item-requires Inv-loop μ-loop
 quick-item-requires c κs = c .before .before .before .pre .0
@@ -52,10 +53,10 @@ part-rest-end : tie.Need-part-rest-end Inv-loop μ-loop
 part-rest-end c = search needs
 
 weight-requires : tie.Need-weight-requires Inv-loop μ-loop
-weight-requires c κs = omega (arith, of (c .before .before .before) .frn)
+weight-requires c κs = of (c .before .before .before) .few
 
 there : (c : tie.After-weight Inv-loop μ-loop) → c .weight .result ≤ c .before .before .before .before .before .loop .left
-there c = rw (c .weight .ensures) (weight-there _ (c .before .before .before .before .before .loop .inv .below) (c .before .before .before .before .loop-test .taken) _ refl)
+there c = rw (c .weight .ensures) (of (c .before .before .before .before) .there)
 
 sub-left : tie.Need-sub-left Inv-loop μ-loop
 sub-left c = there c
@@ -64,7 +65,7 @@ loop-less : tie.Need-loop-less Inv-loop μ-loop
 loop-less c = omega (arith, there c, c .weight .ensures, pow-pos (63 - leadingZeros 64 (c .before .before .before .before .before .loop .left)))
 
 loop-again : tie.Need-loop-again Inv-loop μ-loop
-loop-again c = rw (c .weight .ensures) (stand-next _ _ _ _ _ (c .before .before .before .before .before .loop .inv) (c .before .before .before .before .loop-test .taken) _ refl _ (item (c .before .before)))
+loop-again c = rw (c .weight .ensures) (stand-next _ _ _ _ _ (c .before .before .before .before .before .loop .inv) _ (of (c .before .before .before .before)) _ (item (c .before .before)))
 
 sub-result : tie.Need-sub-result Inv-loop μ-loop
 sub-result c = omega (arith, c .before .loop .inv .fewer)
