@@ -9,7 +9,7 @@ use lib.Dec.{eqb}
 use lib.IntN.{ℤ}
 use lib.ListN.{length, replicate}
 use Rattle.rules.specs.Answer.{Answer, ok, refused, if_then_else_}
-use Rattle.rules.specs.Entry.{Counts, RecordMap, Laid, Added, added, refusedOld, refusedNew}
+use Rattle.rules.specs.Entry.{mapPlaces, Counts, RecordMap, Laid, Added, added, refusedOld, refusedNew}
 use Rattle.walking.specs.declared.Cursor as walking-cursor
 use Rattle.walking.specs.declared.Met.{Met}
 use Rattle.walking.specs.declared.Met.the-variants as met
@@ -57,7 +57,7 @@ recordingChecked (refused n p) = record { number = n; place = p; blocks = 0; rec
 unfoldable pub recordFound : Answer RecordMap → RecordFound
 recordFound (ok m) =
     record { number = 0; place = 0; start = m .start; length = m .end - m .start; end = m .end; count = m .count; starts = m .starts }
-recordFound (refused n p) = record { number = n; place = p; start = 0; length = 0; end = 0; count = 0; starts = replicate 35 0 }
+recordFound (refused n p) = record { number = n; place = p; start = 0; length = 0; end = 0; count = 0; starts = replicate mapPlaces 0 }
 
 unfoldable pub itemFound : Answer Laid → ItemFound
 itemFound (ok l) = record { number = 0; place = 0; start = l .start; length = l .size }
@@ -97,7 +97,7 @@ metBy met.Finished w = record {
   block = 0;
   end = 0;
   count = 0;
-  starts = replicate 35 0;
+  starts = replicate mapPlaces 0;
   next = cursorOut (w .next);
 }
 metBy (met.Refused n p) w = record {
@@ -110,7 +110,7 @@ metBy (met.Refused n p) w = record {
   block = 0;
   end = 0;
   count = 0;
-  starts = replicate 35 0;
+  starts = replicate mapPlaces 0;
   next = cursorOut (w .next);
 }
 

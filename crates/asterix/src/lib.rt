@@ -7,6 +7,7 @@ use finding::ItemLocated;
 use finding::RecordPlace;
 use merging::Begun;
 use merging::Told;
+use records::PLACES;
 use sets::ItemSet;
 use walking::Met;
 ghost use mathlib.Core.Path.{_≡_};
@@ -89,7 +90,7 @@ pub struct RecordFound {
     pub length: usize,
     pub end: usize,
     pub count: usize,
-    pub starts: [u16; 35],
+    pub starts: [u16; PLACES],
 }
 
 // The record with a number, counted from 0: where it lies, and its map.
@@ -175,7 +176,7 @@ pub struct RecordMet {
     pub block: usize,
     pub end: usize,
     pub count: usize,
-    pub starts: [u16; 35],
+    pub starts: [u16; PLACES],
     pub next: Cursor,
 }
 
@@ -233,7 +234,7 @@ pub extern "C" fn asterix_next_record(recording: &[u8], cursor: Cursor) -> Recor
             block: 0,
             end: 0,
             count: 0,
-            starts: [0; 35],
+            starts: [0; PLACES],
             next,
         },
         Met::Refused { number, place } => RecordMet {
@@ -246,7 +247,7 @@ pub extern "C" fn asterix_next_record(recording: &[u8], cursor: Cursor) -> Recor
             block: 0,
             end: 0,
             count: 0,
-            starts: [0; 35],
+            starts: [0; PLACES],
             next,
         },
     }

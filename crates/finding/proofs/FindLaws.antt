@@ -19,7 +19,7 @@ use Rattle.rules.specs.Presence.{placeAt}
 use Rattle.rules.specs.Record.{Place, Category, Record, places, items, valueOf, writeRecord}
 use Rattle.rules.specs.Block.{writeAll}
 use Rattle.rules.specs.Catalogue.{categories}
-use Rattle.rules.specs.Entry.{Laid, laidAs, laidItems, Numbered, numbered, RecordMap, startOf, mapOf, Opened, openBlock, findRecord, isItem, findItem, layoutAs}
+use Rattle.rules.specs.Entry.{mapPlaces, Laid, laidAs, laidItems, Numbered, numbered, RecordMap, startOf, mapOf, Opened, openBlock, findRecord, isItem, findItem, layoutAs}
 use Rattle.rules.proofs.AnswerLaws.{refused-ok, ok-inj, bind-in, bind-out, bind-elim, need-in, need-elim, need-out, expect-in, expect-out, later-in, later-out, if-inv, if-true, if-false, some-inj, none-some, T-true, octetsOf-ok, Octets}
 use Rattle.rules.proofs.EntryLaws.{Lies, RecordWritten, record-written, ItemFound, item-found, item-absent, RecordFound, record-found, BodyFound, body-found, indexAs, start-found, start-absent}
 use Rattle.rules.proofs.LayoutLaws.{item-laws}
@@ -193,7 +193,7 @@ module _ (bs : List ℕ) (ref n : ℕ) (o : Opening) (k : Opens bs o) where
   once : distinct (places (o .category)) ≡ true
   once = sound-of categories tables-hold (k .block .cat) (o .category) (k .named) .references
 
-  pub places-few : length (places (o .category)) ≤ 35
+  pub places-few : length (places (o .category)) ≤ mapPlaces
   places-few = sound-of categories tables-hold (k .block .cat) (o .category) (k .named) .few
 
   -- where the map has a reference's item
@@ -367,7 +367,7 @@ module _ (bs : List ℕ) (ref n i count : ℕ) (k : Opens bs (record { category 
       item-nowhere bs ref n _ k (named .is-item) m p h ∙ (cc)
 
   -- the map has a place for it
-  pub index-in : (f : ℕ) → NamedAt ref 1 (places (categoryAt i)) f → f - 1 < 35
+  pub index-in : (f : ℕ) → NamedAt ref 1 (places (categoryAt i)) f → f - 1 < mapPlaces
   index-in f named = omega (arith, named .frn-is, index-few i named, places-few bs ref n _ k)
 
   -- 0 in the map

@@ -20,7 +20,7 @@ use Rattle.rules.specs.Presence.{has}
 use Rattle.rules.specs.Record.{Category, Place, places}
 use Rattle.rules.specs.Block.{categoryOf}
 use Rattle.rules.specs.Catalogue.{categories}
-use Rattle.rules.specs.Entry.{layoutAs}
+use Rattle.rules.specs.Entry.{mapPlaces, layoutAs}
 use Rattle.rules.proofs.AnswerLaws.{if-true, if-false, if-inv, some-inj, none-some, both-left, both-right}
 use Rattle.rules.proofs.Tables.{everyCategory}
 use Rattle.rules.proofs.EntryLaws.{indexAs}
@@ -121,18 +121,18 @@ frn-index ref k (some p ∷ ps) f h =
     (omega (arith, n .0), omega (arith, n .1)))
     (if-inv (eqb ref (p .reference)) (some k) (frnAs ref (k + 1) ps) h)
 
-frn-few : (ref i : ℕ) → frnIn ref (categoryAt i) ≤ 35
+frn-few : (ref i : ℕ) → frnIn ref (categoryAt i) ≤ mapPlaces
 frn-few ref i = go (frnAs ref 1 (places (categoryAt i))) refl
   where
-    go : (o : Option ℕ) → frnAs ref 1 (places (categoryAt i)) ≡ o → orNone o ≤ 35
+    go : (o : Option ℕ) → frnAs ref 1 (places (categoryAt i)) ≡ o → orNone o ≤ mapPlaces
     go none e = omega arith
     go (some f) e = let n = frn-index ref 1 (places (categoryAt i)) f e in omega (arith, n .0, n .1, places-few i)
 
-pub type-few : (i : ℕ) → typeFrn i ≤ 35
+pub type-few : (i : ℕ) → typeFrn i ≤ mapPlaces
 unfolding typeFrn
 type-few i = frn-few 0 i
 
-pub time-few : (i : ℕ) → timeFrn i ≤ 35
+pub time-few : (i : ℕ) → timeFrn i ≤ mapPlaces
 time-few i = frn-few (categoryAt i .time) i
 
 -- an FRN that a set has is none that is missing

@@ -11,7 +11,7 @@ use lib.ListN.{length, getD, take, drop, set, length-drop, length-set, getD-repl
 use lib.Seq.{take-at, drop-drop, getD-drop, getD-set-same, getD-set-other}
 use Rattle.rules.specs.Answer.{ok}
 use Rattle.rules.specs.Presence.{flags}
-use Rattle.rules.specs.Entry.{RecordMap}
+use Rattle.rules.specs.Entry.{mapPlaces, RecordMap}
 use Rattle.rules.proofs.AnswerLaws.{ok-inj, bind-elim, later-inv, Octets}
 use Rattle.rules.proofs.PresenceLaws.{flags-length}
 use Rattle.layouts.proofs.ReadLaws.{octets-drop}
@@ -35,10 +35,10 @@ module _ (i k : ℕ) (bs : List ℕ) (o : Octets bs) (b : k + length bs < 65_536
     end : v .here ≡ k + endFrom i ts (j + 1) bs at
     earlier : (g : ℕ) → g < j → getD (v .starts) g 0 ≡ getD (w .starts) g 0
     absent : (g : ℕ) → getD ts g false ≡ false → getD (v .starts) (j + g) 0 ≡ getD (w .starts) (j + g) 0
-    there : (g : ℕ) → getD ts g false ≡ true → j + g < 35 → getD (v .starts) (j + g) 0 ≡ k + endFrom i (take g ts) (j + 1) bs at
+    there : (g : ℕ) → getD ts g false ≡ true → j + g < mapPlaces → getD (v .starts) (j + g) 0 ≡ k + endFrom i (take g ts) (j + 1) bs at
 
   -- one item further
-  module _ (ts : List Bool) (j at : ℕ) (w v : Came) (e : w .here ≡ k + at) (n : length (w .starts) ≡ 35) (l : at ≤ length bs) (size : ℕ)
+  module _ (ts : List Bool) (j at : ℕ) (w v : Came) (e : w .here ≡ k + at) (n : length (w .starts) ≡ mapPlaces) (l : at ≤ length bs) (size : ℕ)
       (m : size ≡ octetsAt i (j + 1) (getD bs at 0)) (c : Comes ts (j + 1) (at + size) (passed i (j + 1) size (take size (drop at bs)) w) v) where
     before : (g : ℕ) → (g ≡ j → ⊥) → getD (set (w .starts) (j + 1 - 1) (w .here % 65_536)) g 0 ≡ getD (w .starts) g 0
     before g z = getD-set-other (w .starts) (j + 1 - 1) g (w .here % 65_536) 0 (λ y. z (omega (arith, y)))
@@ -49,7 +49,7 @@ module _ (i k : ℕ) (bs : List ℕ) (o : Octets bs) (b : k + length bs < 65_536
         let y : j + 1 + g ≡ j + suc g = omega arith in
         subst (λ x. getD (v .starts) x 0 ≡ getD (w .starts) x 0) y (c .absent g z ∙ before (j + 1 + g) (λ (x : j + 1 + g ≡ j). omega arith))
 
-    on : (g : ℕ) → getD (true ∷ ts) g false ≡ true → j + g < 35 → getD (v .starts) (j + g) 0 ≡ k + endFrom i (take g (true ∷ ts)) (j + 1) bs at
+    on : (g : ℕ) → getD (true ∷ ts) g false ≡ true → j + g < mapPlaces → getD (v .starts) (j + g) 0 ≡ k + endFrom i (take g (true ∷ ts)) (j + 1) bs at
     unfolding endFrom
     on zero z q =
         let y : j + 0 ≡ j + 1 - 1 = omega arith in
@@ -70,7 +70,7 @@ module _ (i k : ℕ) (bs : List ℕ) (o : Octets bs) (b : k + length bs < 65_536
       there = on;
     }
 
-  comes : (ts : List Bool) (j at : ℕ) (w v : Came) → w .here ≡ k + at → length (w .starts) ≡ 35 → at ≤ length bs
+  comes : (ts : List Bool) (j at : ℕ) (w v : Came) → w .here ≡ k + at → length (w .starts) ≡ mapPlaces → at ≤ length bs
       → walk i ts (j + 1) (drop at bs) w ≡ ok v → Comes ts j at w v
   unfolding walk endFrom
   comes [] j at w v e n l h =
@@ -94,7 +94,7 @@ module _ (i k : ℕ) (bs : List ℕ) (o : Octets bs) (b : k + length bs < 65_536
       off c zero z = c .earlier (j + 0) (omega arith)
       off c (suc g) z = let m : j + 1 + g ≡ j + suc g = omega arith in subst (λ x. getD (v .starts) x 0 ≡ getD (w .starts) x 0) m (c .absent g z)
 
-      on : Comes ts (j + 1) at w v → (g : ℕ) → getD (false ∷ ts) g false ≡ true → j + g < 35
+      on : Comes ts (j + 1) at w v → (g : ℕ) → getD (false ∷ ts) g false ≡ true → j + g < mapPlaces
           → getD (v .starts) (j + g) 0 ≡ k + endFrom i (take g (false ∷ ts)) (j + 1) bs at
       on c zero z q = absurd (false≢true z)
       on c (suc g) z q = let m : j + 1 + g ≡ j + suc g = omega arith in ap (λ x. getD (v .starts) x 0) (sym m) ∙ c .there g z (omega arith)
@@ -117,10 +117,10 @@ module _ (i k : ℕ) (bs : List ℕ) (o : Octets bs) (b : k + length bs < 65_536
     pub used : ℕ
     pub set-is : setAt i bs ≡ ok (bits, used)
     pub ends : m .end ≡ k + endOf i bits bs used
-    pub there : (g : ℕ) → g < 35 → isIn (g + 1) bits ≡ true → getD (m .starts) g 0 ≡ k + startOf i (g + 1) bits bs used
-    pub absent : (g : ℕ) → g < 35 → isIn (g + 1) bits ≡ false → getD (m .starts) g 0 ≡ 0
+    pub there : (g : ℕ) → g < mapPlaces → isIn (g + 1) bits ≡ true → getD (m .starts) g 0 ≡ k + startOf i (g + 1) bits bs used
+    pub absent : (g : ℕ) → g < mapPlaces → isIn (g + 1) bits ≡ false → getD (m .starts) g 0 ≡ 0
 
-  module _ (bits : ℕ) (h : bits < 2 ^ 63) (g : ℕ) (few : g < 35) where
+  module _ (bits : ℕ) (h : bits < 2 ^ 63) (g : ℕ) (few : g < mapPlaces) where
     flag-is : getD (flags 63 bits) g false ≡ isIn (g + 1) bits
     flag-is = let e : suc g ≡ g + 1 = omega arith in flag-at 63 bits g h (omega arith) ∙ ap (λ x. isIn x bits) e
 
@@ -153,5 +153,5 @@ module _ (i k : ℕ) (bs : List ℕ) (o : Octets bs) (b : k + length bs < 65_536
         set-is = s;
         ends = ap (λ r. r .end) (sym e) ∙ c .end;
         there = λ g few z. at g ∙ c .there g (flag-is (x .0) (t .0) g few ∙ z) (omega arith) ∙ ap (λ y. k + y) (start-is (x .0) (t .0) g few (x .1));
-        absent = λ g few z. at g ∙ c .absent g (flag-is (x .0) (t .0) g few ∙ z) ∙ getD-replicate 35 (0 + g) 0 0 (omega arith);
+        absent = λ g few z. at g ∙ c .absent g (flag-is (x .0) (t .0) g few ∙ z) ∙ getD-replicate mapPlaces (0 + g) 0 0 (omega arith);
       }

@@ -18,7 +18,7 @@ use Rattle.rules.specs.Presence.{has}
 use Rattle.rules.specs.Record.{Category, Record, places, items, valueOf, typeOf, judge, writeRecord, readRecord}
 use Rattle.rules.specs.Block.{categoryOf}
 use Rattle.rules.specs.Catalogue.{categories}
-use Rattle.rules.specs.Entry.{RecordMap, Laid, layoutAs, laid, laidItems, mapOf}
+use Rattle.rules.specs.Entry.{mapPlaces, RecordMap, Laid, layoutAs, laid, laidItems, mapOf}
 use Rattle.rules.specs.Entry as entry
 use Rattle.rules.specs.Merge.{numberIn, isOneOf, recordTime}
 use Rattle.rules.proofs.AnswerLaws.{refused-ok, bind-in, bind-elim, if-true, none-some, later-in, octetsOf-ok, Octets, Split}
@@ -82,12 +82,12 @@ data Seen (bs : List ℕ) (t : Bool) (s n : ℕ) : Option Values → Type 0 wher
   there : (u : List ℕ) → t ≡ true → Lies bs s u → length u ≡ n → Seen bs t s n (some ((pos (joined u) ∷ []) ∷ []))
 
 same-type : (bs : List ℕ) (t : Bool) (s kind : ℕ) (x : Option Values) → Seen bs t s 1 x → typeOf x ≡ ok kind
-    → (p : ℕ → Bool) (us : List ℕ) → ((k : ℕ) → p k ≡ has k us) → p (getD bs s 0) ≡ isOneOf (typeOf x) us
+    → (us : List ℕ) → has (getD bs s 0) us ≡ isOneOf (typeOf x) us
 unfolding typeOf
-same-type bs t s kind none (absent z) e p us h = refused-ok e
-same-type bs t s kind (some v) (there u z l n) e p us h =
+same-type bs t s kind none (absent z) e us = refused-ok e
+same-type bs t s kind (some v) (there u z l n) e us =
     let d : s + 0 ≡ s = omega arith in
-    ap p (ap (λ k. getD bs k 0) (sym d) ∙ lies-at l 0 (omega arith) ∙ one-joined u n) ∙ h (joined u)
+    ap (λ k. has k us) (ap (λ k. getD bs k 0) (sym d) ∙ lies-at l 0 (omega arith) ∙ one-joined u n)
 
 same-time : (bs : List ℕ) (t : Bool) (s : ℕ) (x : Option Values) → Seen bs t s 3 x → (k : Bool)
     → (if t then (if k then none else clockAt bs s) else none) ≡ (if k then none else numberIn x)
@@ -155,7 +155,7 @@ module _ (i : ℕ) (bs : List ℕ) (r : Record) (rest : List ℕ) (o : Octets bs
       found v e = item-found (places c) (flatten r) ref (1 + length r) (0 ∷ bs) v (written .each) once items-lie e
 
       -- at an FRN that is one more than the index
-      here : (f : ℕ) → f ≡ g + 1 → g < 35 → (x : Option Values) → valueOf ref (items c r) ≡ x → (t : Bool) → isIn f (lay .bits) ≡ t → Seen bs t (start f) n x
+      here : (f : ℕ) → f ≡ g + 1 → g < mapPlaces → (x : Option Values) → valueOf ref (items c r) ≡ x → (t : Bool) → isIn f (lay .bits) ≡ t → Seen bs t (start f) n x
       here f ef few none e true z =
           absurd (omega (arith, lay .there g few (ap (λ y. isIn y (lay .bits)) (sym ef) ∙ z), at ∙ start-absent (places c) (flatten r) ref (1 + length r) e))
       here f ef few none e false z = absent refl
@@ -196,7 +196,7 @@ module _ (i : ℕ) (bs : List ℕ) (r : Record) (rest : List ℕ) (o : Octets bs
   type-known : (kind : ℕ) → typeOf (valueOf 0 (items c r)) ≡ ok kind
       → isUntimed i (getD bs (start (typeFrn i)) 0) ≡ isOneOf (typeOf (valueOf 0 (items c r))) (c .untimed)
   type-known kind e =
-      same-type bs (isIn (typeFrn i) (lay .bits)) (start (typeFrn i)) kind (valueOf 0 (items c r)) type-seen e (isUntimed i) (c .untimed) (λ k. refl)
+      same-type bs (isIn (typeFrn i) (lay .bits)) (start (typeFrn i)) kind (valueOf 0 (items c r)) type-seen e (c .untimed)
 
   time-is : timeIn i (lay .bits) bs (lay .used) ≡ recordTime c r
   unfolding timeIn recordTime writeRecord judge

@@ -1,13 +1,13 @@
 // Item by item, in one pass: where there is a time, the items before it, and from there on the others.
 use quick_items::EXTENDED;
 use quick_items::Steps;
-use quick_items::octet;
 use quick_items::steps;
 use quick_items::word_of;
 use sets::ItemSet;
 use sets::SetRead;
 use sets::type_frn;
 use sets::weight;
+use tables::octet;
 use tables::profile_of;
 use tables::profile_row;
 use tables::wide;

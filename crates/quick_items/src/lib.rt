@@ -2,7 +2,7 @@
 // does not tell is left to the exact check. The same table says how many octets an item has that was checked.
 use tables::FRNS;
 use tables::PROFILES;
-pub use tables::octet;
+use tables::octet;
 ghost use mathlib.Core.Path.{_≡_};
 ghost use mathlib.Core.Bool.{true};
 ghost use Prim.Native.Nat.{_≤_, _<_, _^_};

@@ -7,7 +7,7 @@ use super::lent::Types;
 use super::record::later_items;
 use quick_items::Steps;
 use quick_items::is_kept;
-use quick_items::octet;
+use tables::octet;
 ghost use mathlib.Core.Path.{_≡_};
 ghost use mathlib.Core.Bool.{true};
 ghost use Prim.Native.Nat.{_<_, _≤_};

@@ -14,7 +14,7 @@ use Rattle.rules.specs.Layout.{Layout, fixed, repeated, led, extended, flatten,
 use Rattle.rules.specs.Presence.{placeAt}
 use Rattle.rules.specs.Record.{Place}
 use Rattle.rules.specs.Catalogue.{categories}
-use Rattle.rules.specs.Entry.{profileAt}
+use Rattle.rules.specs.Entry.{mapPlaces, profileAt}
 use Rattle.rules.proofs.AnswerLaws.{refused-ok, ok-inj, bind-elim, expect-elim, none-some}
 use Rattle.items.specs.Answers.{sizeOf, checkAt}
 use Rattle.sets.proofs.ProfileLaws.{profile-at, places-few}
@@ -123,13 +123,13 @@ some-within (x ∷ l) zero a h = omega arith
 some-within (x ∷ l) (suc n) a h = omega (arith, some-within l n a h)
 
 -- a profile has no item at FRN 0, nor past FRN 35
-place-few : (ps : List (List (Option Place))) (f : ℕ) (p : Place) → length (flatten ps) ≤ 35 → placeAt ps f ≡ some p → (1 ≤ f) × (f ≤ 35)
+place-few : (ps : List (List (Option Place))) (f : ℕ) (p : Place) → length (flatten ps) ≤ mapPlaces → placeAt ps f ≡ some p → (1 ≤ f) × (f ≤ mapPlaces)
 place-few ps zero p l h = none-some h
 place-few ps (suc f) p l h = (omega arith, omega (arith, some-within (flatten ps) f p h))
 
-pub check-few : (i f : ℕ) (bs : List ℕ) (n : ℕ) → checkAt i f bs ≡ ok n → (1 ≤ f) × (f ≤ 35)
+pub check-few : (i f : ℕ) (bs : List ℕ) (n : ℕ) → checkAt i f bs ≡ ok n → (1 ≤ f) × (f ≤ mapPlaces)
 unfolding checkAt
 check-few i f bs n h =
     bind-elim _ _ h λ p q h₁.
     expect-elim _ _ q λ e.
-    place-few (profileAt categories i) f p (subst (λ ps. length (flatten ps) ≤ 35) (profile-at i) (places-few i)) e
+    place-few (profileAt categories i) f p (subst (λ ps. length (flatten ps) ≤ mapPlaces) (profile-at i) (places-few i)) e

@@ -16,7 +16,7 @@ use Rattle.rules.specs.Answer.{Answer, ok, refused, octetsOf}
 use Rattle.rules.specs.Layout.{flatten, readChain}
 use Rattle.rules.specs.Presence.{flags, readPresence, readRows, readPlaces}
 use Rattle.rules.specs.Record.{Record, places, judge, readPlace, writeRecord, readRecord}
-use Rattle.rules.specs.Entry.{RecordMap, mapOf, over, laid, startOf, countOf}
+use Rattle.rules.specs.Entry.{mapPlaces, RecordMap, mapOf, over, laid, startOf, countOf}
 use Rattle.rules.proofs.AnswerLaws.{refused-ok, ok-inj, bind-in, bind-out, bind-elim, later-in, later-out, later-inv, octetsOf-ok, Octets, Split, after}
 use Rattle.rules.proofs.RecordLaws.{record-laws, record-starts}
 use Rattle.sets.specs.Sets.{categoryAt, bitsOf, setAt}
@@ -75,13 +75,13 @@ module _ (i k : ℕ) (bs : List ℕ) (o : Octets bs) (b : k + length bs < 65_536
         fspec-count : length r ≡ length bs - length bs₁
         fspec-count = rows-count i at ts bs₁ (f .rows) (f .clean) r rest g ∙ sym (f .took)
 
-        starts : cameTo i at r .starts ≡ over (map startOf (laid (k + length r) (places (categoryAt i)) (flatten r))) (replicate 35 0)
+        starts : cameTo i at r .starts ≡ over (map startOf (laid (k + length r) (places (categoryAt i)) (flatten r))) (replicate mapPlaces 0)
         starts =
-            comes-starts i 0 (places (categoryAt i)) (flatten r) (startAt at) [] 35 refl refl (places-few i)
+            comes-starts i 0 (places (categoryAt i)) (flatten r) (startAt at) [] mapPlaces refl refl (places-few i)
             (let l : length bs ≡ length ts + length bs₁ = f .long in
             let t : length bs - length bs₁ ≡ length ts = f .took in
             omega (arith, items-long i at ts bs₁ (f .rows) (f .clean) r rest g, b))
-            ∙ ap (λ n. over (map startOf (laid (k + n) (places (categoryAt i)) (flatten r))) (replicate 35 0)) (sym fspec-count)
+            ∙ ap (λ n. over (map startOf (laid (k + n) (places (categoryAt i)) (flatten r))) (replicate mapPlaces 0)) (sym fspec-count)
 
         ends : cameTo i at r .here ≡ k + length (octetsOf (writeRecord (categoryAt i) r))
         ends =

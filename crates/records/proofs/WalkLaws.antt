@@ -15,6 +15,7 @@ use lib.ListN.{length, take, drop, getD, set, replicate, length-drop, length-set
 use Rattle.rules.specs.Answer.{Answer, ok, refused, if_then_else_}
 use Rattle.rules.specs.Presence.{flags}
 use Rattle.rules.proofs.AnswerLaws.{bind-in, bind-out, later-in, later-out}
+use Rattle.rules.specs.Entry.{mapPlaces}
 use Rattle.items.specs.declared.ItemCheck.{ItemCheck}
 use Rattle.items.specs.declared.ItemCheck.the-variants as item
 use Rattle.items.specs.Answers.{checkAt, checkedOf}
@@ -63,10 +64,10 @@ pub record Standing (i bits : ℕ) (part : List ℕ) (at left : ℕ) (rest : Lis
   pub few : from ≤ 64
   pub below : left < 2 ^ (64 - from)
   pub room : here + length rest < 2 ^ 63
-  pub full : length starts ≡ 35
+  pub full : length starts ≡ mapPlaces
   pub same : walk i (flags (64 - from) left) from rest (came here count starts kind) ≡ walk i (flags 63 bits) 1 part (startAt at)
 
-pub stand-first : (i bits : ℕ) (part : List ℕ) (at : ℕ) → bits < 2 ^ 63 → at + length part < 2 ^ 63 → Standing i bits part at bits part at 0 (replicate 35 0) 0
+pub stand-first : (i bits : ℕ) (part : List ℕ) (at : ℕ) → bits < 2 ^ 63 → at + length part < 2 ^ 63 → Standing i bits part at bits part at 0 (replicate mapPlaces 0) 0
 stand-first i bits part at h r = record { from = 1; low = omega arith; few = omega arith; below = h; room = r; full = refl; same = refl }
 
 module _ (i bits : ℕ) (part : List ℕ) (at left : ℕ) (rest : List ℕ) (here count : ℕ) (starts : List ℕ) (kind : ℕ)

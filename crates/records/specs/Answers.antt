@@ -5,7 +5,7 @@ use mathlib.Core.List.{List}
 use lib.ListN.{length, replicate}
 use Rattle.rules.specs.Answer.{Answer, ok, refused, _>>=_, later}
 use Rattle.rules.specs.Record.{readRecord}
-use Rattle.rules.specs.Entry.{mapOf, newRecord}
+use Rattle.rules.specs.Entry.{mapPlaces, mapOf, newRecord}
 use Rattle.rules.specs.Entry as entry
 use Rattle.items.specs.declared.ItemCheck.{ItemCheck}
 use Rattle.items.specs.declared.ItemCheck.the-variants as item
@@ -54,7 +54,7 @@ endOf (checked.Refused n p) = refused n p
 
 -- the map with every place absent, and the map that an answer leaves
 abbrev pub absent : RecordMap
-absent = record { starts = replicate 35 0; end = 0; count = 0 }
+absent = record { starts = replicate mapPlaces 0; end = 0; count = 0 }
 
 abbrev pub mapIn : Answer entry.RecordMap → RecordMap
 mapIn (ok m) = record { starts = m .starts; end = m .end; count = m .count }

@@ -7,7 +7,7 @@ use lib.Dec.{ltb, eqb}
 use lib.ListN.{length, take, drop, getD, set, replicate}
 use Rattle.rules.specs.Answer.{Answer, ok, _>>=_, need_or_then_, if_then_else_, later}
 use Rattle.rules.specs.Presence.{flags}
-use Rattle.rules.specs.Entry.{RecordMap}
+use Rattle.rules.specs.Entry.{mapPlaces, RecordMap}
 use Rattle.items.specs.Answers.{checkAt}
 use Rattle.sets.specs.Sets.{within, setAt}
 use Rattle.sets.specs.Steps.{usableBits, typeFrn, judgeSet, rowsLeft}
@@ -38,7 +38,7 @@ walk i (true ∷ ts) f bs w = later (w .here) (checkAt i f bs) >>= λ n. walk i 
 
 -- a walk that starts at a place
 abbrev pub startAt : ℕ → Came
-startAt k = record { here = k; count = 0; starts = replicate 35 0; kind = 0 }
+startAt k = record { here = k; count = 0; starts = replicate mapPlaces 0; kind = 0 }
 
 -- ---- a record
 

@@ -48,9 +48,12 @@ fn item_place(c: ItemCheck) -> usize
 
 // ---- the items, and the record map
 
+// How many FRNs a record map has a place for: as many as the greatest profile has.
+pub const PLACES: usize = 35;
+
 // Where the item of each FRN starts, FRN 1 first, counted from the block's start, 0 where it is absent; the record's end, and how many items it has.
 pub struct RecordMap {
-    pub starts: [u16; 35],
+    pub starts: [u16; PLACES],
     pub end: usize,
     pub count: usize,
 }
@@ -61,7 +64,7 @@ impl RecordMap {
         ensures { λ r. ⌜ r ≡ absent ⌝ }
     {
         RecordMap {
-            starts: [0; 35],
+            starts: [0; PLACES],
             end: 0,
             count: 0,
         }
@@ -85,7 +88,7 @@ pub struct RecordWalked {
 // How far a walk over items came: its answer, and beside it what the map and the message type need.
 struct ItemsWalked {
     checked: RecordChecked,
-    starts: [u16; 35],
+    starts: [u16; PLACES],
     count: usize,
     kind: u8,
 }
@@ -96,7 +99,7 @@ fn stopped(number: u8, place: usize) -> ItemsWalked
 {
     ItemsWalked {
         checked: RecordChecked::Refused { number, place },
-        starts: [0; 35],
+        starts: [0; PLACES],
         count: 0,
         kind: 0,
     }
@@ -139,7 +142,7 @@ fn walk_items(profile: usize, set: ItemSet, part: &[u8], at: usize) -> ItemsWalk
     let mut rest = part;
     let mut here = at;
     let mut count: usize = 0;
-    let mut starts = [0u16; 35];
+    let mut starts = [0u16; PLACES];
     let mut kind: u8 = 0;
     while left != 0 {
         let frn = u64::leading_zeros(left) as usize;

@@ -17,6 +17,7 @@ use Rattle.rules.specs.Record.{Place, Category, places, at}
 use Rattle.rules.specs.Catalogue.{categories}
 use Rattle.rules.proofs.AnswerLaws.{both-left, both-right}
 use Rattle.rules.proofs.Tables.{everyCategory, distinct, soundCategory, catsOf, once, Sound, sound-category, tables-hold}
+use Rattle.rules.specs.Entry.{mapPlaces}
 use Rattle.tables.specs.Places.{frnAs}
 use Rattle.tables.specs.Profiles.{frnIn}
 pub use Rattle.tables.proofs.ProfileLaws.{category-test, profile-at}
@@ -47,7 +48,7 @@ profile-short i = leb-true _ _ (category-test (λ c. leb (length (c .profile)) 8
 category-sound : (i : ℕ) → Sound (categoryAt i)
 category-sound i = sound-category (categoryAt i) (category-test soundCategory (both-left (everyCategory soundCategory categories) (once (catsOf categories)) tables-hold) refl i)
 
-pub places-few : (i : ℕ) → length (places (categoryAt i)) ≤ 35
+pub places-few : (i : ℕ) → length (places (categoryAt i)) ≤ mapPlaces
 places-few i = category-sound i .few
 
 pub places-distinct : (i : ℕ) → distinct (places (categoryAt i)) ≡ true

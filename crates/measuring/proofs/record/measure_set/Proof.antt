@@ -9,12 +9,13 @@ use Rattle.measuring.proofs.CategoryLaws.{time-few, frn-some}
 use Rattle.measuring.proofs.EndLaws.{end-far, early-few, time-absent, time-none, time-there, starts, ends, measure-past, measure-there}
 use Rattle.measuring.proofs.record.measure_set.Statement.{statement}
 use Rattle.measuring.proofs.record.measure_set.Tie as tie
+use Rattle.rules.specs.Entry.{mapPlaces}
 
 time-frn-requires : tie.Need-time-frn-requires
 time-frn-requires c κs = search needs
 
 -- the FRN of the time; where the set has it, it is one
-few : (c : tie.After-time-frn) → c .time-frn .result ≤ 35
+few : (c : tie.After-time-frn) → c .time-frn .result ≤ mapPlaces
 few c = omega (arith, time-few (c .before .before .args .profile), c .time-frn .ensures)
 
 some : (c : tie.Else1) → 1 ≤ c .before .time-frn .result
