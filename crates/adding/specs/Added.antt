@@ -7,8 +7,6 @@ use lib.ListN.{length, set}
 use lib.Seq.{paste}
 use Rattle.rules.specs.Answer.{Answer, ok, refused}
 use Rattle.rules.specs.Entry.{Added, added, refusedOld, refusedNew}
-use Rattle.records.specs.declared.NewChecked.{NewChecked}
-use Rattle.records.specs.declared.NewChecked.the-variants as newChecked
 use Rattle.adding.specs.declared.add.RecordAdded.{RecordAdded}
 use Rattle.adding.specs.declared.add.RecordAdded.the-variants as recordAdded
 
@@ -25,15 +23,6 @@ addedAs (refusedOld n p) = (refused n p, false)
 addedAs (refusedNew n p) = (refused n p, true)
 
 -- ---- as the code follows the rules
-
--- the number of a refusal and its place, 0 where there is none
-abbrev pub newNumber : NewChecked → ℕ
-newNumber (newChecked.Length n) = 0
-newNumber (newChecked.Refused n p) = n
-
-abbrev pub newPlace : NewChecked → ℕ
-newPlace (newChecked.Length n) = 0
-newPlace (newChecked.Refused n p) = p
 
 -- an output with LEN renewed, then the FSPEC and the items laid after the octets in use
 abbrev pub laid : List ℕ → ℕ → ℕ → List ℕ → List ℕ → List ℕ

@@ -2,7 +2,7 @@
 use blocks::BlockChecked;
 use blocks::HEAD;
 use blocks::open_block;
-use records::NewChecked;
+use records::RecordChecked;
 use sets::ItemSet;
 ghost use mathlib.Core.Path.{_≡_};
 ghost use Prim.Native.Nat.{_+_, _/_, _%_, _≤_, _<_};
@@ -11,7 +11,7 @@ ghost use lib.Seq.{paste};
 ghost use Rattle.rules.specs.Catalogue.{categories};
 ghost use Rattle.rules.specs.Entry.{addRecord, leavesAdded};
 ghost use Rattle.sets.specs.Sets.{frnsOf, fspecAt};
-ghost use Rattle.adding.specs.Added.{addedOf, addedAs, newNumber, newPlace, laid};
+ghost use Rattle.adding.specs.Added.{addedOf, addedAs, laid};
 
 // The longest that LEN can say.
 const LONGEST: usize = 65535;
@@ -21,24 +21,6 @@ pub enum RecordAdded {
     Length(usize),
     RefusedOld { number: u8, place: usize },
     RefusedNew { number: u8, place: usize },
-}
-
-fn new_number(checked: NewChecked) -> u8
-    ensures { λ r. ⌜ r ≡ newNumber checked ⌝ }
-{
-    match checked {
-        NewChecked::Length(_) => 0,
-        NewChecked::Refused { number, place: _ } => number,
-    }
-}
-
-fn new_place(checked: NewChecked) -> usize
-    ensures { λ r. ⌜ r ≡ newPlace checked ⌝ }
-{
-    match checked {
-        NewChecked::Length(_) => 0,
-        NewChecked::Refused { number: _, place } => place,
-    }
 }
 
 // LEN, the higher octet first.
@@ -107,10 +89,10 @@ pub fn add_record(out: &mut [u8], used: usize, set: ItemSet, items: &[u8]) -> Re
     };
     let profile = old.profile;
     let new = records::check_new(profile, set, items);
-    let NewChecked::Length(n) = new else {
+    let RecordChecked::Ends { end: n } = new else {
         return RecordAdded::RefusedNew {
-            number: new_number(new),
-            place: new_place(new),
+            number: records::checked_number(new),
+            place: records::checked_place(new),
         };
     };
     if LONGEST - used < n {

@@ -10,9 +10,7 @@ use Rattle.records.specs.declared.RecordMap.{RecordMap}
 use Rattle.records.specs.declared.RecordChecked.{RecordChecked}
 use Rattle.records.specs.declared.RecordChecked.the-variants as checked
 use Rattle.records.specs.declared.RecordWalked.{RecordWalked}
-use Rattle.records.specs.declared.NewChecked.{NewChecked}
-use Rattle.records.specs.declared.NewChecked.the-variants as new
-use Rattle.records.specs.Answers.{absent, endOf, Walked, recordAt, newOf, newAt}
+use Rattle.records.specs.Answers.{absent, endOf, Walked, recordAt, newAt}
 
 -- ---- `RecordMap::absent`
 
@@ -34,12 +32,6 @@ one-check-record profile part at a b p q =
 
 -- ---- `check_new`
 
-new-told : (a b : NewChecked) → newOf a ≡ newOf b → a ≡ b
-new-told (new.Length m) (new.Length n) e = cc
-new-told (new.Length m) (new.Refused n p) e = let z : _≡_ {A = ℕ} 0 1 = cc in absurd (omega arith)
-new-told (new.Refused m p) (new.Length n) e = let z : _≡_ {A = ℕ} 0 1 = cc in absurd (omega arith)
-new-told (new.Refused m p) (new.Refused n q) e = cc
-
-pub one-check-new : (profile : ℕ) (set : ItemSet) (items : List ℕ) (a b : NewChecked)
-    → newOf a ≡ newAt profile (set .bits) items → newOf b ≡ newAt profile (set .bits) items → a ≡ b
-one-check-new profile set items a b p q = new-told a b (p ∙ sym q)
+pub one-check-new : (profile : ℕ) (set : ItemSet) (items : List ℕ) (a b : RecordChecked)
+    → endOf a ≡ newAt profile (set .bits) items → endOf b ≡ newAt profile (set .bits) items → a ≡ b
+one-check-new profile set items a b p q = end-told a b (p ∙ sym q)

@@ -16,8 +16,6 @@ use Rattle.records.specs.declared.RecordChecked.{RecordChecked}
 use Rattle.records.specs.declared.RecordChecked.the-variants as checked
 use Rattle.records.specs.declared.RecordWalked.{RecordWalked}
 use Rattle.records.specs.declared.ItemsWalked.{ItemsWalked}
-use Rattle.records.specs.declared.NewChecked.{NewChecked}
-use Rattle.records.specs.declared.NewChecked.the-variants as new
 
 -- ---- the items
 
@@ -70,10 +68,6 @@ unfoldable pub recordAt : ℕ → ℕ → List ℕ → Answer entry.RecordMap
 recordAt i k bs = later k (readRecord (categoryAt i) bs >>= λ x. ok (mapOf (categoryAt i) (record { start = k; value = x .0 })))
 
 -- ---- a new record
-
-abbrev pub newOf : NewChecked → Answer ℕ
-newOf (new.Length n) = ok n
-newOf (new.Refused n p) = refused n p
 
 -- the length of the record that a set and its items make
 unfoldable pub newAt : ℕ → ℕ → List ℕ → Answer ℕ

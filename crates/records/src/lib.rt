@@ -25,7 +25,7 @@ ghost use Rattle.rules.specs.Presence.{flags};
 ghost use Rattle.items.specs.Answers.{checkAt, checkedOf};
 ghost use Rattle.quick_items.specs.Item.{soundSteps};
 ghost use Rattle.records.specs.Walk.{walk, startAt};
-ghost use Rattle.records.specs.Answers.{itemNumber, itemPlace, cameOf, absent, checkedNumber, checkedPlace, Walked, recordAt, newOf, newAt};
+ghost use Rattle.records.specs.Answers.{itemNumber, itemPlace, cameOf, absent, checkedNumber, checkedPlace, endOf, Walked, recordAt, newAt};
 
 // The number of a refusal, and its place; 0 where there is none.
 fn item_number(c: ItemCheck) -> u8
@@ -224,27 +224,20 @@ pub fn check_record(profile: usize, part: &[u8], at: usize) -> RecordWalked
 
 // ---- a new record
 
-// What checking a new record answers.
-pub enum NewChecked {
-    // How many octets the record has, its FSPEC among them.
-    Length(usize),
-    // The number of the refusal and its place, counted from the items' start.
-    Refused { number: u8, place: usize },
-}
-
-// The record that a set and its items, end to end, make: 7, 8; 9 to 11 of each item; 18; 12 to 15.
-pub fn check_new(profile: usize, set: ItemSet, items: &[u8]) -> NewChecked
-    ensures { λ r. ⌜ newOf r ≡ newAt profile (set .bits) (now (items .entry)) ⌝ }
+// The record that a set and its items, end to end, make: 7, 8; 9 to 11 of each item; 18; 12 to 15. It ends after its FSPEC and its items; a refusal's
+// place is counted from the items' start.
+pub fn check_new(profile: usize, set: ItemSet, items: &[u8]) -> RecordChecked
+    ensures { λ r. ⌜ endOf r ≡ newAt profile (set .bits) (now (items .entry)) ⌝ }
 {
     let bits = set.bits;
     if bits == 0 {
-        return NewChecked::Refused {
+        return RecordChecked::Refused {
             number: 7,
             place: 0,
         };
     }
     if !set.is_within(usable(profile)) {
-        return NewChecked::Refused {
+        return RecordChecked::Refused {
             number: 8,
             place: 0,
         };
@@ -252,23 +245,25 @@ pub fn check_new(profile: usize, set: ItemSet, items: &[u8]) -> NewChecked
     let w = walk_items(profile, set, items, 0);
     let c = w.checked;
     let RecordChecked::Ends { end } = c else {
-        return NewChecked::Refused {
+        return RecordChecked::Refused {
             number: checked_number(c),
             place: checked_place(c),
         };
     };
     if end != items.len() {
-        return NewChecked::Refused {
+        return RecordChecked::Refused {
             number: 18,
             place: end,
         };
     }
     let j = judge(profile, set, w.kind);
     let Judgement::Right = j else {
-        return NewChecked::Refused {
+        return RecordChecked::Refused {
             number: judged_number(j),
             place: 0,
         };
     };
-    NewChecked::Length(octets_of(bits) + items.len())
+    RecordChecked::Ends {
+        end: octets_of(bits) + items.len(),
+    }
 }

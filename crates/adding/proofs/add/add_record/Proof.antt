@@ -10,10 +10,9 @@ use lib.ListN.{length, take}
 use Rattle.rules.specs.Answer.{ok, refused}
 use Rattle.rules.specs.Entry.{newRecord}
 use Rattle.sets.specs.Sets.{categoryAt, frnsOf, fspecAt}
-use Rattle.records.specs.Answers.{newOf, newAt}
+use Rattle.records.specs.Answers.{checkedNumber as newNumber, checkedPlace as newPlace, endOf, newAt}
 use Rattle.blocks.specs.Read.{Opening, openFrom}
 use Rattle.blocks.specs.Answers.{checkedNumber, checkedPlace, openedBy}
-use Rattle.adding.specs.Added.{newNumber, newPlace}
 use Rattle.blocks.proofs.LoopLaws.{octets-each}
 use Rattle.adding.proofs.AddLaws.{add-none, add-old, add-new, old-both, new-both, old-len, new-refused, new-whole, long-both, full-both, added-both}
 use Rattle.adding.proofs.add.add_record.Statement.{statement}
@@ -35,7 +34,7 @@ in-use c = old-len _ _ (opening c) (octets-each (c .before .before .before .befo
 
 -- the new record
 checked : (c : tie.After-known-told) → newAt (c .before .before .before .before .before .before .open-block .result .profile) (c .before .before .before .before .before .before .before .before .before .before .before .before .args .set .bits) (c .before .before .before .before .before .before .before .before .before .before .before .before .args .items .now) ≡ ok (c .before .new .given .0 .0)
-checked c = sym (c .before .before .before .check-new .ensures) ∙ ap newOf (c .before .new .given .1)
+checked c = sym (c .before .before .before .check-new .ensures) ∙ ap endOf (c .before .new .given .1)
 
 whole : (c : tie.After-known-told)
     → (newRecord (opening (c .before .before .before .before) .category) (frnsOf (c .before .before .before .before .before .before .before .before .before .before .before .before .args .set .bits)) (c .before .before .before .before .before .before .before .before .before .before .before .before .args .items .now) ≡ ok (fspecAt (c .before .before .before .before .before .before .open-block .result .profile) (c .before .before .before .before .before .before .before .before .before .before .before .before .args .set .bits) ++ c .before .before .before .before .before .before .before .before .before .before .before .before .args .items .now))
@@ -90,11 +89,11 @@ enum-known-new c = search needs
 enum-told-3 : tie.Need-enum-told-3
 enum-told-3 c = search needs
 
-new-number-requires : tie.Need-new-number-requires
-new-number-requires c κs = search needs
+checked-number-requires : tie.Need-checked-number-requires
+checked-number-requires c κs = search needs
 
-new-place-requires : tie.Need-new-place-requires
-new-place-requires c κs = search needs
+checked-place-requires : tie.Need-checked-place-requires
+checked-place-requires c κs = search needs
 
 same-length-2 : tie.Need-same-length-2
 same-length-2 c = search needs
@@ -104,8 +103,8 @@ returns-3 c =
     new-both _
     (add-new _ _ _ _ (c .before .before .before .before .before .before .before .before .before .before .if1 .left) (opening (c .before .before .before .before .before)) _ _ (is-open (c .before .before .before .before .before))
     (new-refused _ _ _ _ _
-    (sym (c .before .before .before .before .check-new .ensures) ∙ ap newOf (c .before .before .enum-told3 .given .1)
-    ∙ ap₂ refused (sym (c .before .new-number .ensures ∙ ap newNumber (c .before .before .enum-told3 .given .1))) (sym (c .new-place .ensures ∙ ap newPlace (c .before .before .enum-told3 .given .1))))))
+    (sym (c .before .before .before .before .check-new .ensures) ∙ ap endOf (c .before .before .enum-told3 .given .1)
+    ∙ ap₂ refused (sym (c .before .checked-number .ensures ∙ ap newNumber (c .before .before .enum-told3 .given .1))) (sym (c .checked-place .ensures ∙ ap newPlace (c .before .before .enum-told3 .given .1))))))
 
 sub-if2 : tie.Need-sub-if2
 sub-if2 c = omega (arith, in-use (c .before .before .before .before) .1)
@@ -152,8 +151,8 @@ add-record-spec =
     check-new-requires
     enum-known-new
     enum-told-3
-    new-number-requires
-    new-place-requires
+    checked-number-requires
+    checked-place-requires
     same-length-2
     returns-3
     sub-if2
