@@ -72,7 +72,23 @@ cursorIn c = record { block = c .block; place = c .place; end = c .end; category
 abbrev pub cursorOut : walking-cursor.Cursor → Cursor
 cursorOut c = record { block = c .block; place = c .place; end = c .end; category = c .category }
 
--- `met` is 1 where a record was met; without one all is 0 but a refusal's number and place, and `next`, where the walk goes on
+-- without a record all is 0 but a refusal's number and place, and `next`, where the walk goes on
+abbrev pub unmetBy : ℕ → ℕ → Cursor → RecordMet
+unmetBy n p c = record {
+  number = n;
+  met = 0;
+  category = 0;
+  place = p;
+  start = 0;
+  length = 0;
+  block = 0;
+  end = 0;
+  count = 0;
+  starts = replicate mapPlaces 0;
+  next = c;
+}
+
+-- `met` is 1 where a record was met
 abbrev pub metBy : Met → Walked → RecordMet
 metBy (met.Record k s l) w = record {
   number = 0;
@@ -87,32 +103,8 @@ metBy (met.Record k s l) w = record {
   starts = w .map .starts;
   next = cursorOut (w .next);
 }
-metBy met.Finished w = record {
-  number = 0;
-  met = 0;
-  category = 0;
-  place = 0;
-  start = 0;
-  length = 0;
-  block = 0;
-  end = 0;
-  count = 0;
-  starts = replicate mapPlaces 0;
-  next = cursorOut (w .next);
-}
-metBy (met.Refused n p) w = record {
-  number = n;
-  met = 0;
-  category = 0;
-  place = p;
-  start = 0;
-  length = 0;
-  block = 0;
-  end = 0;
-  count = 0;
-  starts = replicate mapPlaces 0;
-  next = cursorOut (w .next);
-}
+metBy met.Finished w = unmetBy 0 0 (cursorOut (w .next))
+metBy (met.Refused n p) w = unmetBy n p (cursorOut (w .next))
 
 unfoldable pub recordMet : Walked → RecordMet
 recordMet w = metBy (w .met) w

@@ -21,7 +21,7 @@ ghost use Rattle.rules.specs.Merge.{mergeStep};
 ghost use Rattle.merging.specs.Run.{beginOf};
 ghost use Rattle.merging.specs.Many.{manyOf};
 ghost use Prim.Native.Nat.{_/_};
-ghost use Rattle.asterix.specs.Answers.{blockChecked, recordingChecked, recordFound, itemFound, cursorIn, recordMet, logNumber, mergeStepped, headOut, headIn, mergeOut, mergeIn, noneBegun, mergeBegun, mergeNext, itemRead, itemWritten, recordAdded};
+ghost use Rattle.asterix.specs.Answers.{blockChecked, recordingChecked, recordFound, itemFound, cursorIn, unmetBy, recordMet, logNumber, mergeStepped, headOut, headIn, mergeOut, mergeIn, noneBegun, mergeBegun, mergeNext, itemRead, itemWritten, recordAdded};
 
 // ---- checking
 
@@ -180,6 +180,25 @@ pub struct RecordMet {
     pub next: Cursor,
 }
 
+// A step that meets no record.
+fn unmet(number: u8, place: usize, next: Cursor) -> RecordMet
+    ensures { λ r. ⌜ r ≡ unmetBy number place next ⌝ }
+{
+    RecordMet {
+        number,
+        met: 0,
+        category: 0,
+        place,
+        start: 0,
+        length: 0,
+        block: 0,
+        end: 0,
+        count: 0,
+        starts: [0; PLACES],
+        next,
+    }
+}
+
 // The record at a cursor, or the first of the next block.
 #[no_mangle]
 pub extern "C" fn asterix_next_record(recording: &[u8], cursor: Cursor) -> RecordMet
@@ -224,32 +243,8 @@ pub extern "C" fn asterix_next_record(recording: &[u8], cursor: Cursor) -> Recor
                 next,
             }
         }
-        Met::Finished => RecordMet {
-            number: 0,
-            met: 0,
-            category: 0,
-            place: 0,
-            start: 0,
-            length: 0,
-            block: 0,
-            end: 0,
-            count: 0,
-            starts: [0; PLACES],
-            next,
-        },
-        Met::Refused { number, place } => RecordMet {
-            number,
-            met: 0,
-            category: 0,
-            place,
-            start: 0,
-            length: 0,
-            block: 0,
-            end: 0,
-            count: 0,
-            starts: [0; PLACES],
-            next,
-        },
+        Met::Finished => unmet(0, 0, next),
+        Met::Refused { number, place } => unmet(number, place, next),
     }
 }
 
