@@ -2,15 +2,19 @@
 use blocks::BlockChecked;
 use blocks::HEAD;
 use blocks::open_block;
+use quick_items::Steps;
+use quick_items::steps;
 use records::RecordChecked;
 use sets::ItemSet;
 ghost use mathlib.Core.Path.{_≡_};
+ghost use mathlib.Core.Bool.{true};
 ghost use Prim.Native.Nat.{_+_, _/_, _%_, _≤_, _<_};
 ghost use lib.ListN.{length, set};
 ghost use lib.Seq.{paste};
 ghost use Rattle.rules.specs.Catalogue.{categories};
 ghost use Rattle.rules.specs.Entry.{addRecord, leavesAdded};
 ghost use Rattle.sets.specs.Sets.{frnsOf, fspecAt};
+ghost use Rattle.quick_items.specs.Item.{soundSteps};
 ghost use Rattle.adding.specs.Added.{addedOf, addedAs, laid};
 
 // The longest that LEN can say.
@@ -68,8 +72,9 @@ fn lay_record(out: &mut [u8], used: usize, len: usize, profile: usize, set: Item
     lay_octets(&mut *out, used + count, items);
 }
 
-// Into an output whose first bytes, so many as are used, are a block: the record of a set of FRNs, whose items are lent end to end.
-pub fn add_record(out: &mut [u8], used: usize, set: ItemSet, items: &[u8]) -> RecordAdded
+// Into an output whose first bytes, so many as are used, are a block: the record of a set of FRNs, whose items are lent end to end; by a table that is lent.
+fn add_by(t: &Steps, out: &mut [u8], used: usize, set: ItemSet, items: &[u8]) -> RecordAdded
+    requires { ⌜ soundSteps (now t) ≡ true ⌝ }
     ensures { λ r. ⌜ addedOf r ≡ addedAs (addRecord categories (now (out .entry)) used (frnsOf (set .bits)) (now (items .entry))) ⌝ }
     ensures { λ _. ⌜ now (out .exit) ≡ leavesAdded (addRecord categories (now (out .entry)) used (frnsOf (set .bits)) (now (items .entry))) (now (out .entry)) ⌝ }
 {
@@ -79,7 +84,7 @@ pub fn add_record(out: &mut [u8], used: usize, set: ItemSet, items: &[u8]) -> Re
             place: 0,
         };
     }
-    let old = open_block(&out[0..used], HEAD);
+    let old = open_block(t, &out[0..used], HEAD);
     let checked = old.checked;
     let BlockChecked::Accepted { records: _ } = checked else {
         return RecordAdded::RefusedOld {
@@ -88,7 +93,7 @@ pub fn add_record(out: &mut [u8], used: usize, set: ItemSet, items: &[u8]) -> Re
         };
     };
     let profile = old.profile;
-    let new = records::check_new(profile, set, items);
+    let new = records::check_new(t, profile, set, items);
     let RecordChecked::Ends { end: n } = new else {
         return RecordAdded::RefusedNew {
             number: records::checked_number(new),
@@ -110,4 +115,12 @@ pub fn add_record(out: &mut [u8], used: usize, set: ItemSet, items: &[u8]) -> Re
     }
     lay_record(&mut *out, used, len, profile, set, items);
     RecordAdded::Length(len)
+}
+
+pub fn add_record(out: &mut [u8], used: usize, set: ItemSet, items: &[u8]) -> RecordAdded
+    ensures { λ r. ⌜ addedOf r ≡ addedAs (addRecord categories (now (out .entry)) used (frnsOf (set .bits)) (now (items .entry))) ⌝ }
+    ensures { λ _. ⌜ now (out .exit) ≡ leavesAdded (addRecord categories (now (out .entry)) used (frnsOf (set .bits)) (now (items .entry))) (now (out .entry)) ⌝ }
+{
+    let t = steps();
+    add_by(&t, out, used, set, items)
 }

@@ -87,15 +87,14 @@ fn check_records_by(
     BlockChecked::Accepted { records: n }
 }
 
-// The same, with tables of its own.
-fn check_records(profile: usize, part: &[u8], from: usize) -> BlockChecked
-    requires { ⌜ from + length (now part) < 65536 ⌝ }
+// The same, with tables of its own but one.
+fn check_records(steps: &Steps, profile: usize, part: &[u8], from: usize) -> BlockChecked
+    requires { ⌜ (from + length (now part) < 65536) × (soundSteps (now steps) ≡ true) ⌝ }
     ensures { λ r. ⌜ checkedOf r ≡ countFrom (categoryAt profile) 0 from (now (part .entry)) ⌝ }
 {
-    let steps = quick_items::steps();
     let types = quick_records::type_table();
     let sets = quick_records::set_table();
-    check_records_by(&steps, &types, &sets, profile, part, from)
+    check_records_by(steps, &types, &sets, profile, part, from)
 }
 
 // A single block: its profile, 0 where it is refused, and its check.
@@ -104,8 +103,9 @@ pub struct BlockOpened {
     pub checked: BlockChecked,
 }
 
-// LEN is least at least: 4 where a record is asked for, 3 where a record is to be added.
-pub fn open_block(block: &[u8], least: usize) -> BlockOpened
+// LEN is least at least: 4 where a record is asked for, 3 where a record is to be added. The table is lent, since who opens a block goes on with it.
+pub fn open_block(steps: &Steps, block: &[u8], least: usize) -> BlockOpened
+    requires { ⌜ soundSteps (now steps) ≡ true ⌝ }
     ensures answer { λ r. ⌜ openedOf r ≡ openFrom least (now (block .entry)) ⌝ }
     ensures profile { λ r. ⌜ r .profile ≡ openProfile (openFrom least (now (block .entry))) ⌝ }
 {
@@ -128,7 +128,7 @@ pub fn open_block(block: &[u8], least: usize) -> BlockOpened
             },
         };
     }
-    let checked = check_records(profile, &block[HEAD..], HEAD);
+    let checked = check_records(steps, profile, &block[HEAD..], HEAD);
     let BlockChecked::Accepted { records: _ } = checked else {
         return BlockOpened {
             profile: 0,
@@ -142,7 +142,8 @@ pub fn open_block(block: &[u8], least: usize) -> BlockOpened
 pub fn check_block(block: &[u8]) -> BlockChecked
     ensures { λ r. ⌜ checkedOf r ≡ checkBlock categories (now (block .entry)) ⌝ }
 {
-    let opened = open_block(block, LEAST);
+    let steps = quick_items::steps();
+    let opened = open_block(&steps, block, LEAST);
     opened.checked
 }
 

@@ -5,15 +5,19 @@ use blocks::LEAST;
 use blocks::open_block;
 use items::FrnFound;
 use items::ItemCheck;
+use quick_items::Steps;
+use quick_items::steps;
 use records::RecordChecked;
 use records::RecordMap;
 ghost use mathlib.Core.Path.{_≡_};
+ghost use mathlib.Core.Bool.{true};
 ghost use Prim.Native.Nat.{_+_, _≤_, _<_};
 ghost use lib.ListN.{length};
 ghost use Rattle.rules.specs.Answer.{refused};
 ghost use Rattle.rules.specs.Catalogue.{categories};
 ghost use Rattle.rules.specs.Entry.{findRecord, findItem};
 ghost use Rattle.sets.specs.Sets.{categoryAt};
+ghost use Rattle.quick_items.specs.Item.{soundSteps};
 ghost use Rattle.blocks.specs.Read.{Records};
 ghost use Rattle.finding.specs.Part.{VeryPart};
 ghost use Rattle.finding.specs.Found.{seekAt, recordSpan, Located, itemPlaceOf, itemSpan, spanIn};
@@ -55,16 +59,15 @@ fn record_lost(number: u8, place: usize) -> RecordLocated
 }
 
 // The record with a number, counted from 0, among those that fill a part, which starts at a place of its block.
-fn seek_record(profile: usize, part: &[u8], from: usize, n: usize) -> RecordLocated
-    requires { ⌜ from + length (now part) < 65536 ⌝ }
-    requires { ⌜ Records (categoryAt profile) (now part) ⌝ }
+fn seek_record(t: &Steps, profile: usize, part: &[u8], from: usize, n: usize) -> RecordLocated
+    requires { ⌜ (from + length (now part) < 65536) × Records (categoryAt profile) (now part) × (soundSteps (now t) ≡ true) ⌝ }
     ensures { λ r. ⌜ Located r (seekAt (categoryAt profile) from (now (part .entry)) n) ⌝ }
 {
     let mut rest = part;
     let mut at = from;
     let mut left = n;
     while 0 < rest.len() {
-        let walked = records::check_record(profile, rest, at);
+        let walked = records::check_record(t, profile, rest, at);
         let checked = walked.checked;
         let RecordChecked::Ends { end } = checked else {
             return record_lost(19, 0);
@@ -87,16 +90,25 @@ fn seek_record(profile: usize, part: &[u8], from: usize, n: usize) -> RecordLoca
     record_lost(19, 0)
 }
 
-// The record with a number: where it lies, and its map.
-pub fn locate_record(block: &[u8], n: usize) -> RecordLocated
+// The record with a number, by a table that is lent.
+fn locate_record_by(t: &Steps, block: &[u8], n: usize) -> RecordLocated
+    requires { ⌜ soundSteps (now t) ≡ true ⌝ }
     ensures { λ r. ⌜ Located r (findRecord categories (now (block .entry)) n) ⌝ }
 {
-    let opened = open_block(block, LEAST);
+    let opened = open_block(t, block, LEAST);
     let checked = opened.checked;
     let BlockChecked::Accepted { records: _ } = checked else {
         return record_lost(checked.number(), checked.place());
     };
-    seek_record(opened.profile, &block[HEAD..], HEAD, n)
+    seek_record(t, opened.profile, &block[HEAD..], HEAD, n)
+}
+
+// Where it lies, and its map.
+pub fn locate_record(block: &[u8], n: usize) -> RecordLocated
+    ensures { λ r. ⌜ Located r (findRecord categories (now (block .entry)) n) ⌝ }
+{
+    let t = steps();
+    locate_record_by(&t, block, n)
 }
 
 // Its bytes, as that very part of the block; on refusal the empty part at the block's start.
@@ -117,11 +129,12 @@ pub enum ItemLocated {
     Refused { number: u8, place: usize },
 }
 
-// The item with a reference, the number after its slash, in the record with a number.
-pub fn locate_item(block: &[u8], reference: u16, n: usize) -> ItemLocated
+// The item with a reference, the number after its slash, in the record with a number, by a table that is lent.
+fn locate_item_by(t: &Steps, block: &[u8], reference: u16, n: usize) -> ItemLocated
+    requires { ⌜ soundSteps (now t) ≡ true ⌝ }
     ensures { λ r. ⌜ itemPlaceOf r ≡ itemSpan (findItem categories (now (block .entry)) reference n) ⌝ }
 {
-    let opened = open_block(block, LEAST);
+    let opened = open_block(t, block, LEAST);
     let checked = opened.checked;
     let BlockChecked::Accepted { records: _ } = checked else {
         return ItemLocated::Refused {
@@ -137,7 +150,7 @@ pub fn locate_item(block: &[u8], reference: u16, n: usize) -> ItemLocated
             place: 0,
         };
     };
-    let located = seek_record(profile, &block[HEAD..], HEAD, n);
+    let located = seek_record(t, profile, &block[HEAD..], HEAD, n);
     let answer = located.answer;
     let RecordPlace::At { start, length: _ } = answer else {
         return ItemLocated::Refused {
@@ -165,6 +178,14 @@ pub fn locate_item(block: &[u8], reference: u16, n: usize) -> ItemLocated
         start: at,
         length: size,
     }
+}
+
+// Where it lies.
+pub fn locate_item(block: &[u8], reference: u16, n: usize) -> ItemLocated
+    ensures { λ r. ⌜ itemPlaceOf r ≡ itemSpan (findItem categories (now (block .entry)) reference n) ⌝ }
+{
+    let t = steps();
+    locate_item_by(&t, block, reference, n)
 }
 
 // Its bytes, as that very part of the block; on refusal the empty part at the block's start.

@@ -36,6 +36,6 @@ pub fn record_end(
     if n != 0 {
         return RecordChecked::Ends { end: at + n };
     }
-    let w = check_record(profile, part, at);
+    let w = check_record(steps, profile, part, at);
     w.checked
 }

@@ -3,7 +3,6 @@
 use items::ItemCheck;
 use items::check_item;
 use quick_items::Steps;
-use quick_items::steps;
 use quick_items::told_item;
 use sets::ItemSet;
 use sets::Judgement;
@@ -131,12 +130,10 @@ fn item_check(t: &Steps, profile: usize, frn: usize, part: &[u8]) -> ItemCheck
 }
 
 // The items of a set, one after the other: each takes the part that starts at its place and hands the remainder on.
-fn walk_items(profile: usize, set: ItemSet, part: &[u8], at: usize) -> ItemsWalked
-    requires { ⌜ set .bits < 2 ^ 63 ⌝ }
-    requires { ⌜ at + length (now part) < 2 ^ 63 ⌝ }
+fn walk_items(t: &Steps, profile: usize, set: ItemSet, part: &[u8], at: usize) -> ItemsWalked
+    requires { ⌜ (set .bits < 2 ^ 63) × (at + length (now part) < 2 ^ 63) × (soundSteps (now t) ≡ true) ⌝ }
     ensures { λ r. ⌜ cameOf r ≡ walk profile (flags 63 (set .bits)) 1 (now (part .entry)) (startAt at) ⌝ }
 {
-    let t = steps();
     let of = type_frn(profile);
     let mut left = set.bits;
     let mut rest = part;
@@ -146,7 +143,7 @@ fn walk_items(profile: usize, set: ItemSet, part: &[u8], at: usize) -> ItemsWalk
     let mut kind: u8 = 0;
     while left != 0 {
         let frn = u64::leading_zeros(left) as usize;
-        let c = item_check(&t, profile, frn, rest);
+        let c = item_check(t, profile, frn, rest);
         let ItemCheck::Whole(n) = c else {
             return stopped(item_number(c), here + item_place(c));
         };
@@ -196,16 +193,17 @@ pub fn checked_place(c: RecordChecked) -> usize
     }
 }
 
-// The record at the start of a part, which stands at a place. LEN has two octets, so every part of a block meets the bound.
-pub fn check_record(profile: usize, part: &[u8], at: usize) -> RecordWalked
-    requires { ⌜ at + length (now part) < 65536 ⌝ }
+// The record at the start of a part, which stands at a place. LEN has two octets, so every part of a block meets the bound. The table is lent: who goes over
+// many records has it written out once.
+pub fn check_record(t: &Steps, profile: usize, part: &[u8], at: usize) -> RecordWalked
+    requires { ⌜ (soundSteps (now t) ≡ true) × (at + length (now part) < 65536) ⌝ }
     ensures { λ r. ⌜ Walked r (recordAt profile at (now (part .entry))) ⌝ }
 {
     let s = ItemSet::from_octets(profile, part);
     let SetRead::Items { set, octets } = s else {
         return refused(set_number(s), at);
     };
-    let w = walk_items(profile, set, &part[octets..], at + octets);
+    let w = walk_items(t, profile, set, &part[octets..], at + octets);
     let c = w.checked;
     let RecordChecked::Ends { end } = c else {
         return refused(checked_number(c), checked_place(c));
@@ -226,7 +224,8 @@ pub fn check_record(profile: usize, part: &[u8], at: usize) -> RecordWalked
 
 // The record that a set and its items, end to end, make: 7, 8; 9 to 11 of each item; 18; 12 to 15. It ends after its FSPEC and its items; a refusal's
 // place is counted from the items' start.
-pub fn check_new(profile: usize, set: ItemSet, items: &[u8]) -> RecordChecked
+pub fn check_new(t: &Steps, profile: usize, set: ItemSet, items: &[u8]) -> RecordChecked
+    requires { ⌜ soundSteps (now t) ≡ true ⌝ }
     ensures { λ r. ⌜ endOf r ≡ newAt profile (set .bits) (now (items .entry)) ⌝ }
 {
     let bits = set.bits;
@@ -242,7 +241,7 @@ pub fn check_new(profile: usize, set: ItemSet, items: &[u8]) -> RecordChecked
             place: 0,
         };
     }
-    let w = walk_items(profile, set, items, 0);
+    let w = walk_items(t, profile, set, items, 0);
     let c = w.checked;
     let RecordChecked::Ends { end } = c else {
         return RecordChecked::Refused {

@@ -2,12 +2,16 @@
 // first record (document 01, "Block, record, item" and "Refusal numbers and their order"). No block is checked as a whole.
 use blocks::HEAD;
 use blocks::HeadRead;
+use quick_items::Steps;
+use quick_items::steps;
 use records::RecordChecked;
 use records::RecordMap;
 use tables::PROFILES;
 ghost use mathlib.Core.Path.{_≡_};
+ghost use mathlib.Core.Bool.{true};
 ghost use Prim.Native.Nat.{_≤_};
 ghost use lib.ListN.{length};
+ghost use Rattle.quick_items.specs.Item.{soundSteps};
 ghost use Rattle.walking.specs.Walk.{begin, more, Stands, stays, answered, openAt, blockAt, recordAt, nextRecord};
 ghost use Rattle.walking.specs.Answers.{foundOf};
 
@@ -136,9 +140,10 @@ pub fn block_at(recording: &[u8], cursor: Cursor) -> BlockFound
 
 // ---- a record
 
-// The record that a cursor stands at, in a step from another cursor.
-fn record_at(recording: &[u8], from: Cursor, at: Cursor) -> Walked
+// The record that a cursor stands at, in a step from another cursor, by a table that is lent.
+fn record_by(t: &Steps, recording: &[u8], from: Cursor, at: Cursor) -> Walked
     requires { ⌜ Stands (length (now recording)) at ⌝ }
+    requires { ⌜ soundSteps (now t) ≡ true ⌝ }
     ensures { λ r. ⌜ r ≡ answered from (recordAt (now (recording .entry)) at) ⌝ }
 {
     let block = at.block;
@@ -150,7 +155,7 @@ fn record_at(recording: &[u8], from: Cursor, at: Cursor) -> Walked
         return stayed(from, Met::Refused { number: 2, place });
     }
     let offset = place - block;
-    let walked = records::check_record(profile, &recording[place..end], offset);
+    let walked = records::check_record(t, profile, &recording[place..end], offset);
     let checked = walked.checked;
     let RecordChecked::Ends { end: stop } = checked else {
         return stayed(
@@ -176,6 +181,14 @@ fn record_at(recording: &[u8], from: Cursor, at: Cursor) -> Walked
             category,
         },
     }
+}
+
+fn record_at(recording: &[u8], from: Cursor, at: Cursor) -> Walked
+    requires { ⌜ Stands (length (now recording)) at ⌝ }
+    ensures { λ r. ⌜ r ≡ answered from (recordAt (now (recording .entry)) at) ⌝ }
+{
+    let t = steps();
+    record_by(&t, recording, from, at)
 }
 
 // ---- a step

@@ -22,7 +22,7 @@ returns-2 c =
     new-barred _ _ _ (c .before .before .before .before .shared-slice-known .given) (search needs) (c .before .before .before .if1 .left) (c .before .before .usable .ensures) (c .before .is-within .ensures) (c .if2 .taken)
 
 walk-items-requires : tie.Need-walk-items-requires
-walk-items-requires c κs = (set-low _ _ (search needs) (set-within _ _ (c .before .before .usable .ensures) (c .before .is-within .ensures) (c .if2 .left)), omega arith)
+walk-items-requires c κs = (set-low _ _ (search needs) (set-within _ _ (c .before .before .usable .ensures) (c .before .is-within .ensures) (c .if2 .left)), omega arith, search needs)
 
 enum-known-c : tie.Need-enum-known-c
 enum-known-c c = search needs
@@ -82,8 +82,8 @@ octets-of-requires c κs =
     (c .before .before .before .before .before .before .before .before .before .is-within .ensures)
     (c .before .before .before .before .before .before .before .before .if2 .left))
 
-add-t17 : tie.Need-add-t17
-add-t17 c = omega (arith, c .octets-of .ensures .1)
+add-t18 : tie.Need-add-t18
+add-t18 c = omega (arith, c .octets-of .ensures .1)
 
 -- it is whole
 returns-6 : tie.Need-returns-6
@@ -117,5 +117,5 @@ check-new-spec =
     judged-number-requires
     returns-5
     octets-of-requires
-    add-t17
+    add-t18
     returns-6)

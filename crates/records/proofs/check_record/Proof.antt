@@ -30,7 +30,7 @@ refused-requires c κs = search needs
 -- the FSPEC is refused
 returns : tie.Need-returns
 returns c =
-    step-set _ _ _ (c .before .before .before .before .before .shared-slice-known .given) (c .before .before .before .before .before .before .pre) _ _ _ _
+    step-set _ _ _ (c .before .before .before .before .before .shared-slice-known .given) (c .before .before .before .before .before .before .pre .1) _ _ _ _
     (c .before .before .before .before .from-octets .ensures) (c .before .before .enum-told .given .1) (c .before .set-number .ensures) (c .refused .ensures)
 
 -- the set and its octets, in the rules' terms
@@ -54,7 +54,7 @@ add-walk-items : tie.Need-add-walk-items
 add-walk-items c = omega (arith, bounds (c .before) .1)
 
 walk-items-requires : tie.Need-walk-items-requires
-walk-items-requires c κs = (bounds (c .before) .0, omega (arith, bounds (c .before) .1, c .walk-items-arg .given .2))
+walk-items-requires c κs = (bounds (c .before) .0, omega (arith, bounds (c .before) .1, c .walk-items-arg .given .2), c .before .before .before .before .before .before .pre .0)
 
 enum-known-c : tie.Need-enum-known-c
 enum-known-c c = search needs
@@ -75,7 +75,7 @@ refused-requires-2 c κs = search needs
 returns-2 : tie.Need-returns-2
 returns-2 c =
     step-walk _ _ _ (c .before .before .before .before .before .before .before .before .before .before .before .shared-slice-known .given)
-    (c .before .before .before .before .before .before .before .before .before .before .before .before .pre) _ _ _
+    (c .before .before .before .before .before .before .before .before .before .before .before .before .pre .1) _ _ _
     (c .before .before .before .before .before .before .before .before .before .before .from-octets .ensures) (c .before .before .before .before .before .before .before .before .s .given .1)
     _ (c .before .before .before .before .before .walk-items .ensures) _ _ _ _ _
     (c .before .before .before .enum-told2 .given .1) (c .before .before .checked-number .ensures) (c .before .checked-place .ensures) (c .refused2 .ensures)
@@ -99,7 +99,7 @@ refused-requires-3 c κs = search needs
 returns-3 : tie.Need-returns-3
 returns-3 c =
     step-judge _ _ _ (c .before .before .before .before .before .before .before .before .before .before .before .before .before .before .shared-slice-known .given)
-    (c .before .before .before .before .before .before .before .before .before .before .before .before .before .before .before .pre) _ _ _
+    (c .before .before .before .before .before .before .before .before .before .before .before .before .before .before .before .pre .1) _ _ _
     (c .before .before .before .before .before .before .before .before .before .before .before .before .before .from-octets .ensures)
     (c .before .before .before .before .before .before .before .before .before .before .before .s .given .1)
     _ (c .before .before .before .before .before .before .before .before .walk-items .ensures) _ (c .before .before .before .before .before .before .c .given .1)
@@ -109,7 +109,7 @@ returns-3 c =
 returns-4 : tie.Need-returns-4
 returns-4 c =
     step-whole _ _ _ (c .before .before .before .before .before .before .before .before .before .before .before .before .before .shared-slice-known .given)
-    (c .before .before .before .before .before .before .before .before .before .before .before .before .before .before .pre) _ _ _
+    (c .before .before .before .before .before .before .before .before .before .before .before .before .before .before .pre .1) _ _ _
     (c .before .before .before .before .before .before .before .before .before .before .before .before .from-octets .ensures)
     (c .before .before .before .before .before .before .before .before .before .before .s .given .1)
     _ (c .before .before .before .before .before .before .before .walk-items .ensures) _ (c .before .before .before .before .before .c .given .1)

@@ -15,19 +15,16 @@ use Rattle.records.proofs.walk_items.Statement.{statement}
 use Rattle.records.proofs.walk_items.Tie as tie
 
 abbrev Inv-loop : tie.InvT-loop
-Inv-loop profile part at t of left₀ rest₀ here₀ count₀ starts₀ kind₀ left rest here count starts kind = Standing profile left₀ part at left rest here count starts kind
+Inv-loop t profile part at of left₀ rest₀ here₀ count₀ starts₀ kind₀ left rest here count starts kind = Standing profile left₀ part at left rest here count starts kind
 
 abbrev μ-loop : tie.MeasureT-loop
-μ-loop profile part at t of left₀ rest₀ here₀ count₀ starts₀ kind₀ left rest here count starts kind = left
-
-steps-requires : tie.Need-steps-requires Inv-loop μ-loop
-steps-requires c κs = search needs
+μ-loop t profile part at of left₀ rest₀ here₀ count₀ starts₀ kind₀ left rest here count starts kind = left
 
 type-frn-requires : tie.Need-type-frn-requires Inv-loop μ-loop
 type-frn-requires c κs = search needs
 
 loop-holds : tie.Need-loop-holds Inv-loop μ-loop
-loop-holds c = stand-first _ _ _ _ (c .before .before .before .pre .0) (c .before .before .before .pre .1)
+loop-holds c = stand-first _ _ _ _ (c .before .before .pre .0) (c .before .before .pre .1)
 
 -- the FRN at this turn
 turn : (c : tie.In-loop Inv-loop μ-loop) → First (c .before .loop .left) (leadingZeros 64 (c .before .loop .left))
@@ -53,12 +50,12 @@ item-place-requires c κs = search needs
 
 -- the item that is refused at this turn, in the rules' terms
 barred : (c : tie.After-item-place Inv-loop μ-loop)
-    → checkAt (c .before .before .before .before .before .before .before .before .before .before .before .args .profile) (leadingZeros 64 (c .before .before .before .before .before .before .before .loop .left))
-    (c .before .before .before .before .before .before .before .loop .rest .now) ≡ refused (c .before .item-number .result) (c .item-place .result)
+    → checkAt (c .before .before .before .before .before .before .before .before .before .args .profile) (leadingZeros 64 (c .before .before .before .before .before .before .loop .left))
+    (c .before .before .before .before .before .before .loop .rest .now) ≡ refused (c .before .item-number .result) (c .item-place .result)
 barred c = check-refused _ _ _ _ _ _ (c .before .before .before .before .item-check .ensures) (c .before .before .enum-told .given .1) (c .before .item-number .ensures) (c .item-place .ensures)
 
 add-stopped : tie.Need-add-stopped Inv-loop μ-loop
-add-stopped c = omega (arith, check-near _ _ _ _ _ (barred c), c .before .before .before .before .before .before .before .loop .inv .room)
+add-stopped c = omega (arith, check-near _ _ _ _ _ (barred c), c .before .before .before .before .before .before .loop .inv .room)
 
 stopped-requires : tie.Need-stopped-requires Inv-loop μ-loop
 stopped-requires c κs = search needs
@@ -66,16 +63,16 @@ stopped-requires c κs = search needs
 returns : tie.Need-returns Inv-loop μ-loop
 returns c =
     rw (c .stopped .ensures)
-    (stand-stop _ _ _ _ _ _ _ _ _ _ (c .before .before .before .before .before .before .before .before .loop .inv) (c .before .before .before .before .before .before .before .loop-test .taken) _ _
+    (stand-stop _ _ _ _ _ _ _ _ _ _ (c .before .before .before .before .before .before .before .loop .inv) (c .before .before .before .before .before .before .loop-test .taken) _ _
     (barred (c .before)))
 
 -- the item at this turn, in the rules' terms
 item : (c : tie.After-known-told Inv-loop μ-loop)
-    → checkAt (c .before .before .before .before .before .before .before .before .before .before .args .profile) (leadingZeros 64 (c .before .before .before .before .before .before .loop .left))
-    (c .before .before .before .before .before .before .loop .rest .now) ≡ ok (c .before .c .given .0 .0)
+    → checkAt (c .before .before .before .before .before .before .before .before .args .profile) (leadingZeros 64 (c .before .before .before .before .before .loop .left))
+    (c .before .before .before .before .before .loop .rest .now) ≡ ok (c .before .c .given .0 .0)
 item c = sym (c .before .before .before .item-check .ensures) ∙ ap checkedOf (c .before .c .given .1)
 
-within : (c : tie.After-known-told Inv-loop μ-loop) → c .before .c .given .0 .0 ≤ length (c .before .before .before .before .before .before .loop .rest .now)
+within : (c : tie.After-known-told Inv-loop μ-loop) → c .before .c .given .0 .0 ≤ length (c .before .before .before .before .before .loop .rest .now)
 within c = check-within _ _ _ _ (item c)
 
 cast-starts : tie.Need-cast-starts Inv-loop μ-loop
@@ -112,28 +109,28 @@ part-rest-end : tie.Need-part-rest-end Inv-loop μ-loop
 part-rest-end c = omega (arith, within (c .before .before))
 
 add-here : tie.Need-add-here Inv-loop μ-loop
-add-here c = omega (arith, within (c .before .before .before), c .before .before .before .before .before .before .before .before .before .loop .inv .room)
+add-here c = omega (arith, within (c .before .before .before), c .before .before .before .before .before .before .before .before .loop .inv .room)
 
 add-count : tie.Need-add-count Inv-loop μ-loop
-add-count c = omega (arith, c .before .before .before .before .before .before .before .before .before .loop .inv .low, c .before .before .before .before .before .before .before .before .before .loop .inv .few)
+add-count c = omega (arith, c .before .before .before .before .before .before .before .before .loop .inv .low, c .before .before .before .before .before .before .before .before .loop .inv .few)
 
 weight-requires : tie.Need-weight-requires Inv-loop μ-loop
-weight-requires c κs = turn (c .before .before .before .before .before .before .before .before) .few
+weight-requires c κs = turn (c .before .before .before .before .before .before .before) .few
 
-there : (c : tie.After-weight Inv-loop μ-loop) → c .weight .result ≤ c .before .before .before .before .before .before .before .before .before .before .loop .left
-there c = rw (c .weight .ensures) (turn (c .before .before .before .before .before .before .before .before .before) .there)
+there : (c : tie.After-weight Inv-loop μ-loop) → c .weight .result ≤ c .before .before .before .before .before .before .before .before .before .loop .left
+there c = rw (c .weight .ensures) (turn (c .before .before .before .before .before .before .before .before) .there)
 
 sub-left : tie.Need-sub-left Inv-loop μ-loop
 sub-left c = there c
 
 loop-less : tie.Need-loop-less Inv-loop μ-loop
-loop-less c = omega (arith, there c, c .weight .ensures, pow-pos (63 - leadingZeros 64 (c .before .before .before .before .before .before .before .before .before .before .loop .left)))
+loop-less c = omega (arith, there c, c .weight .ensures, pow-pos (63 - leadingZeros 64 (c .before .before .before .before .before .before .before .before .before .loop .left)))
 
 loop-again : tie.Need-loop-again Inv-loop μ-loop
 loop-again c =
     rw (c .weight .ensures)
-    (stand-item _ _ _ _ _ _ _ _ _ _ (c .before .before .before .before .before .before .before .before .before .before .loop .inv) (c .before .before .before .before .before .before .before .before .before .loop-test .taken) _ _ _
-    (item (c .before .before .before .before)) (c .before .before .before .before .before .before .before .before .before .before .before .type-frn .ensures) (c .before .before .type-octet .ensures))
+    (stand-item _ _ _ _ _ _ _ _ _ _ (c .before .before .before .before .before .before .before .before .before .loop .inv) (c .before .before .before .before .before .before .before .before .loop-test .taken) _ _ _
+    (item (c .before .before .before .before)) (c .before .before .before .before .before .before .before .before .before .before .type-frn .ensures) (c .before .before .type-octet .ensures))
 
 returns-2 : tie.Need-returns-2 Inv-loop μ-loop
 returns-2 c = stand-end _ _ _ _ _ _ _ _ _ _ (c .before .loop .inv) (c .loop-test .left)
@@ -144,7 +141,6 @@ walk-items-spec =
     (tie.spec
     Inv-loop
     μ-loop
-    steps-requires
     type-frn-requires
     loop-holds
     cast-frn

@@ -81,7 +81,7 @@ part-check-records-end : tie.Need-part-check-records-end
 part-check-records-end c = search needs
 
 check-records-requires : tie.Need-check-records-requires
-check-records-requires c κs = omega (arith, few (c .before), len-is (c .before), c .check-records-arg .given .2)
+check-records-requires c κs = (omega (arith, few (c .before), len-is (c .before), c .check-records-arg .given .2), c .before .before .before .before .before .before .before .pre)
 
 enum-told-2 : tie.Need-enum-told-2
 enum-told-2 c = search needs

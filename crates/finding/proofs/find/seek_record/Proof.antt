@@ -14,10 +14,10 @@ use Rattle.finding.proofs.find.seek_record.Statement.{statement}
 use Rattle.finding.proofs.find.seek_record.Tie as tie
 
 abbrev Inv-loop : tie.InvT-loop
-Inv-loop profile part from n rest₀ at₀ left₀ rest at left = Seeking (categoryAt profile) part from n rest at left
+Inv-loop t profile part from n rest₀ at₀ left₀ rest at left = Seeking (categoryAt profile) part from n rest at left
 
 abbrev μ-loop : tie.MeasureT-loop
-μ-loop profile part from n rest₀ at₀ left₀ rest at left = length rest
+μ-loop t profile part from n rest₀ at₀ left₀ rest at left = length rest
 
 -- the record of this turn
 accepted : (c : tie.After-known-told Inv-loop μ-loop)
@@ -31,7 +31,7 @@ loop-holds : tie.Need-loop-holds Inv-loop μ-loop
 loop-holds c = record { room = c .before .pre .0; octets = octets-each (c .before .args .part .now) (c .shared-slice-known .given); records = c .before .pre .1; same = refl }
 
 check-record-requires : tie.Need-check-record-requires Inv-loop μ-loop
-check-record-requires c κs = omega arith
+check-record-requires c κs = (c .before .before .before .pre .2, omega arith)
 
 enum-known-checked : tie.Need-enum-known-checked Inv-loop μ-loop
 enum-known-checked c = search needs

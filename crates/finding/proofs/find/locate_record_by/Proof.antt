@@ -1,4 +1,4 @@
--- `find::locate_record` meets its contract: a block that is refused is not searched; else the record is sought among those after the head.
+-- `find::locate_record_by` meets its contract: a block that is refused is not searched; else the record is sought among those after the head.
 -- Assumes nothing.
 use mathlib.Core.Path.{sym, ap, ap₂, _∙_, subst}
 use borrow.Author.Needs.{needs}
@@ -11,8 +11,8 @@ use Rattle.blocks.proofs.LoopLaws.{octets-each, to-end}
 use Rattle.blocks.proofs.OpenLaws.{Opens, opens, opens-records}
 use Rattle.finding.specs.Found.{seekAt, Located}
 use Rattle.finding.proofs.FindLaws.{find-refused, find-record}
-use Rattle.finding.proofs.find.locate_record.Statement.{statement}
-use Rattle.finding.proofs.find.locate_record.Tie as tie
+use Rattle.finding.proofs.find.locate_record_by.Statement.{statement}
+use Rattle.finding.proofs.find.locate_record_by.Tie as tie
 
 -- the block that was opened
 abbrev opening : tie.After-enum-told → Opening
@@ -57,14 +57,14 @@ part-seek-record-end : tie.Need-part-seek-record-end
 part-seek-record-end c = search needs
 
 seek-record-requires : tie.Need-seek-record-requires
-seek-record-requires c κs = (omega (arith, is-open (c .before) .few, is-open (c .before) .room, c .seek-record-arg .given .2), rw (to-end (c .before .before .before .before .before .args .block .now) 3) (opens-records (is-open (c .before))))
+seek-record-requires c κs = (omega (arith, is-open (c .before) .few, is-open (c .before) .room, c .seek-record-arg .given .2), rw (to-end (c .before .before .before .before .before .args .block .now) 3) (opens-records (is-open (c .before))), c .before .before .before .before .before .pre)
 
 returns-2 : tie.Need-returns-2
 returns-2 c =
     subst (Located (c .seek-record .result)) (ap (λ z. seekAt (opening (c .before .before) .category) 3 z (c .before .before .before .before .before .before .args .n)) (to-end (c .before .before .before .before .before .before .args .block .now) 3) ∙ sym (find-record _ _ (opening (c .before .before)) (is-open (c .before .before)))) (c .seek-record .ensures)
 
-pub locate-record-spec : {M : Type 1} → statement M
-locate-record-spec =
+pub locate-record-by-spec : {M : Type 1} → statement M
+locate-record-by-spec =
     tie.close
     (tie.spec
     open-block-requires

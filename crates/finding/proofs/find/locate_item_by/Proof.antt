@@ -1,4 +1,4 @@
--- `find::locate_item` meets its contract: the block is opened, the reference is that of an FRN, the record is sought; then the map says whether the
+-- `find::locate_item_by` meets its contract: the block is opened, the reference is that of an FRN, the record is sought; then the map says whether the
 -- item is there, and the item's check how many bytes it has. Assumes nothing.
 use mathlib.Core.Path.{_≡_, sym, ap, ap₂, _∙_, subst}
 use Prim.Native.Nat.{_-_}
@@ -19,8 +19,8 @@ use Rattle.blocks.proofs.OpenLaws.{Opens, opens, opens-records}
 use Rattle.finding.specs.Found.{seekAt, Located, itemSpan}
 use Rattle.tables.proofs.ProfileLaws.{profile-at}
 use Rattle.finding.proofs.FindLaws.{NamedAt, frn-none, frn-some, item-refused, item-unknown, LocatedAt, located, lost, no-record-at, index-in, absent-at, ThereAt, there-at}
-use Rattle.finding.proofs.find.locate_item.Statement.{statement}
-use Rattle.finding.proofs.find.locate_item.Tie as tie
+use Rattle.finding.proofs.find.locate_item_by.Statement.{statement}
+use Rattle.finding.proofs.find.locate_item_by.Tie as tie
 
 -- the block that was opened
 abbrev opening : tie.After-enum-told → Opening
@@ -102,7 +102,7 @@ part-seek-record-end : tie.Need-part-seek-record-end
 part-seek-record-end c = search needs
 
 seek-record-requires : tie.Need-seek-record-requires
-seek-record-requires c κs = (omega (arith, is-open (c .before .before .before .before .before) .few, is-open (c .before .before .before .before .before) .room, c .seek-record-arg .given .2), rw (to-end (c .before .before .before .before .before .before .before .before .before .args .block .now) 3) (opens-records (is-open (c .before .before .before .before .before))))
+seek-record-requires c κs = (omega (arith, is-open (c .before .before .before .before .before) .few, is-open (c .before .before .before .before .before) .room, c .seek-record-arg .given .2), rw (to-end (c .before .before .before .before .before .before .before .before .before .args .block .now) 3) (opens-records (is-open (c .before .before .before .before .before))), c .before .before .before .before .before .before .before .before .before .pre)
 
 enum-known-answer : tie.Need-enum-known-answer
 enum-known-answer c = search needs
@@ -160,8 +160,8 @@ returns-6 c =
     ap₂ (λ x y. ok (x, y)) (there (c .before .before .before .before .before) .start-is) (ok-inj (ap checkedOf (sym (c .before .item .given .1)) ∙ c .before .before .before .check-item .ensures ∙ checked (c .before .before .before .before .before)))
     ∙ ap itemSpan (sym (there (c .before .before .before .before .before) .found))
 
-pub locate-item-spec : {M : Type 1} → statement M
-locate-item-spec =
+pub locate-item-by-spec : {M : Type 1} → statement M
+locate-item-by-spec =
     tie.close
     (tie.spec
     open-block-requires

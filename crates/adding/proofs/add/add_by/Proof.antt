@@ -1,4 +1,4 @@
--- `add::add_record` meets its contract: at each `return` the tests that led there say which case of the rule holds, and the output is as it was
+-- `add::add_by` meets its contract: at each `return` the tests that led there say which case of the rule holds, and the output is as it was
 -- until all is checked. Assumes nothing.
 use Prim.Native.Nat.{_+_, _≤_, _<_}
 use mathlib.Core.Path.{_≡_, refl, sym, ap, ap₂, _∙_}
@@ -15,8 +15,8 @@ use Rattle.blocks.specs.Read.{Opening, openFrom}
 use Rattle.blocks.specs.Answers.{checkedNumber, checkedPlace, openedBy}
 use Rattle.blocks.proofs.LoopLaws.{octets-each}
 use Rattle.adding.proofs.AddLaws.{add-none, add-old, add-new, old-both, new-both, old-len, new-refused, new-whole, long-both, full-both, added-both}
-use Rattle.adding.proofs.add.add_record.Statement.{statement}
-use Rattle.adding.proofs.add.add_record.Tie as tie
+use Rattle.adding.proofs.add.add_by.Statement.{statement}
+use Rattle.adding.proofs.add.add_by.Tie as tie
 
 -- the block that the octets in use are
 abbrev opening : tie.After-enum-told → Opening
@@ -133,8 +133,8 @@ same-length-5 c = search needs
 returns-6 : tie.Need-returns-6
 returns-6 c = added-both _ _ _ _ _ _ (opening (c .before .before .before .before .before .before .before .before .before .before)) refl (c .before .before .before .before .before .before .before .before .before .before .before .before .before .before .before .if1 .left) (is-open (c .before .before .before .before .before .before .before .before .before .before)) (checked (c .before .before .before .before .before .before)) _ (in-use (c .before .before .before .before .before .before .before .before .before .before) .0) (omega (arith, in-use (c .before .before .before .before .before .before .before .before .before .before) .1)) (c .before .before .before .before .if3 .left) (c .before .before .lay-record .ensures)
 
-pub add-record-spec : {M : Type 1} → statement M
-add-record-spec =
+pub add-by-spec : {M : Type 1} → statement M
+add-by-spec =
     tie.close
     (tie.spec
     returns
