@@ -117,6 +117,7 @@ fn add_by(t: &Steps, out: &mut [u8], used: usize, set: ItemSet, items: &[u8]) ->
     RecordAdded::Length(len)
 }
 
+// The same, with a table of its own.
 pub fn add_record(out: &mut [u8], used: usize, set: ItemSet, items: &[u8]) -> RecordAdded
     ensures { λ r. ⌜ addedOf r ≡ addedAs (addRecord categories (now (out .entry)) used (frnsOf (set .bits)) (now (items .entry))) ⌝ }
     ensures { λ _. ⌜ now (out .exit) ≡ leavesAdded (addRecord categories (now (out .entry)) used (frnsOf (set .bits)) (now (items .entry))) (now (out .entry)) ⌝ }

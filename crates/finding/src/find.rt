@@ -103,7 +103,7 @@ fn locate_record_by(t: &Steps, block: &[u8], n: usize) -> RecordLocated
     seek_record(t, opened.profile, &block[HEAD..], HEAD, n)
 }
 
-// Where it lies, and its map.
+// The same, with a table of its own: where it lies, and its map.
 pub fn locate_record(block: &[u8], n: usize) -> RecordLocated
     ensures { λ r. ⌜ Located r (findRecord categories (now (block .entry)) n) ⌝ }
 {
@@ -180,7 +180,7 @@ fn locate_item_by(t: &Steps, block: &[u8], reference: u16, n: usize) -> ItemLoca
     }
 }
 
-// Where it lies.
+// The same, with a table of its own: where it lies.
 pub fn locate_item(block: &[u8], reference: u16, n: usize) -> ItemLocated
     ensures { λ r. ⌜ itemPlaceOf r ≡ itemSpan (findItem categories (now (block .entry)) reference n) ⌝ }
 {

@@ -183,6 +183,7 @@ fn record_by(t: &Steps, recording: &[u8], from: Cursor, at: Cursor) -> Walked
     }
 }
 
+// The same, with a table of its own.
 fn record_at(recording: &[u8], from: Cursor, at: Cursor) -> Walked
     requires { ⌜ Stands (length (now recording)) at ⌝ }
     ensures { λ r. ⌜ r ≡ answered from (recordAt (now (recording .entry)) at) ⌝ }
