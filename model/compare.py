@@ -5,8 +5,8 @@
 From Category017.antt and Category018.antt it takes every layout, every row of the profile, every
 message type, the item that is a record's time and the types without one, and the section, title, FRN
 and name of a field in the comment beside each (so that two fields of one width, exchanged, show); from
-Catalogue.antt the list of categories. Then reading.py answers every question of tests/vectors but those
-about two logs, and of the pairs of files named, and its answers are held to those written there. Each
+Catalogue.antt the list of categories. Then reading.py answers every question of tests/vectors, and of
+the pairs of files named, but those about two logs, and its answers are held to those written there. Each
 difference is a line; with one or more the exit status is 1.
 """
 
@@ -21,7 +21,7 @@ from tables import FX, SIGNED, SPARE
 ROOT = pathlib.Path(__file__).resolve().parents[1]
 SPECS = ROOT / "crates" / "rules" / "specs"
 VECTORS = ROOT / "tests" / "vectors"
-MERGING = ("merge", "w201")  # about two logs: reading.py reads one
+MERGING = ("merge", "mergerun")  # questions about two logs: reading.py reads one
 
 differences = []
 
@@ -199,14 +199,18 @@ def run(questions, answers):
     asked = pathlib.Path(questions).read_text().splitlines()
     written = pathlib.Path(answers).read_text().splitlines()
     same("%s, lines" % pathlib.Path(questions).name, len(asked), len(written))
-    agree = 0
+    agree = passed = 0
     for n, (question, answer) in enumerate(zip(asked, written), 1):
+        if question.split(" ")[0] in MERGING:
+            passed += 1
+            continue
         mine = reading.answer(question)
         if mine == answer:
             agree += 1
         else:
             differ("%s:%d: %s: written is %s, reading.py has %s" % (pathlib.Path(questions).name, n, question, answer, mine))
-    print("%s: %d of %d agree" % (pathlib.Path(questions).name, agree, len(asked)))
+    print("%s: %d of %d agree" % (pathlib.Path(questions).name, agree, len(asked) - passed)
+          + (", %d about two logs not asked" % passed if passed else ""))
 
 
 def main(arguments):
@@ -220,8 +224,6 @@ def main(arguments):
     listed = parsed(re.search(r"^categories = (.*)$", bare(catalogue), re.M).group(1))
     same("Catalogue, the categories", listed, ["category%03d" % number for number in tables.CATEGORIES])
     for questions in sorted(VECTORS.glob("*-questions.txt")):
-        if questions.name.replace("-questions.txt", "") in MERGING:
-            continue
         run(questions, str(questions).replace("-questions.txt", "-answers.txt"))
     for questions, answers in zip(arguments[::2], arguments[1::2]):
         run(questions, answers)
