@@ -444,7 +444,7 @@ size_t asterix_least_length(uint8_t category, size_t place, uint8_t octet);
  *     9  070   2           V, G, L, Mode 3/A code (12 bits)
  *    10  050   2           V, G, altitude; signed, 25 ft
  *    11  200   4           speed, 2^-14 NM/s; heading, 360/2^16 degree
- *    12  230   1           CA
+ *    12  230   1           CA, SI (0: SI capable, 1: not)
  *    13  240   1           CST, FLT
  *    14  210   1 + 3 each  aircraft address each [may be empty]
  *    15  360   1           state

@@ -34,7 +34,7 @@ static const struct item items_017[] = {
     { 70, { "V", "G", "L", "code" } },
     { 50, { "V", "G", "altitude" } },
     { 200, { "speed", "heading" } },
-    { 230, { "CA" } },
+    { 230, { "CA", "SI" } },
     { 240, { "CST", "FLT" } },
     { 210, { "address" } },
     { 360, { "state" } },

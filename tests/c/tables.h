@@ -60,7 +60,7 @@ static const struct item items[] = {
     ITEM(17, 210, LIST, 3, BITS(24, 1)),                                                 /* 5.2.9  addresses: REP = 0 is allowed */
     ITEM(17, 220, FIXED, 3, BITS(24, 1)),                                                /* 5.2.10 address */
     ITEM(17, 221, FIXED, 2, BITS(16, 1)),                                                /* 5.2.11 DRN */
-    ITEM(17, 230, FIXED, 1, BITS(8, 6), ZERO(5, 1)),                                     /* 5.2.12 CA, as the list has it */
+    ITEM(17, 230, FIXED, 1, BITS(8, 6), BIT(5), ZERO(4, 1)),                             /* 5.2.12 CA, SI, as the figure has it */
     ITEM(17, 240, FIXED, 1, BIT(8), BIT(7), ZERO(6, 1)),                                 /* 5.2.13 CST, FLT */
     ITEM(17, 350, SOME, 2, BITS(16, 9), BITS(8, 1)),                                     /* 5.2.14 SAC, SIC each */
     ITEM(17, 360, FIXED, 1, BITS(8, 1)),                                                 /* 5.2.15 state */

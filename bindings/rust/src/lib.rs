@@ -785,8 +785,9 @@ pub const FIELDS: usize = 8192;
 /// // I017/045: 45 degrees north, and one unit west of Greenwich.
 /// let position = [0x20, 0x00, 0x00, 0xFF, 0xFF, 0xFF];
 /// assert_eq!(read_item(17, 45, &position, &mut fields)?, &[2_097_152, -1]);
-/// // I017/230 has five spare bits.
-/// assert_eq!(read_item(17, 230, &[0x90], &mut fields).unwrap_err().why, Refusal::Field);
+/// // I017/230: CA 4, and a transponder that is not SI capable. The four bits below are spare.
+/// assert_eq!(read_item(17, 230, &[0x90], &mut fields)?, &[4, 1]);
+/// assert_eq!(read_item(17, 230, &[0x88], &mut fields).unwrap_err().why, Refusal::Field);
 /// # Ok::<(), asterix::Refused>(())
 /// ```
 pub fn read_item<'f>(

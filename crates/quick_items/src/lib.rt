@@ -97,56 +97,56 @@ pub fn steps() -> Steps
         7, //           FRN 14  I018/029  5.2.27  GICB Extracted
         0x0_1_0_3, //   FRN 15  I018/002  5.2.3   Time of Day
         0x1_2_3_1, //   FRN 16  I018/006  5.2.6   Mode S Address List
-        0x8_1_0_1, //   FRN 17  I018/007  5.2.7   Aircraft Data Link Command
-        0x9_3_0_0, //   FRN 18  I018/008  5.2.8   Aircraft Data Link Status
-        0xB_3_0_0, //   FRN 19  I018/009  5.2.9   Aircraft Data Link Report Request
-        0xD_1_0_1, //   FRN 20  I018/010  5.2.10  Transponder Communications Capability
+        0x3_1_0_1, //   FRN 17  I018/007  5.2.7   Aircraft Data Link Command
+        0x8_3_0_0, //   FRN 18  I018/008  5.2.8   Aircraft Data Link Status
+        0xA_3_0_0, //   FRN 19  I018/009  5.2.9   Aircraft Data Link Report Request
+        0xC_1_0_1, //   FRN 20  I018/010  5.2.10  Transponder Communications Capability
         7, //           FRN 21  I018/011  5.2.11  Capability Report
         4, //           FRN 22  I018/014  5.2.14  Aircraft Position in Polar Co-ordinates
         4, //           FRN 23  I018/015  5.2.15  Aircraft Position in Cartesian Co-ordinates
         4, //           FRN 24  I018/020  5.2.20  Broadcast Number
         6, //           FRN 25  I018/021  5.2.21  Broadcast Properties
-        0xD_1_0_4, //   FRN 26  I018/022  5.2.22  Broadcast Prefix
+        0xC_1_0_4, //   FRN 26  I018/022  5.2.22  Broadcast Prefix
         7, //           FRN 27  I018/023  5.2.23  Uplink or Downlink Broadcast
         1, //           FRN 28  I018/004  5.2.4   II Code
         6, //           FRN 29  I018/031  5.2.29  Aircraft Identity
         0x2_1_0_2, //   FRN 30  I018/032  5.2.30  Aircraft Mode A
         2, //           FRN 31  I018/033  5.2.31  Aircraft Height
-        0xE_1_0_2, //   FRN 32  I018/034  5.2.32  Aircraft Speed
+        0xD_1_0_2, //   FRN 32  I018/034  5.2.32  Aircraft Speed
         2, //           FRN 33  I018/035  5.2.33  Aircraft Heading
         1, //           FRN 34  I018/012  5.2.12  Aircraft Coverage Quality Factor
         1, //           FRN 35  I018/013  5.2.13  Aircraft CQF Calculation Method
         0x00_000000, // rule 0   I017/140  5.2.7   time of day; I018/002  5.2.3   time of day
         0x00_400000, // rule 1   I017/045  5.2.4   latitude
         0x14_000000, // rule 2   I017/070  5.2.6   spare; I018/032  5.2.30  spare
-        0x10_000000, // rule 3   I017/230  5.2.12  spare
+        0x10_000000, // rule 3   I017/230  5.2.12  spare; I018/007  5.2.7   spare
         0x10_000000, // rule 4   I017/240  5.2.13  spare
         0x17_000000, // rule 5   I018/018  5.2.18  spare
         0x10_000000, // rule 6   I018/030  5.2.28  spare
         0x08_000000, // rule 7   I018/030  5.2.28  spare
-        0x10_000000, // rule 8   I018/007  5.2.7   spare
-        0x12_000000, // rule 9   I018/008  5.2.8   spare
-        0x11_000000, // rule A   I018/008  5.2.8   spare
-        0x00_000000, // rule B   I018/009  5.2.9   any bits
-        0x11_000000, // rule C   I018/009  5.2.9   spare
-        0x13_000000, // rule D   I018/010  5.2.10  spare; I018/022  5.2.22  spare
-        0x08_000000, // rule E   I018/034  5.2.32  speed
+        0x12_000000, // rule 8   I018/008  5.2.8   spare
+        0x11_000000, // rule 9   I018/008  5.2.8   spare
+        0x00_000000, // rule A   I018/009  5.2.9   any bits
+        0x11_000000, // rule B   I018/009  5.2.9   spare
+        0x13_000000, // rule C   I018/010  5.2.10  spare; I018/022  5.2.22  spare
+        0x08_000000, // rule D   I018/034  5.2.32  speed
+        0x00_000000, // rule E   none: any bits
         0x00_000000, // rule F   none: any bits
         0x28_A8BFFF, // rule 0   I017/140  5.2.7   time of day; I018/002  5.2.3   time of day
         0x28_7FFFFF, // rule 1   I017/045  5.2.4   latitude
         0x3F_000000, // rule 2   I017/070  5.2.6   spare; I018/032  5.2.30  spare
-        0x3B_000000, // rule 3   I017/230  5.2.12  spare
+        0x3C_000000, // rule 3   I017/230  5.2.12  spare; I018/007  5.2.7   spare
         0x3A_000000, // rule 4   I017/240  5.2.13  spare
         0x3F_000000, // rule 5   I018/018  5.2.18  spare
         0x3D_000000, // rule 6   I018/030  5.2.28  spare
         0x3D_000000, // rule 7   I018/030  5.2.28  spare
-        0x3C_000000, // rule 8   I018/007  5.2.7   spare
-        0x3E_000000, // rule 9   I018/008  5.2.8   spare
-        0x3A_000000, // rule A   I018/008  5.2.8   spare
-        0x28_FFFFFF, // rule B   I018/009  5.2.9   any bits
-        0x3E_000000, // rule C   I018/009  5.2.9   spare
-        0x3B_000000, // rule D   I018/010  5.2.10  spare; I018/022  5.2.22  spare
-        0x30_008000, // rule E   I018/034  5.2.32  speed
+        0x3E_000000, // rule 8   I018/008  5.2.8   spare
+        0x3A_000000, // rule 9   I018/008  5.2.8   spare
+        0x28_FFFFFF, // rule A   I018/009  5.2.9   any bits
+        0x3E_000000, // rule B   I018/009  5.2.9   spare
+        0x3B_000000, // rule C   I018/010  5.2.10  spare; I018/022  5.2.22  spare
+        0x30_008000, // rule D   I018/034  5.2.32  speed
+        0x28_FFFFFF, // rule E   none: any bits
         0x28_FFFFFF, // rule F   none: any bits
         // ---- end of what is made
     ]

@@ -70,7 +70,7 @@ pub const FRNS: usize = 36;
 
 // Fields: bits _ what it holds _ the place of its range.
 // ---- made by model/make.py: FIELDS
-const FIELDS: [u16; 113] = [
+const FIELDS: [u16; 114] = [
     8_0_00, //  I017/010  5.2.2   SAC
     8_0_00, //  I017/010  5.2.2   SIC
     8_0_00, //  I017/012  5.2.3   SAC
@@ -94,7 +94,8 @@ const FIELDS: [u16; 113] = [
     16_0_02, // I017/200  5.2.8   speed
     16_0_02, // I017/200  5.2.8   heading
     3_0_10, //  I017/230  5.2.12  CA
-    5_2_07, //  I017/230  5.2.12  spare
+    1_0_06, //  I017/230  5.2.12  SI
+    4_2_07, //  I017/230  5.2.12  spare
     1_0_06, //  I017/240  5.2.13  CST
     1_0_06, //  I017/240  5.2.13  FLT
     6_2_07, //  I017/240  5.2.13  spare
@@ -255,47 +256,47 @@ const GROUPS: [u32; 52] = [
     2_012_05_04_0, // I017/070  5.2.6   Mode 3/A Code in Octal Representation
     2_017_03_03_1, // I017/050  5.2.5   Flight Level in Binary Representation
     4_020_02_02_1, // I017/200  5.2.8   Track Velocity in Polar Co-ordinates
-    1_022_02_01_0, // I017/230  5.2.12  Transponder Capability
-    1_024_03_02_0, // I017/240  5.2.13  Track Status
-    3_027_01_01_1, // I017/210  5.2.9   Mode S Address List
-    1_028_01_01_1, // I017/360  5.2.15  Cluster Controller Command State
-    2_029_02_02_1, // I018/036  5.2.34  Data Source Identifier
-    2_031_02_02_1, // I018/037  5.2.35  Data Destination Identifier
-    1_033_01_01_1, // I018/000  5.2.1   Message Type
-    1_034_02_02_1, // I018/001  5.2.2   Result
-    3_036_01_01_1, // I018/005  5.2.5   Mode S Address
-    4_037_01_01_1, // I018/016  5.2.16  Packet Number
-    4_038_01_01_1, // I018/017  5.2.17  Packet Number List
-    1_039_03_02_0, // I018/018  5.2.18  Mode S Packet Properties
-    1_042_01_01_1, // I018/019  5.2.19  Mode S Packet
-    2_043_01_01_1, // I018/028  5.2.26  GICB Extraction Periodicity
-    2_044_07_05_0, // I018/030  5.2.28  GICB Properties
-    4_051_01_01_1, // I018/025  5.2.24  GICB Number
-    1_052_01_01_1, // I018/027  5.2.25  BDS Code
-    7_053_01_01_1, // I018/029  5.2.27  GICB Extracted
-    3_054_01_01_0, // I018/002  5.2.3   Time of Day
-    3_055_01_01_1, // I018/006  5.2.6   Mode S Address List
-    1_056_05_04_0, // I018/007  5.2.7   Aircraft Data Link Command
-    1_061_06_05_0, // I018/008  5.2.8   Aircraft Data Link Status, first part
-    1_067_02_01_0, // I018/008  5.2.8   Aircraft Data Link Status, extent 1
-    1_069_07_07_1, // I018/009  5.2.9   Aircraft Data Link Report Request, first part
-    1_076_06_05_0, // I018/009  5.2.9   Aircraft Data Link Report Request, extent 1
-    1_082_02_01_0, // I018/010  5.2.10  Transponder Communications Capability
-    7_084_01_01_1, // I018/011  5.2.11  Capability Report
-    4_085_02_02_1, // I018/014  5.2.14  Aircraft Position in Polar Co-ordinates
-    4_087_02_02_1, // I018/015  5.2.15  Aircraft Position in Cartesian Co-ordinates
-    4_089_01_01_1, // I018/020  5.2.20  Broadcast Number
-    6_090_04_04_1, // I018/021  5.2.21  Broadcast Properties
-    4_094_02_01_0, // I018/022  5.2.22  Broadcast Prefix
-    7_096_01_01_1, // I018/023  5.2.23  Uplink or Downlink Broadcast
-    1_097_02_02_1, // I018/004  5.2.4   II Code
-    6_099_01_01_1, // I018/031  5.2.29  Aircraft Identity
-    2_100_05_04_0, // I018/032  5.2.30  Aircraft Mode A
-    2_105_03_03_1, // I018/033  5.2.31  Aircraft Height
-    2_108_01_01_0, // I018/034  5.2.32  Aircraft Speed
-    2_109_01_01_1, // I018/035  5.2.33  Aircraft Heading
-    1_110_02_02_1, // I018/012  5.2.12  Aircraft Coverage Quality Factor
-    1_112_01_01_1, // I018/013  5.2.13  Aircraft CQF Calculation Method
+    1_022_03_02_0, // I017/230  5.2.12  Transponder Capability
+    1_025_03_02_0, // I017/240  5.2.13  Track Status
+    3_028_01_01_1, // I017/210  5.2.9   Mode S Address List
+    1_029_01_01_1, // I017/360  5.2.15  Cluster Controller Command State
+    2_030_02_02_1, // I018/036  5.2.34  Data Source Identifier
+    2_032_02_02_1, // I018/037  5.2.35  Data Destination Identifier
+    1_034_01_01_1, // I018/000  5.2.1   Message Type
+    1_035_02_02_1, // I018/001  5.2.2   Result
+    3_037_01_01_1, // I018/005  5.2.5   Mode S Address
+    4_038_01_01_1, // I018/016  5.2.16  Packet Number
+    4_039_01_01_1, // I018/017  5.2.17  Packet Number List
+    1_040_03_02_0, // I018/018  5.2.18  Mode S Packet Properties
+    1_043_01_01_1, // I018/019  5.2.19  Mode S Packet
+    2_044_01_01_1, // I018/028  5.2.26  GICB Extraction Periodicity
+    2_045_07_05_0, // I018/030  5.2.28  GICB Properties
+    4_052_01_01_1, // I018/025  5.2.24  GICB Number
+    1_053_01_01_1, // I018/027  5.2.25  BDS Code
+    7_054_01_01_1, // I018/029  5.2.27  GICB Extracted
+    3_055_01_01_0, // I018/002  5.2.3   Time of Day
+    3_056_01_01_1, // I018/006  5.2.6   Mode S Address List
+    1_057_05_04_0, // I018/007  5.2.7   Aircraft Data Link Command
+    1_062_06_05_0, // I018/008  5.2.8   Aircraft Data Link Status, first part
+    1_068_02_01_0, // I018/008  5.2.8   Aircraft Data Link Status, extent 1
+    1_070_07_07_1, // I018/009  5.2.9   Aircraft Data Link Report Request, first part
+    1_077_06_05_0, // I018/009  5.2.9   Aircraft Data Link Report Request, extent 1
+    1_083_02_01_0, // I018/010  5.2.10  Transponder Communications Capability
+    7_085_01_01_1, // I018/011  5.2.11  Capability Report
+    4_086_02_02_1, // I018/014  5.2.14  Aircraft Position in Polar Co-ordinates
+    4_088_02_02_1, // I018/015  5.2.15  Aircraft Position in Cartesian Co-ordinates
+    4_090_01_01_1, // I018/020  5.2.20  Broadcast Number
+    6_091_04_04_1, // I018/021  5.2.21  Broadcast Properties
+    4_095_02_01_0, // I018/022  5.2.22  Broadcast Prefix
+    7_097_01_01_1, // I018/023  5.2.23  Uplink or Downlink Broadcast
+    1_098_02_02_1, // I018/004  5.2.4   II Code
+    6_100_01_01_1, // I018/031  5.2.29  Aircraft Identity
+    2_101_05_04_0, // I018/032  5.2.30  Aircraft Mode A
+    2_106_03_03_1, // I018/033  5.2.31  Aircraft Height
+    2_109_01_01_0, // I018/034  5.2.32  Aircraft Speed
+    2_110_01_01_1, // I018/035  5.2.33  Aircraft Heading
+    1_111_02_02_1, // I018/012  5.2.12  Aircraft Coverage Quality Factor
+    1_113_01_01_1, // I018/013  5.2.13  Aircraft CQF Calculation Method
 ];
 // ---- end of what is made
 
