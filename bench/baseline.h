@@ -1,5 +1,5 @@
 /* Two checkers of recordings of categories 017 and 018, written by hand in C, to be compared with: nothing is proved of either.
- * They read I017/230 as edition 1.3 has it in its list (five spare bits). README.md says how they were made. */
+ * They read I017/230 as edition 1.3 has it in its figure (bit 5 is SI, four spare bits). README.md says how they were made. */
 #ifndef BASELINE_H
 #define BASELINE_H
 
