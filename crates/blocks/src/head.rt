@@ -6,8 +6,8 @@
 //     +--------+--------+--------+---- ..
 //
 // LEN has the higher octet first, and counts all octets of the block.
+use numbers::octet;
 use tables::PROFILES;
-use tables::octet;
 use tables::profile_of;
 ghost use mathlib.Core.Path.{_≡_};
 ghost use lib.Dec.{eqb, leb};

@@ -3,7 +3,6 @@ pub mod WriteSound
 pub mod WriteFields
 pub mod WriteLaid
 pub mod WriteTables
-pub mod WriteSigns
 pub mod WriteParts
 pub mod WriteCode
 pub mod WriteTurns

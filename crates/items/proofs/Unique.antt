@@ -71,6 +71,3 @@ pub one-write-item : (category reference : ℕ) (fields : List ℤ) (out : List 
     → writtenAs b ≡ countOf (writeOne categories category reference fields (length out)) → right ≡ leaves (writeOne categories category reference fields (length out)) out
     → (a ≡ b) × (left ≡ right)
 one-write-item category reference fields out a b left right p l q r = (same-written a b (p ∙ sym q), l ∙ sym r)
-
-pub one-magnitude : (x : ℤ) (a b : ℕ) → a ≡ mag x → b ≡ mag x → a ≡ b
-one-magnitude x a b p q = p ∙ sym q

@@ -16,7 +16,6 @@ use tables::profile_of;
 use tables::single_at;
 use tables::size_at;
 pub use write::ItemWritten;
-pub use write::magnitude;
 pub use write::write_item;
 ghost use mathlib.Core.Path.{_≡_};
 ghost use mathlib.Core.Bool.{true};

@@ -1,6 +1,7 @@
 // Writing one item: its fields, a list of whole numbers, to octets. All fields are checked before any octet is laid, so that a refusal changes
 // nothing. The parts of an item are packed one after another, by the groups of its layout; no item has code of its own.
 use super::layout_of;
+use numbers::magnitude;
 use tables::EXTENDED;
 use tables::LED;
 use tables::REPEATED;
@@ -11,7 +12,6 @@ use tables::layout_at;
 ghost use mathlib.Core.Path.{_≡_};
 ghost use Prim.Native.Nat.{ℕ, _+_, _-_, _*_, _^_, _<_, _≤_};
 ghost use lib.ListN.{length, drop, getD};
-ghost use lib.Signed.{mag};
 ghost use lib.Seq.{sets};
 ghost use Rattle.rules.specs.Answer.{ok, octetsOf};
 ghost use Rattle.rules.specs.Layout.{octets};
@@ -22,17 +22,6 @@ ghost use Rattle.items.specs.Write.{fieldIn, groupIn, noGroup, partsAt, 
 ghost use Rattle.items.specs.Answers.{countOf};
 
 // ---- one value
-
-// x where it is not negative, and -x - 1 where it is.
-pub fn magnitude(x: i64) -> u64
-    ensures { λ r. ⌜ r ≡ mag x ⌝ }
-{
-    if x < 0 {
-        let y = -1 - x;
-        return y as u64;
-    }
-    x as u64
-}
 
 // A number, and after it so many bits more.
 fn append_bits(n: u64, bits: u64, code: u64) -> u64

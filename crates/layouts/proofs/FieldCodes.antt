@@ -21,24 +21,9 @@ use Rattle.tables.specs.declared.tables.FieldRow.{FieldRow}
 use Rattle.tables.specs.Tables.{minus, fieldRow}
 use Rattle.layouts.specs.Read.{twosOf, valueOf, within, isSpare, width, legal, shown, values}
 
--- ---- signed numbers, for the functions that make one
+-- ---- signed numbers
 
--- -1 - k
-minus-one : (k : ℕ) → negsuc 0 -ℤ pos k ≡ negsuc k
-minus-one zero = refl
-minus-one (suc n) = ap (λ (m : ℕ). negsuc (suc m)) (zero-add n)
-
-module _ (k : ℕ) (h : k < 2 ^ 63) where
-  down-is : negsuc 0 -ℤ toZ w64 k ≡ negsuc k
-  down-is = ap (λ (z : ℤ). negsuc 0 -ℤ z) (toZ-pos w64 k h) ∙ minus-one k
-
-  pub down-fits : SFits w64 (negsuc 0 -ℤ toZ w64 k)
-  down-fits = subst (λ (z : ℤ). SFits w64 z) (sym down-is) (record { sfits = h })
-
-  pub down-back : toZ w64 (ofZ w64 (negsuc 0 -ℤ toZ w64 k)) ≡ negsuc k
-  down-back = toZ-ofZ w64 (negsuc 0 -ℤ toZ w64 k) down-fits ∙ down-is
-
--- a signed number that a local holds is read again from its bits
+-- one that a local holds is read again from its bits
 abbrev pub again : ℤ → ℤ
 again z = toZ w64 (ofZ w64 z)
 

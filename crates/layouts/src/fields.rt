@@ -1,4 +1,6 @@
 // The fields of a part, which is one number: they are cut off it from its highest bit down, each by its row of the table.
+use numbers::down;
+use numbers::up;
 use tables::FieldRow;
 use tables::SPARE;
 use tables::TWOS;
@@ -11,21 +13,6 @@ ghost use lib.Seq.{sets};
 ghost use lib.IntN.{pos, negsuc};
 ghost use Rattle.tables.specs.Tables.{fieldCount};
 ghost use Rattle.layouts.specs.Read.{rows, valueOf, width, shown, takes, values, count};
-
-// n and -(n + 1): the only places where a signed number is made.
-fn up(n: u64) -> i64
-    requires { ⌜ n < 2 ^ 63 ⌝ }
-    ensures { λ r. ⌜ r ≡ pos n ⌝ }
-{
-    n as i64
-}
-
-fn down(n: u64) -> i64
-    requires { ⌜ n < 2 ^ 63 ⌝ }
-    ensures { λ r. ⌜ r ≡ negsuc n ⌝ }
-{
-    -1 - (n as i64)
-}
 
 // The value that a field's code stands for.
 pub fn value_of(f: FieldRow, code: u64) -> i64

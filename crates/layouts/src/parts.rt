@@ -1,5 +1,7 @@
 // The parts of an item, end to end: how many there are and how many octets they take, and their fields, part by part.
 use super::fields::fields_store;
+use numbers::octet;
+use numbers::wide;
 use tables::EXTENDED;
 use tables::FIXED;
 use tables::LED;
@@ -10,9 +12,7 @@ use tables::are_obeyed;
 use tables::first_rule;
 use tables::group_at;
 use tables::is_free;
-use tables::octet;
 use tables::size_at;
-use tables::wide;
 ghost use mathlib.Core.Path.{_≡_};
 ghost use mathlib.Core.Bool.{true};
 ghost use Prim.Native.Nat.{_+_, _-_, _*_, _%_, _≤_, _<_, _^_};

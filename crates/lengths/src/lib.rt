@@ -1,7 +1,7 @@
 // The fewest octets that the items named by an octet of an FSPEC take (document 02, W-204): of a fixed item its length; of a list or a led item its
 // first octet; of an extended item its first part.
+use numbers::octet;
 use tables::PROFILES;
-use tables::octet;
 use tables::profile_row;
 ghost use mathlib.Core.Path.{_≡_};
 ghost use Prim.Native.Nat.{_≤_, _<_, _+_, _*_};
@@ -133,7 +133,7 @@ pub fn least_length(profile: usize, place: usize, octet: u8) -> usize
     let first = rows.first + place * FRNS;
     let mut sum: usize = 0;
     let mut full: usize = 128;
-    let mut left = tables::octet(octet) / 2;
+    let mut left = numbers::octet(octet) / 2;
     let mut k: usize = 0;
     while k < FRNS {
         let bit = full / 2;

@@ -1,4 +1,6 @@
 // Item by item, in one pass: where there is a time, the items before it, and from there on the others.
+use numbers::octet;
+use numbers::wide;
 use quick_items::EXTENDED;
 use quick_items::Steps;
 use quick_items::steps;
@@ -7,10 +9,8 @@ use sets::ItemSet;
 use sets::SetRead;
 use sets::type_frn;
 use sets::weight;
-use tables::octet;
 use tables::profile_of;
 use tables::profile_row;
-use tables::wide;
 ghost use mathlib.Core.Path.{_≡_};
 ghost use mathlib.Core.Bool.{true};
 ghost use mathlib.Core.Option.{none};

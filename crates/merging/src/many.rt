@@ -5,7 +5,7 @@ use crate::run::Merge;
 use crate::run::Which;
 use crate::run::first_by;
 use measuring::Shapes;
-use tables::octet;
+use numbers::octet;
 use walking::Cursor;
 ghost use mathlib.Core.Path.{_≡_};
 ghost use mathlib.Core.Bool.{true};

@@ -2,7 +2,7 @@
 use crate::heads::Standing;
 use crate::heads::behind;
 use crate::heads::stand;
-use items::magnitude;
+use numbers::magnitude;
 use recordings::RecordingChecked;
 use walking::Cursor;
 ghost use mathlib.Core.Path.{_≡_};

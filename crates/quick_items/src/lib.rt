@@ -1,8 +1,8 @@
 // The check of an item that accepts only, with few looks: by a table that the caller lends, since a constant is written out where it is read. What it
 // does not tell is left to the exact check. The same table says how many octets an item has that was checked.
+use numbers::octet;
 use tables::FRNS;
 use tables::PROFILES;
-use tables::octet;
 ghost use mathlib.Core.Path.{_≡_};
 ghost use mathlib.Core.Bool.{true};
 ghost use Prim.Native.Nat.{_≤_, _<_, _^_};

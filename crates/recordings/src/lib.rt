@@ -1,9 +1,9 @@
 // A recording: blocks end to end, checked whole, or block by block as it is read (document 01, "What the reader and writer cover").
 use blocks::FrontChecked;
+use numbers::octet;
 use quick_items::Steps;
 use quick_records::Sets;
 use quick_records::Types;
-use tables::octet;
 ghost use mathlib.Core.Path.{_≡_};
 ghost use mathlib.Core.Bool.{true};
 ghost use Prim.Native.Nat.{_+_};

@@ -4,8 +4,8 @@ mod messages;
 
 use messages::MessageRow;
 use messages::row_of;
+use numbers::wide;
 use tables::profile_row;
-use tables::wide;
 ghost use mathlib.Core.Path.{_≡_};
 ghost use mathlib.Core.Bool.{true, false};
 ghost use Prim.Native.Nat.{_+_, _-_, _*_, _/_, _^_, _<_, _≤_, min};

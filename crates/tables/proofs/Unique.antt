@@ -56,11 +56,3 @@ one-pow2 k a b p q = p ∙ sym q
 
 pub one-are-obeyed : (n first end : ℕ) (a b : Bool) → a ≡ allObeyed (slice first end rules) n → b ≡ allObeyed (slice first end rules) n → a ≡ b
 one-are-obeyed n first end a b p q = p ∙ sym q
-
--- ---- octets
-
-pub one-wide : (x a b : ℕ) → (a ≡ x) × (a < 256) → (b ≡ x) × (b < 256) → a ≡ b
-one-wide x a b p q = p .0 ∙ sym (q .0)
-
-pub one-octet : (x a b : ℕ) → (a ≡ x) × (a < 256) → (b ≡ x) × (b < 256) → a ≡ b
-one-octet x a b p q = p .0 ∙ sym (q .0)

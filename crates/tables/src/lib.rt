@@ -1,7 +1,6 @@
 // The tables of the items of categories 017 and 018, a row as one number, and of the fields that have a rule. The contracts tie each table, whole, to
 // the rules' profiles; what a function requires of a place, its callers meet: they take places from these tables.
 mod field_rules;
-mod octets;
 mod profiles;
 mod tables;
 
@@ -11,8 +10,6 @@ pub use field_rules::is_free;
 pub use field_rules::pow2;
 pub use field_rules::single_at;
 pub use field_rules::size_at;
-pub use octets::octet;
-pub use octets::wide;
 pub use profiles::ProfileRow;
 pub use profiles::profile_of;
 pub use profiles::profile_row;

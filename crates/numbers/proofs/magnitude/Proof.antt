@@ -1,9 +1,9 @@
--- `items::write::magnitude` meets its contract: of a negative number `-1 - x` is not negative and fits; any other number is its own magnitude. Assumes nothing.
+-- `numbers::magnitude` meets its contract: of a negative number `-1 - x` is not negative and fits; any other number is its own magnitude. Assumes nothing.
 use mir.Syntax.{w64}
 use mir.ValLaws.{toZ-ofZ}
-use Rattle.items.proofs.WriteSigns.{neg-facts, pos-facts}
-use Rattle.items.proofs.write.magnitude.Statement.{statement}
-use Rattle.items.proofs.write.magnitude.Tie as tie
+use Rattle.numbers.proofs.Signs.{neg-facts, pos-facts}
+use Rattle.numbers.proofs.magnitude.Statement.{statement}
+use Rattle.numbers.proofs.magnitude.Tie as tie
 
 sub-y : tie.Need-sub-y
 sub-y c = (neg-facts (c .before .args .x) _ (toZ-ofZ w64 (c .before .args .x) (c .before .fits .x)) (c .before .fits .x) (c .if1 .taken)) .0

@@ -1,9 +1,9 @@
--- `layouts::fields::up` meets its contract. Assumes nothing.
+-- `numbers::up` meets its contract. Assumes nothing.
 use mir.Syntax.{w64}
 use mir.ValLaws.{toZ-pos}
 use borrow.Author.Needs.{needs}
-use Rattle.layouts.proofs.fields.up.Statement.{statement}
-use Rattle.layouts.proofs.fields.up.Tie as tie
+use Rattle.numbers.proofs.up.Statement.{statement}
+use Rattle.numbers.proofs.up.Tie as tie
 
 cast-result : tie.Need-cast-result
 cast-result c = search needs

@@ -1,8 +1,8 @@
--- `layouts::fields::down` meets its contract. Assumes nothing.
-use Rattle.layouts.proofs.FieldCodes.{down-fits, down-back}
+-- `numbers::down` meets its contract. Assumes nothing.
+use Rattle.numbers.proofs.Signs.{down-fits, down-back}
 use borrow.Author.Needs.{needs}
-use Rattle.layouts.proofs.fields.down.Statement.{statement}
-use Rattle.layouts.proofs.fields.down.Tie as tie
+use Rattle.numbers.proofs.down.Statement.{statement}
+use Rattle.numbers.proofs.down.Tie as tie
 
 cast-result : tie.Need-cast-result
 cast-result c = search needs
