@@ -1,0 +1,5 @@
+pub mod MarkSteps
+pub mod NumberLaws
+pub mod ChangedLaws
+pub mod Unique
+pub mod FoundLaws

@@ -1,0 +1,3 @@
+pub mod ChangeSteps
+pub mod WriteSteps
+pub mod Unique

@@ -1,0 +1,5 @@
+pub mod FieldLaws
+pub mod ListLaws
+pub mod TotalLaws
+pub mod SheetSteps
+pub mod Unique
