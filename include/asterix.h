@@ -1,4 +1,4 @@
-/* ASTERIX categories 017 and 018: checking, finding, merging two logs, reading and writing.
+/* ASTERIX categories 017 and 018: checking, finding, merging two logs, reading and writing; exercise sheets.
  *
  * Category 017, Mode S Surveillance Coordination Function Messages, edition 1.3; category 018, Mode S Datalink
  * Function Messages, edition 1.6. Every item and message type of both. The functions are those of the crate
@@ -8,7 +8,7 @@
  *     cc -Iinclude program.c target/staticlib/libasterix.a     x86-64 Linux; C99, C11 or C++
  *
  * In order: what holds of every call; refusals; checking; finding; walking a log; merging two logs; one item; adding
- * a record; lengths; the items and their fields.
+ * a record; lengths; exercise sheets; the items and their fields.
  *
  *
  * What holds of every call
@@ -23,7 +23,7 @@
  * - A refused call changes no byte of anything that was lent to it.
  * - Calls from several threads at once are fine where none writes to what another reads or writes.
  *
- * Each answer is a struct by value. Its `number` is 0 where the work was done, and else the refusal's, 1 to 23;
+ * Each answer is a struct by value. Its `number` is 0 where the work was done, and else the refusal's, 1 to 36;
  * its `place` is that of the refusal, and 0 where there is none. Its other members are 0 where it is a refusal
  * (but for `next` of a walk, and the log and the places of a merging).
  *
@@ -66,10 +66,18 @@ extern "C" {
  *   21   the category has no item with that reference                                  0
  *   22   the clock offset is not from -46,080 to 46,080                                0
  *   23   a place that is neither a record's start nor the log's end                    0
+ *   30   a field of a sheet is cut, its head or its body                               field
+ *   31   a sheet has no such field, another in its place, or bytes after the last      field
+ *   32   a field of another length than what it holds                                  field
+ *   33   a barred value in a sheet, or marks that do not rise                          field or mark
+ *   34   more marks than a sheet may have                                              field
+ *   35   there is a mark already at that log and place                                 0
+ *   36   there is no mark at that log and place                                        0
  *
  * "Block", "record" and "item": where that block, record or item starts. Places count from the start of the
  * block or recording that was lent (of two logs: the one that is refused); of one item alone, and of the new items of
- * an added record, from the start of those bytes (there "record" is 0).
+ * an added record, from the start of those bytes (there "record" is 0). "Field" is where that field of the sheet
+ * starts or would start, "mark" the first mark at fault; in what was to be written both are 0.
  *
  * Blocks are taken in order, the records of a block in order, and the first fault ends the work. At a block's
  * start 1, 2, 3, 4 are tried in that order; in a record 5 and 6 octet by octet, then 7, then 8, then each item
@@ -98,7 +106,14 @@ enum asterix_refusal {
     ASTERIX_ITEM_ABSENT = 20,
     ASTERIX_NO_SUCH_ITEM = 21,
     ASTERIX_OFFSET_RANGE = 22,
-    ASTERIX_NO_SUCH_PLACE = 23
+    ASTERIX_NO_SUCH_PLACE = 23,
+    ASTERIX_SHEET_CUT = 30,
+    ASTERIX_SHEET_TAG = 31,
+    ASTERIX_SHEET_LENGTH = 32,
+    ASTERIX_SHEET_VALUE = 33,
+    ASTERIX_SHEET_FULL = 34,
+    ASTERIX_MARK_TWICE = 35,
+    ASTERIX_NO_SUCH_MARK = 36
 };
 
 /* What a refusal number means, in a few words; "" for a number that is none. */
@@ -128,9 +143,22 @@ static inline const char *asterix_refusal_text(unsigned number)
         "the record does not have that item",
         "the category has no item with that reference",
         "the clock offset is out of range",
-        "a place is neither a record's start nor the log's end"
+        "a place is neither a record's start nor the log's end",
+        "",
+        "",
+        "",
+        "",
+        "",
+        "",
+        "a field of the sheet is cut",
+        "a field of the sheet is not there, is another, or bytes follow the last",
+        "a field of the sheet has another length than what it holds",
+        "a value in the sheet is barred, or its marks do not rise",
+        "the sheet has too many marks",
+        "there is a mark already at that log and place",
+        "there is no mark at that log and place"
     };
-    return text[number <= 23 ? number : 0];
+    return text[number <= 36 ? number : 0];
 }
 
 /* ---- Checking */
@@ -425,6 +453,113 @@ static inline uint64_t asterix_frn(unsigned frn)
  * or an extended item 1. `place` is the octet's, the first is 0; its FX bit and the bits of FRNs without an item
  * add nothing. 0 where the category has no such octet, or is neither 17 nor 18. */
 size_t asterix_least_length(uint8_t category, size_t place, uint8_t octet);
+
+/* ---- Exercise sheets
+ *
+ * An instructor's marks of an exercise, and the clock offset of its second log. A sheet is three fields and nothing
+ * after them, each a tag of one byte, a length of two and so many bytes; numbers have their high byte first:
+ *
+ *   tag 1  1 byte       the edition, 1
+ *   tag 2  4 bytes      the clock offset, two's complement, -46,080 to 46,080 in 1/128 s
+ *   tag 3  8 each       the marks: place in the log (4), log 0 or 1, station 0 to 5, any comment code, zero
+ *
+ * Marks rise by log and then by place, no two at one log and place; there are at most 200, perhaps none. So the same
+ * marks and offset have one sheet, of 14 + 8 n bytes.
+ *
+ *     struct asterix_sheet_read read = asterix_read_sheet(sheet, sheet_len);
+ *     if (read.number)
+ *         ...                                   refused
+ *     for (size_t i = 0; i < read.marks.count; i++)
+ *         ...                                   asterix_find_mark(sheet, sheet_len, read.marks, i).mark
+ */
+
+/* The most marks; the stations; the bytes of a mark, as tag 3 has it; and of the longest sheet. */
+enum {
+    ASTERIX_MARKS = 200,
+    ASTERIX_STATIONS = 6,
+    ASTERIX_MARK_BYTES = 8,
+    ASTERIX_SHEET_BYTES = 14 + ASTERIX_MARKS * ASTERIX_MARK_BYTES
+};
+
+struct asterix_mark {
+    uint32_t place; /* in its log; that a record starts there is not asked */
+    uint8_t log;    /* 0 is A, 1 is B */
+    uint8_t station, comment;
+};
+
+/* Where the marks of a sheet lie in it, and how many they are. It is yours to keep; nothing but `count` means
+ * something to you, and nothing in it is yours to set. */
+struct asterix_marks {
+    size_t base, first, count;
+    uint8_t split;
+};
+
+struct asterix_sheet_read {
+    uint8_t number;
+    uint8_t edition;
+    size_t place; /* from the sheet's start */
+    int64_t offset;
+    struct asterix_marks marks;
+};
+
+/* Reads a sheet that is all of `sheet`, in one pass. Refuses field by field: 31 where nothing is left, 30 where its
+ * head or its body is cut, 31 for another tag, 32, then in the marks 34, then 33; and 31 for bytes after the last
+ * field. */
+struct asterix_sheet_read asterix_read_sheet(const uint8_t *sheet, size_t sheet_len);
+
+struct asterix_mark_found {
+    uint8_t found; /* 1: the mark is there. Else 0, and so is all of `mark` */
+    struct asterix_mark mark;
+};
+
+/* The mark with a number, counted from 0, of a sheet that was read; `marks` is from that reading. None where `n` is
+ * not below marks.count. A call costs the same whatever `n` is.
+ *
+ * Any bytes and any `marks` may be given: there is no mark where they do not lie in these bytes by their own numbers
+ * (base at most 14, count at most 8,191, base + 8 * count at most sheet_len; where `split` is not 0, base + 3 +
+ * 7 * count), and else what is found is what stands there, legal or not. */
+struct asterix_mark_found asterix_find_mark(const uint8_t *sheet, size_t sheet_len, struct asterix_marks marks,
+                                            size_t n);
+
+struct asterix_sheet_written {
+    uint8_t number;
+    size_t place;
+    size_t length; /* of the sheet that was written */
+};
+
+/* Writes the sheet of an offset and marks, at the start of `out`. The marks are lent as tag 3 has them, 8 bytes each,
+ * in order (asterix_put_mark). Refuses, at 0, by 34; by 33 (the offset, a mark, marks that do not rise, a last byte
+ * that is not zero, a `marks_len` that 8 does not divide); then by 16. The other bytes of `out` stay as they were. */
+struct asterix_sheet_written asterix_write_sheet(int64_t offset, const uint8_t *marks, size_t marks_len,
+                                                 uint8_t *out, size_t out_len);
+
+/* The bytes of a mark as tag 3 has them. */
+static inline void asterix_put_mark(struct asterix_mark mark, uint8_t bytes[ASTERIX_MARK_BYTES])
+{
+    bytes[0] = (uint8_t)(mark.place >> 24);
+    bytes[1] = (uint8_t)(mark.place >> 16);
+    bytes[2] = (uint8_t)(mark.place >> 8);
+    bytes[3] = (uint8_t)mark.place;
+    bytes[4] = mark.log;
+    bytes[5] = mark.station;
+    bytes[6] = mark.comment;
+    bytes[7] = 0;
+}
+
+/* A changed sheet goes to the start of a second buffer, `out`, whose other bytes stay as they were; `sheet` is only
+ * read. Each refuses first as asterix_read_sheet does, at its places, and then at 0. */
+
+/* The sheet with one mark more, where it belongs. Then refuses by 33 (the mark), 35, 34, 16. */
+struct asterix_sheet_written asterix_add_mark(const uint8_t *sheet, size_t sheet_len, struct asterix_mark mark,
+                                              uint8_t *out, size_t out_len);
+
+/* The sheet without its mark at a log and place. Then refuses by 36, 16. */
+struct asterix_sheet_written asterix_remove_mark(const uint8_t *sheet, size_t sheet_len, uint8_t log, uint32_t place,
+                                                 uint8_t *out, size_t out_len);
+
+/* The sheet without its marks; the offset stays. Then refuses by 16. */
+struct asterix_sheet_written asterix_empty_sheet(const uint8_t *sheet, size_t sheet_len, uint8_t *out,
+                                                 size_t out_len);
 
 /* ---- The items and their fields
  *

@@ -1,8 +1,12 @@
 pub mod StructLaws
 pub mod Unique
+pub mod Numbered
 pub mod NumberLaws
 pub mod WalkLaws
 pub mod MergeLaws
 pub mod WalkUnique
 pub mod MergeUnique
 pub mod MergeNumbers
+pub mod SheetStructs
+pub mod SheetUnique
+pub mod SheetNumbered

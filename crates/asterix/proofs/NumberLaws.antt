@@ -26,6 +26,7 @@ use Rattle.rules.proofs.LayoutLaws.{octets-take}
 use Rattle.rules.proofs.RecordLaws.{record-laws, record-starts}
 use Rattle.rules.proofs.BlockLaws.{HeadCame, head-forth, block-laws, block-starts}
 use Rattle.blocks.proofs.LoopLaws.{Taken, taken}
+use Rattle.asterix.proofs.Numbered as numbered
 use Rattle.walking.specs.declared.Cursor as walking-cursor
 use Rattle.walking.specs.declared.Met.the-variants as met
 use Rattle.walking.specs.declared.Walked.{Walked}
@@ -36,46 +37,36 @@ use Rattle.asterix.specs.Answers.{blockChecked, recordingChecked, record
 
 -- ---- answers
 
-abbrev Number : ℕ → Type 0
-Number n = T (leb 1 n && leb n 21)
-
 pub T-both : (a b : Bool) → T (a && b) → T a × T b
 T-both true b t = (tt, t)
 T-both false b t = absurd t
 
+abbrev Number : ℕ → Type 0
+Number n = numbered.Number 1 21 n
+
 abbrev pub Numbered : {A : Type 0} → Answer A → Type 0
-Numbered m = (n p : ℕ) → m ≡ refused n p → Number n
+Numbered m = numbered.Numbered 1 21 m
 
 done : {A : Type 0} (a : A) → Numbered (ok a)
-done a n p e = refused-ok (sym e)
+done a = numbered.done 1 21 a
 
 refusal : {A : Type 0} (m q : ℕ) → Number m → Numbered {A = A} (refused m q)
-refusal m q h n p e = let z : m ≡ n = cc in subst Number z h
+refusal m q h = numbered.refusal 1 21 m q h
 
 test : {A : Type 0} (t : Bool) (m : ℕ) (x : Answer A) → Number m → Numbered x → Numbered (need t or m then x)
-unfolding need_or_then_
-test true m x h i = i
-test false m x h i = refusal m 0 h
+test t m x h i = numbered.test 1 21 t m x h i
 
 either : {A : Type 0} (t : Bool) (x y : Answer A) → Numbered x → Numbered y → Numbered (if t then x else y)
-unfolding if_then_else_
-either true x y h i = h
-either false x y h i = i
+either t x y h i = numbered.either 1 21 t x y h i
 
 lookup : {A : Type 0} (x : Option A) (m : ℕ) → Number m → Numbered (expect x or m)
-unfolding expect_or_
-lookup none m h = refusal m 0 h
-lookup (some a) m h = done a
+lookup x m h = numbered.lookup 1 21 x m h
 
 step : {A B : Type 0} (m : Answer A) (f : A → Answer B) → Numbered m → ((a : A) → m ≡ ok a → Numbered (f a)) → Numbered (m >>= f)
-unfolding _>>=_
-step (ok a) f h i = i a refl
-step (refused m q) f h i = λ n p e. h n p (cc)
+step m f h i = numbered.step 1 21 m f h i
 
 on : {A : Type 0} (k : ℕ) (m : Answer A) → Numbered m → Numbered (later k m)
-unfolding later
-on k (ok a) h = done a
-on k (refused m q) h = refusal m (k + q) (h m q refl)
+on k m h = numbered.on 1 21 k m h
 
 -- ---- fields
 

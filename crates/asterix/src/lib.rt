@@ -2,13 +2,21 @@
 // a struct by value whose `number` is 0 or the refusal's (document 01, "Refusal numbers and their order"), whose `place` is the refusal's, and whose other
 // members are 0 on refusal (but for a walk's `next`, and a step's places).
 //
-// In order, as in the header: checking; finding; walking a log; two logs on one line; one item; adding a record; lengths.
+// In order, as in the header: checking; finding; walking a log; two logs on one line; one item; adding a record; lengths. Exercise sheets: `sheet`.
+mod sheet;
+
 use finding::ItemLocated;
 use finding::RecordPlace;
 use merging::Begun;
 use merging::Told;
 use records::PLACES;
 use sets::ItemSet;
+pub use sheet::asterix_add_mark;
+pub use sheet::asterix_empty_sheet;
+pub use sheet::asterix_find_mark;
+pub use sheet::asterix_read_sheet;
+pub use sheet::asterix_remove_mark;
+pub use sheet::asterix_write_sheet;
 use walking::Met;
 ghost use mathlib.Core.Path.{_≡_};
 ghost use lib.ListN.{length};
