@@ -528,8 +528,9 @@ struct asterix_sheet_written {
 };
 
 /* Writes the sheet of an offset and marks, at the start of `out`. The marks are lent as tag 3 has them, 8 bytes each,
- * in order (asterix_put_mark). Refuses, at 0, by 34; by 33 (the offset, a mark, marks that do not rise, a last byte
- * that is not zero, a `marks_len` that 8 does not divide); then by 16. The other bytes of `out` stay as they were. */
+ * in order (asterix_put_mark). Refuses, at 0, by 34 (201 whole marks or more); by 33 (the offset, a mark, marks that do
+ * not rise, a last byte that is not zero, a `marks_len` that 8 does not divide); then by 16. The other bytes of `out`
+ * stay as they were. */
 struct asterix_sheet_written asterix_write_sheet(int64_t offset, const uint8_t *marks, size_t marks_len,
                                                  uint8_t *out, size_t out_len);
 

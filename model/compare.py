@@ -5,9 +5,9 @@
 From Category017.antt and Category018.antt it takes every layout, every row of the profile, every
 message type, the item that is a record's time and the types without one, and the section, title, FRN
 and name of a field in the comment beside each (so that two fields of one width, exchanged, show); from
-Catalogue.antt the list of categories. Then reading.py answers every question of tests/vectors, and of
-the pairs of files named, but those about two logs, and its answers are held to those written there. Each
-difference is a line; with one or more the exit status is 1.
+Catalogue.antt the list of categories. Then reading.py (of sheets by sheets.py) answers every question of
+tests/vectors, and of the pairs of files named, but those about two logs, and its answers are held to those
+written there. Each difference is a line; with one or more the exit status is 1.
 """
 
 import pathlib

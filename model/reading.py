@@ -1,26 +1,17 @@
 """The reading and writing rules of document 01, over tables.py, in the plainest way there is.
 
-Answers the questions of tests/vectors (README.md there has their form). It serves to make those
-vectors and to try the tables; it shares nothing with the crates but the documents. Bytes only, no
-speed: every answer starts again from the block's first octet.
+Answers the questions of tests/vectors (README.md there has their form), those about sheets by the rules
+of sheets.py. It serves to make those vectors and to try the tables; it shares nothing with the crates but
+the documents. Bytes only, no speed: every answer starts again from the block's first octet.
 """
 
 import re
 import sys
 
+import sheets
 import tables
+from refusal import Refused
 from tables import FX, SIGNED, SPARE
-
-
-class Refused(Exception):
-    """A refusal: its number, its place, and for an addition where the place lies."""
-
-    def __init__(self, number, place, where=""):
-        super().__init__(number, place, where)
-        self.number, self.place, self.where = number, place, where
-
-    def line(self):
-        return ("refused %d at %d %s" % (self.number, self.place, self.where)).rstrip()
 
 
 # ---- fields and items
@@ -248,7 +239,7 @@ def answer_write(category, reference, room, values):
     octets = write_item(known(category, reference), values)
     if len(octets) > room:
         raise Refused(16, 0)
-    return "ok %d %s" % (len(octets), octets.hex().upper())
+    return answer_octets(octets)
 
 
 def answer_find(octets, reference, n):
@@ -295,8 +286,16 @@ def answer_add(used, room, frns, items):
             raise Refused(16, 0)
     except Refused as fault:
         raise Refused(fault.number, fault.place, "new")
-    whole = whole[:1] + len(whole).to_bytes(2, "big") + whole[3:]
-    return "ok %d %s" % (len(whole), whole.hex().upper())
+    return answer_octets(whole[:1] + len(whole).to_bytes(2, "big") + whole[3:])
+
+
+def answer_octets(octets):
+    return "ok %d %s" % (len(octets), octets.hex().upper())
+
+
+def answer_sheet(octets):
+    edition, offset, marks = sheets.read(octets)
+    return "ok %d %d %d" % (edition, offset, len(marks)) + "".join(" %d:%d:%d:%d" % mark[:4] for mark in marks)
 
 
 HEX = r"(-|(?:[0-9A-Fa-f]{2})+)"
@@ -304,6 +303,9 @@ NUMBER = r"([0-9]+)"
 CAT = r"(0*(?:[0-9]{1,2}|1[0-9]{2}|2[0-4][0-9]|25[0-5]))"
 FIELDS = r"(-|-?[0-9]+(?:,-?[0-9]+)*)"
 FRNS = r"(-|[0-9]+(?:,[0-9]+)*)"
+OFFSET = r"(-?[0-9]+)"
+MARK = r"([0-9]+(?::[0-9]+){3})"
+MARKS = r"(-|[0-9]+(?::[0-9]+){3}(?:,[0-9]+(?::[0-9]+){3})*)"
 
 FORMS = {
     "block": [HEX],
@@ -313,6 +315,11 @@ FORMS = {
     "add": [HEX, NUMBER, FRNS, HEX],
     "find": [HEX, NUMBER, NUMBER],
     "record": [HEX, NUMBER],
+    "sheetread": [HEX],
+    "sheetwrite": [NUMBER, OFFSET, MARKS],
+    "sheetadd": [HEX, MARK, NUMBER],
+    "sheetremove": [HEX, NUMBER, NUMBER, NUMBER],
+    "sheetempty": [HEX, NUMBER],
 }
 
 
@@ -322,6 +329,38 @@ def octets_of(word):
 
 def numbers_of(word):
     return [] if word == "-" else [int(number) for number in word.split(",")]
+
+
+class BadLine(Exception):
+    """A number that its question doesn't take."""
+
+
+def bounded(word, least, greatest):
+    if not least <= int(word) <= greatest:
+        raise BadLine
+    return int(word)
+
+
+def offset_of(word):
+    return bounded(word, -2 ** 63, 2 ** 63 - 1)
+
+
+def place_of(word):
+    return bounded(word, 0, 2 ** 32 - 1)
+
+
+def octet_of(word):
+    return bounded(word, 0, 255)
+
+
+def mark_of(word):
+    """A mark of a sheet; its closing zero isn't the caller's."""
+    place, log, station, comment = word.split(":")
+    return place_of(place), octet_of(log), octet_of(station), octet_of(comment), 0
+
+
+def marks_of(word):
+    return [] if word == "-" else [mark_of(mark) for mark in word.split(",")]
 
 
 def answer(line):
@@ -344,6 +383,18 @@ def answer(line):
             return answer_find(octets_of(words[0]), int(words[1]), int(words[2]))
         if kind == "record":
             return answer_record(octets_of(words[0]), int(words[1]))
+        if kind == "sheetread":
+            return answer_sheet(octets_of(*words))
+        if kind == "sheetwrite":
+            return answer_octets(sheets.write(offset_of(words[1]), marks_of(words[2]), int(words[0])))
+        if kind == "sheetadd":
+            return answer_octets(sheets.add(octets_of(words[0]), mark_of(words[1]), int(words[2])))
+        if kind == "sheetremove":
+            return answer_octets(sheets.remove(octets_of(words[0]), octet_of(words[1]), place_of(words[2]), int(words[3])))
+        if kind == "sheetempty":
+            return answer_octets(sheets.empty(octets_of(words[0]), int(words[1])))
+    except BadLine:
+        return "bad line"
     except Refused as fault:
         return fault.line()
 

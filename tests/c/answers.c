@@ -9,8 +9,8 @@
  * Beside answering it asks the same in other ways, and looks at what was lent: a remark in brackets then stands in the
  * answer, so that it is not the one expected.
  *
- * In order: the answer as text; a line's words; the questions about one block, recording or item; two logs; the table
- * of questions; the lines. */
+ * In order: the answer as text; a line's words; the questions about one block, recording or item; two logs; exercise
+ * sheets; the table of questions; the lines. */
 #include <errno.h>
 #include <inttypes.h>
 #include <stdbool.h>
@@ -25,8 +25,8 @@
 /* A way that takes the square of a length is only tried up to this one. */
 enum { SHORT = 4000 };
 
-/* More room than any item or block needs; what lent octets and numbers hold before a call. */
-enum { ROOM = 65536, MARK = 0xA5 };
+/* More room than any item, block or sheet needs; what lent octets and numbers hold before a call. */
+enum { ROOM = 65536, BLANK = 0xA5 };
 
 /* ---- The answer, as text */
 
@@ -108,24 +108,50 @@ static bool take_number(struct word word, uint64_t most, uint64_t *n)
     return word.length > 0;
 }
 
-/* The same, perhaps with a minus in front; the nearest that 64 bits hold. */
+/* The same for a number that no other stands for: one that is not below `limit` is none. */
+static bool take_below(struct word word, uint64_t limit, uint64_t *n)
+{
+    return take_number(word, limit, n) && *n < limit;
+}
+
+/* Cuts a minus off the front, where there is one. */
+static bool cut_minus(struct word *word)
+{
+    bool below = word->length > 0 && word->at[0] == '-';
+    word->at += below;
+    word->length -= below;
+    return below;
+}
+
+static int64_t with_sign(bool below, uint64_t size)
+{
+    return below ? -(int64_t)(size / 2) - (int64_t)(size - size / 2) : (int64_t)size;
+}
+
+/* A number perhaps with a minus in front; the nearest that 64 bits hold. */
 static bool take_signed(struct word word, int64_t *n)
 {
     uint64_t size;
-    bool below = word.length > 0 && word.at[0] == '-';
-    struct word digits = { word.at + below, word.length - below };
-    if (!take_number(digits, (uint64_t)INT64_MAX + below, &size))
-        return false;
-    *n = below ? -(int64_t)(size / 2) - (int64_t)(size - size / 2) : (int64_t)size;
-    return true;
+    bool below = cut_minus(&word), taken = take_number(word, (uint64_t)INT64_MAX + below, &size);
+    *n = with_sign(below, size);
+    return taken;
+}
+
+/* The same; none where 64 bits do not hold it. */
+static bool take_64_bits(struct word word, int64_t *n)
+{
+    uint64_t size;
+    bool below = cut_minus(&word), taken = take_below(word, (uint64_t)INT64_MAX + below + 1, &size);
+    *n = taken ? with_sign(below, size) : 0;
+    return taken;
 }
 
 static bool take_category(struct word word, uint8_t *category)
 {
     uint64_t n;
-    bool taken = take_number(word, 256, &n);
+    bool taken = take_below(word, 256, &n);
     *category = (uint8_t)n;
-    return taken && n < 256;
+    return taken;
 }
 
 static bool take_reference(struct word word, uint16_t *reference)
@@ -199,16 +225,49 @@ static bool take_frns(struct word word, uint64_t *set)
     return true;
 }
 
+/* PLACE:LOG:STATION:COMMENT. */
+static bool take_mark(struct word word, struct asterix_mark *mark)
+{
+    static const uint64_t limits[] = { (uint64_t)1 << 32, 256, 256, 256 };
+    uint64_t n[COUNT(limits)];
+    for (size_t i = 0; i < COUNT(limits); i++) {
+        struct word one;
+        bool more = cut_word(&word, ':', &one);
+        if (more == (i + 1 == COUNT(limits)) || !take_below(one, limits[i], &n[i]))
+            return false;
+    }
+    *mark = (struct asterix_mark){ (uint32_t)n[0], (uint8_t)n[1], (uint8_t)n[2], (uint8_t)n[3] };
+    return true;
+}
+
+/* A minus alone, or marks with commas between, which give way to their octets: a mark and the comma or space before it
+ * are no fewer characters than those. */
+static bool take_marks(struct word word, struct octets *marks)
+{
+    *marks = (struct octets){ (uint8_t *)word.at - 1, 0 };
+    if (is_word(word, "-"))
+        return true;
+    for (bool more = true; more; marks->count += ASTERIX_MARK_BYTES) {
+        struct word one;
+        struct asterix_mark mark;
+        more = cut_word(&word, ',', &one);
+        if (!take_mark(one, &mark))
+            return false;
+        asterix_put_mark(mark, marks->at + marks->count);
+    }
+    return true;
+}
+
 /* ---- The questions about one block, recording or item. Each takes the words after the first; false where one of them
  * is not what its place asks for, and then nothing is said. */
 
 static int64_t fields[ASTERIX_FIELDS];
 static uint8_t out[ROOM];
 
-static bool is_marked(const void *from, size_t size)
+static bool is_blank(const void *from, size_t size)
 {
     const uint8_t *octets = from;
-    return size == 0 || (octets[0] == MARK && memcmp(octets, octets + 1, size - 1) == 0);
+    return size == 0 || (octets[0] == BLANK && memcmp(octets, octets + 1, size - 1) == 0);
 }
 
 /* The item at an FRN of a record that was met: it ends where the next starts. */
@@ -305,7 +364,7 @@ static bool ask_read(const struct word *word)
     struct octets item;
     if (!take_category(word[0], &category) || !take_reference(word[1], &reference) || !take_octets(word[2], &item))
         return false;
-    memset(fields, MARK, sizeof fields);
+    memset(fields, BLANK, sizeof fields);
     struct asterix_item_read read = asterix_read_item(category, reference, item.at, item.count, fields);
     if (read.number)
         say_refused(read.number, read.place);
@@ -313,9 +372,24 @@ static bool ask_read(const struct word *word)
         say("ok ");
         say_fields(fields, read.count);
     }
-    if (!is_marked(fields + read.count, sizeof fields - read.count * sizeof *fields))
+    if (!is_blank(fields + read.count, sizeof fields - read.count * sizeof *fields))
         say(" (other fields changed)");
     return true;
+}
+
+/* What was written to the first `room` of `out`, or why nothing was. */
+static void say_written(unsigned number, size_t place, size_t length, size_t room)
+{
+    if (number)
+        say_refused(number, place);
+    else {
+        say("ok ");
+        say_number(length);
+        say(" ");
+        say_octets(out, length);
+    }
+    if (!is_blank(out + length, room - length))
+        say(" (other octets changed)");
 }
 
 static bool ask_write(const struct word *word)
@@ -327,18 +401,9 @@ static bool ask_write(const struct word *word)
     if (!take_category(word[0], &category) || !take_reference(word[1], &reference) ||
         !take_number(word[2], ROOM, &room) || !take_list(word[3], fields, &count))
         return false;
-    memset(out, MARK, room);
+    memset(out, BLANK, room);
     struct asterix_item_written written = asterix_write_item(category, reference, fields, count, out, room);
-    if (written.number)
-        say_refused(written.number, written.place);
-    else {
-        say("ok ");
-        say_number(written.length);
-        say(" ");
-        say_octets(out, written.length);
-    }
-    if (!is_marked(out + written.length, room - written.length))
-        say(" (other octets changed)");
+    say_written(written.number, written.place, written.length, room);
     return true;
 }
 
@@ -346,7 +411,7 @@ static bool ask_write(const struct word *word)
 static bool is_kept(const uint8_t *block, size_t room, const uint8_t *old, size_t used)
 {
     size_t both = room < used ? room : used;
-    return memcmp(block, old, both) == 0 && is_marked(block + both, room - both);
+    return memcmp(block, old, both) == 0 && is_blank(block + both, room - both);
 }
 
 /* Room that no block needs counts as ROOM, or as the octets in use where those are more: then they are no block. So
@@ -360,7 +425,7 @@ static bool ask_add(const struct word *word)
         return false;
     uint8_t *block = old.count <= ROOM ? out : old.at + old.count;
     if (room > old.count)
-        memset(block, MARK, room);
+        memset(block, BLANK, room);
     memcpy(block, old.at, old.count);
     struct asterix_record_added added = asterix_add_record(block, room, old.count, set, items.at, items.count);
     if (added.number) {
@@ -374,7 +439,7 @@ static bool ask_add(const struct word *word)
     say_number(added.length);
     say(" ");
     say_octets(block, added.length);
-    if (!is_marked(block + added.length, room - added.length))
+    if (!is_blank(block + added.length, room - added.length))
         say(" (other octets changed)");
     return true;
 }
@@ -583,6 +648,175 @@ static bool ask_mergerun(const struct word *word)
     return true;
 }
 
+/* ---- Exercise sheets */
+
+/* Octets that were lent to be read, by a number that one changed octet changes. */
+static uint64_t digest(struct octets octets)
+{
+    uint64_t sum = octets.count;
+    for (size_t i = 0; i < octets.count; i++)
+        sum = (sum ^ octets.at[i]) * 0x100000001B3;
+    return sum;
+}
+
+static void say_kept(struct octets lent, uint64_t was)
+{
+    if (digest(lent) != was)
+        say(" (lent octets changed)");
+}
+
+/* A sheet made the other way, to be held to one that was asked about. */
+static uint8_t again[ASTERIX_SHEET_BYTES];
+
+static bool is_again(struct asterix_sheet_written made, struct octets sheet)
+{
+    return !made.number && made.length == sheet.count && memcmp(again, sheet.at, sheet.count) == 0;
+}
+
+/* The octets of a sheet's marks, as they are found one by one. False where they are not as many as it says. */
+static uint8_t found[ASTERIX_MARKS * ASTERIX_MARK_BYTES];
+
+static bool find_marks(struct octets sheet, struct asterix_marks marks)
+{
+    if (marks.count > ASTERIX_MARKS)
+        return false;
+    for (size_t i = 0; i < marks.count; i++) {
+        struct asterix_mark_found one = asterix_find_mark(sheet.at, sheet.count, marks, i);
+        if (!one.found)
+            return false;
+        asterix_put_mark(one.mark, found + i * ASTERIX_MARK_BYTES);
+    }
+    return !asterix_find_mark(sheet.at, sheet.count, marks, marks.count).found;
+}
+
+static void say_marks(struct octets sheet, const struct asterix_sheet_read *read)
+{
+    printf("ok %u %" PRId64 " %zu", read->edition, read->offset, read->marks.count);
+    for (size_t i = 0; i < read->marks.count; i++) {
+        struct asterix_mark mark = asterix_find_mark(sheet.at, sheet.count, read->marks, i).mark;
+        printf(" %u:%u:%u:%u", (unsigned)mark.place, mark.log, mark.station, mark.comment);
+    }
+    if (!find_marks(sheet, read->marks)) {
+        say(" (found otherwise)");
+        return;
+    }
+    size_t length = read->marks.count * ASTERIX_MARK_BYTES;
+    if (!is_again(asterix_write_sheet(read->offset, found, length, again, sizeof again), sheet))
+        say(" (written otherwise)");
+}
+
+static bool ask_sheetread(const struct word *word)
+{
+    struct octets sheet;
+    if (!take_octets(word[0], &sheet))
+        return false;
+    uint64_t was = digest(sheet);
+    struct asterix_sheet_read read = asterix_read_sheet(sheet.at, sheet.count);
+    struct asterix_marks marks = read.marks;
+    if (read.number) {
+        say_refused(read.number, read.place);
+        if (read.edition || read.offset || marks.base || marks.first || marks.count || marks.split)
+            say(" (and a sheet)");
+    } else
+        say_marks(sheet, &read);
+    say_kept(sheet, was);
+    return true;
+}
+
+/* Whether a sheet is read as one of this offset and these marks. */
+static bool is_read(struct octets sheet, int64_t offset, struct octets marks)
+{
+    struct asterix_sheet_read read = asterix_read_sheet(sheet.at, sheet.count);
+    return !read.number && read.offset == offset && find_marks(sheet, read.marks) &&
+           read.marks.count * ASTERIX_MARK_BYTES == marks.count && memcmp(found, marks.at, marks.count) == 0;
+}
+
+static bool ask_sheetwrite(const struct word *word)
+{
+    uint64_t room;
+    int64_t offset;
+    struct octets marks;
+    if (!take_number(word[0], ROOM, &room) || !take_64_bits(word[1], &offset) || !take_marks(word[2], &marks))
+        return false;
+    uint64_t was = digest(marks);
+    memset(out, BLANK, room);
+    struct asterix_sheet_written written = asterix_write_sheet(offset, marks.at, marks.count, out, room);
+    say_written(written.number, written.place, written.length, room);
+    if (!written.number && !is_read((struct octets){ out, written.length }, offset, marks))
+        say(" (read otherwise)");
+    say_kept(marks, was);
+    return true;
+}
+
+static bool ask_sheetadd(const struct word *word)
+{
+    struct octets sheet;
+    struct asterix_mark mark;
+    uint64_t room;
+    if (!take_octets(word[0], &sheet) || !take_mark(word[1], &mark) || !take_number(word[2], ROOM, &room))
+        return false;
+    uint64_t was = digest(sheet);
+    memset(out, BLANK, room);
+    struct asterix_sheet_written added = asterix_add_mark(sheet.at, sheet.count, mark, out, room);
+    say_written(added.number, added.place, added.length, room);
+    size_t length = added.length;
+    if (!added.number &&
+        !is_again(asterix_remove_mark(out, length, mark.log, mark.place, again, sizeof again), sheet))
+        say(" (removed otherwise)");
+    say_kept(sheet, was);
+    return true;
+}
+
+/* The mark of a sheet at a log and place; its last where it has none there. */
+static struct asterix_mark mark_at(struct octets sheet, uint8_t log, uint32_t place)
+{
+    struct asterix_sheet_read read = asterix_read_sheet(sheet.at, sheet.count);
+    struct asterix_mark mark = { 0, 0, 0, 0 };
+    for (size_t i = 0; i < read.marks.count; i++) {
+        mark = asterix_find_mark(sheet.at, sheet.count, read.marks, i).mark;
+        if (mark.log == log && mark.place == place)
+            break;
+    }
+    return mark;
+}
+
+static bool ask_sheetremove(const struct word *word)
+{
+    struct octets sheet;
+    uint64_t log, place, room;
+    if (!take_octets(word[0], &sheet) || !take_below(word[1], 256, &log) ||
+        !take_below(word[2], (uint64_t)1 << 32, &place) || !take_number(word[3], ROOM, &room))
+        return false;
+    uint64_t was = digest(sheet);
+    struct asterix_mark mark = mark_at(sheet, (uint8_t)log, (uint32_t)place);
+    memset(out, BLANK, room);
+    struct asterix_sheet_written removed =
+        asterix_remove_mark(sheet.at, sheet.count, (uint8_t)log, (uint32_t)place, out, room);
+    say_written(removed.number, removed.place, removed.length, room);
+    if (!removed.number && !is_again(asterix_add_mark(out, removed.length, mark, again, sizeof again), sheet))
+        say(" (added otherwise)");
+    say_kept(sheet, was);
+    return true;
+}
+
+static bool ask_sheetempty(const struct word *word)
+{
+    struct octets sheet;
+    uint64_t room;
+    if (!take_octets(word[0], &sheet) || !take_number(word[1], ROOM, &room))
+        return false;
+    uint64_t was = digest(sheet);
+    int64_t offset = asterix_read_sheet(sheet.at, sheet.count).offset;
+    memset(out, BLANK, room);
+    struct asterix_sheet_written emptied = asterix_empty_sheet(sheet.at, sheet.count, out, room);
+    say_written(emptied.number, emptied.place, emptied.length, room);
+    struct octets empty = { out, emptied.length };
+    if (!emptied.number && !is_again(asterix_write_sheet(offset, found, 0, again, sizeof again), empty))
+        say(" (written otherwise)");
+    say_kept(sheet, was);
+    return true;
+}
+
 /* ---- The table of questions */
 
 enum { WORDS = 5 };
@@ -592,11 +826,20 @@ static const struct question {
     size_t words; /* after the first */
     bool (*ask)(const struct word *word);
 } questions[] = {
-    { "block", 1, ask_block },       { "recording", 1, ask_recording },
-    { "read", 3, ask_read },         { "write", 4, ask_write },
-    { "add", 4, ask_add },           { "find", 3, ask_find },
-    { "record", 2, ask_record },     { "merge", 5, ask_merge },
+    { "block", 1, ask_block },
+    { "recording", 1, ask_recording },
+    { "read", 3, ask_read },
+    { "write", 4, ask_write },
+    { "add", 4, ask_add },
+    { "find", 3, ask_find },
+    { "record", 2, ask_record },
+    { "merge", 5, ask_merge },
     { "mergerun", 3, ask_mergerun },
+    { "sheetread", 1, ask_sheetread },
+    { "sheetwrite", 3, ask_sheetwrite },
+    { "sheetadd", 3, ask_sheetadd },
+    { "sheetremove", 4, ask_sheetremove },
+    { "sheetempty", 2, ask_sheetempty },
 };
 
 static bool answer_line(struct word line)

@@ -7,7 +7,8 @@
  *
  * Status 1 where anything differs; where a refusal number was never met, or one that an entry point can give was
  * not met there, or one that it can't give was; where a message type was never accepted, or an item never found,
- * read or written; where two logs were never finished, or one never refused or gone on in. */
+ * read or written; where two logs were never finished, or one never refused or gone on in; where a field of a sheet
+ * was never at fault in a way that it can be, or a mark never found or missed. */
 #include <inttypes.h>
 #include <stdbool.h>
 #include <stdio.h>
@@ -23,16 +24,41 @@
 
 /* ---- What was met */
 
-enum call { BLOCK, RECORDING, RECORD, ITEM, WALK, STEP, BEGIN, READ, WRITE, ADD_OLD, ADD_NEW, CALLS };
+enum call {
+    BLOCK,
+    RECORDING,
+    RECORD,
+    ITEM,
+    WALK,
+    STEP,
+    BEGIN,
+    READ,
+    WRITE,
+    ADD_OLD,
+    ADD_NEW,
+    SHEET_READ,
+    SHEET_WRITE,
+    MARK_ADD_OLD,
+    MARK_ADD,
+    MARK_REMOVE_OLD,
+    MARK_REMOVE,
+    SHEET_EMPTY_OLD,
+    SHEET_EMPTY,
+    CALLS
+};
 
 static const char *const call_name[CALLS] = { "check_block", "check_recording", "find_record", "find_item",
                                               "next_record", "merge_step",      "begin_merge", "read_item",
-                                              "write_item",  "add (old)",       "add (new)" };
+                                              "write_item",  "add (old)",       "add (new)",   "read_sheet",
+                                              "write_sheet", "add_mark (old)",  "add_mark",    "remove (old)",
+                                              "remove_mark", "empty (old)",     "empty_sheet" };
 
-/* The numbers that each call can give, as bits; 0 is an acceptance, which of adding is counted with the new. */
+/* The numbers that each call can give, as bits; 0 is an acceptance, which of adding is counted with the new. Of a
+ * changed sheet the refusals that reading gives are told apart as the old one's. */
 #define IN_BLOCK 0xFFFEu /* 1 to 15 */
-#define NO(n) (1u << (n))
-static const unsigned can_give[CALLS] = {
+#define NO(n) ((uint64_t)1 << (n))
+#define IN_SHEET (NO(30) | NO(31) | NO(32) | NO(33) | NO(34))
+static const uint64_t can_give[CALLS] = {
     NO(0) | IN_BLOCK,
     NO(0) | IN_BLOCK,
     NO(0) | IN_BLOCK | NO(19),
@@ -44,9 +70,17 @@ static const unsigned can_give[CALLS] = {
     NO(0) | NO(11) | NO(16) | NO(21),
     (IN_BLOCK & ~NO(4)) | NO(16),
     NO(0) | NO(7) | NO(8) | NO(9) | NO(10) | NO(11) | NO(12) | NO(13) | NO(14) | NO(15) | NO(16) | NO(17) | NO(18),
+    NO(0) | IN_SHEET,
+    NO(0) | NO(16) | NO(33) | NO(34),
+    IN_SHEET,
+    NO(0) | NO(16) | NO(33) | NO(34) | NO(35),
+    IN_SHEET,
+    NO(0) | NO(16) | NO(36),
+    IN_SHEET,
+    NO(0) | NO(16),
 };
 
-enum { NUMBERS = 24 };
+enum { NUMBERS = 37 };
 static size_t met[CALLS][NUMBERS];
 static size_t types_accepted[COUNT(messages)], found[COUNT(items)], read[COUNT(items)], written[COUNT(items)];
 static size_t calls, lengths, differences;
@@ -57,9 +91,24 @@ enum merging { OF_A, OF_B, FINISHED, REFUSED_A, REFUSED_B, MERGINGS };
 static const char *const merging_name[MERGINGS] = { "from A", "from B", "finished", "refused: A", "refused: B" };
 enum way { BY_STEP, BY_BEGIN, BY_NEXT, BY_DAMAGED, WAYS };
 static const char *const way_name[WAYS] = { "merge_step", "begin_merge", "next_merged", "damaged merges" };
-static const unsigned can_meet[WAYS] = { 0x1F, NO(REFUSED_A) | NO(REFUSED_B), NO(OF_A) | NO(OF_B) | NO(FINISHED),
+static const uint64_t can_meet[WAYS] = { 0x1F, NO(REFUSED_A) | NO(REFUSED_B), NO(OF_A) | NO(OF_B) | NO(FINISHED),
                                          NO(OF_A) | NO(OF_B) | NO(FINISHED) };
 static size_t merged[WAYS][MERGINGS];
+
+/* Of sheets that are refused: in what way, and at which field, or behind the last one's head. */
+enum fault { CUT_HEAD, CUT_BODY, NOTHING_LEFT, OTHER_TAG, OTHER_LENGTH, BARRED, TOO_MANY, FAULTS };
+static const char *const fault_name[FAULTS] = {
+    "30, its head", "30, its body", "31, nothing left", "31, a tag", "32", "33", "34"
+};
+enum field_at { TAG_1, TAG_2, TAG_3, BEHIND, FIELDS_AT };
+static const char *const field_name[FIELDS_AT] = { "tag 1", "tag 2", "tag 3", "marks, after" };
+static const uint64_t can_be[FAULTS] = { 0x7, 0x7, 0x7, 0xF, 0x7, NO(TAG_1) | NO(TAG_2) | NO(BEHIND), NO(TAG_3) };
+static size_t at_fault[FAULTS][FIELDS_AT], sheets_empty, sheets_full;
+
+/* Of marks that are found by where they lie: as reading told, or otherwise, in one list or in two. */
+enum finding { AS_READ, ONE_LIST, TWO_LISTS, FINDINGS };
+static const char *const finding_name[FINDINGS] = { "as read", "damaged, one list", "damaged, two lists" };
+static size_t marks_met[FINDINGS][2]; /* none, found */
 
 /* ---- Lending: a region between two pages that may not be touched */
 
@@ -481,6 +530,175 @@ static void try_add(struct chance *c, const uint8_t *old, size_t room, size_t us
         printf("  room %zu, used %zu, set %016" PRIx64 ", items ", room, used, frns);
         print_octets(new, have);
         printf("\n");
+    }
+}
+
+/* The fault that a number, a place and the sheet's length tell. */
+static void tally_fault(struct plain_fault fault, size_t have)
+{
+    enum field_at at = fault.place == 0 ? TAG_1 : fault.place == 4 ? TAG_2 : fault.place == 11 ? TAG_3 : BEHIND;
+    switch (fault.number) {
+    case 30:
+        at_fault[have - fault.place < 3 ? CUT_HEAD : CUT_BODY][at]++;
+        break;
+    case 31:
+        at_fault[have == fault.place ? NOTHING_LEFT : OTHER_TAG][at]++;
+        break;
+    case 32:
+        at_fault[OTHER_LENGTH][at]++;
+        break;
+    case 33:
+        at_fault[BARRED][at]++;
+        break;
+    case 34:
+        at_fault[TOO_MANY][at]++;
+        break;
+    }
+}
+
+static bool same_mark(struct plain_mark ours, struct asterix_mark theirs)
+{
+    return ours.place == theirs.place && ours.log == theirs.log && ours.station == theirs.station &&
+           ours.comment == theirs.comment;
+}
+
+/* Mark n of these, of a sheet that is lent. Answers what the library has. */
+static struct asterix_mark_found find_both(enum finding way, const uint8_t *sheet, size_t have,
+                                           struct plain_marks marks, size_t n)
+{
+    struct plain_found ours = plain_find_mark(sheet, have, marks, n);
+    struct asterix_marks given = { marks.base, marks.first, marks.count, (uint8_t)marks.split };
+    struct asterix_mark_found theirs = asterix_find_mark(input.at, have, given, n);
+    calls++;
+    marks_met[way][ours.found]++;
+    if (theirs.found != ours.found || !same_mark(ours.mark, theirs.mark)) {
+        differs("find_mark", sheet, have, "");
+        printf("  mark %zu of %zu, %zu, %zu, %u\n  plain   %d, %u:%u:%u:%u\n  library %d, %u:%u:%u:%u\n", n,
+               marks.base, marks.first, marks.count, marks.split, ours.found, (unsigned)ours.mark.place,
+               ours.mark.log, ours.mark.station, ours.mark.comment, theirs.found, (unsigned)theirs.mark.place,
+               theirs.mark.log, theirs.mark.station, theirs.mark.comment);
+    }
+    return theirs;
+}
+
+static void try_mark(struct chance *c, const uint8_t *sheet, size_t have, struct plain_marks marks, size_t n)
+{
+    lend(&input, one_in(c, 2), sheet, have);
+    find_both(marks.split ? TWO_LISTS : ONE_LIST, sheet, have, marks, n);
+    if (!unchanged(&input))
+        differs("find_mark", sheet, have, "\n  which changed what was lent");
+}
+
+/* Every mark of a sheet that was read, whose octets must be those of the sheet; and the one after, which is none. */
+static void try_marks(struct chance *c, const uint8_t *sheet, size_t have, struct plain_marks marks)
+{
+    lend(&input, one_in(c, 2), sheet, have);
+    for (size_t n = 0; n <= marks.count; n++) {
+        uint8_t mark[ASTERIX_MARK_BYTES];
+        asterix_put_mark(find_both(AS_READ, sheet, have, marks, n).mark, mark);
+        if (n < marks.count && memcmp(mark, sheet + SHEET_OCTETS + n * MARK_OCTETS, sizeof mark) != 0)
+            differs("find_mark", sheet, have, "\n  which finds a mark of other octets");
+    }
+    if (!unchanged(&input))
+        differs("find_mark", sheet, have, "\n  which changed what was lent");
+}
+
+/* Reading a sheet, and finding its marks. Answers what the plain implementation has. */
+static const struct plain_sheet *try_sheet(struct chance *c, const uint8_t *sheet, size_t have)
+{
+    static struct plain_sheet ours;
+    ours = plain_read_sheet(sheet, have);
+    uint8_t *lent = lend(&input, one_in(c, 2), sheet, have);
+    struct asterix_sheet_read theirs = asterix_read_sheet(lent, have);
+    bool kept = unchanged(&input);
+    tally(SHEET_READ, ours.fault.number);
+    tally_fault(ours.fault, have);
+    sheets_empty += ours.fault.number == 0 && ours.marks.count == 0;
+    sheets_full += ours.marks.count == MOST_MARKS;
+    if (!kept || theirs.number != ours.fault.number || theirs.place != ours.fault.place ||
+        theirs.edition != ours.edition || theirs.offset != ours.offset || theirs.marks.base != ours.marks.base ||
+        theirs.marks.first != ours.marks.first || theirs.marks.count != ours.marks.count ||
+        theirs.marks.split != ours.marks.split) {
+        differs("sheetread", sheet, have,
+                answers(text, sizeof text, ours.fault, ours.edition, ours.marks.count, theirs.number, theirs.place,
+                        theirs.edition, theirs.marks.count, kept));
+        printf("  offset %" PRId64 " and %" PRId64 ", base %zu and %zu, first %zu and %zu, split %u and %u\n",
+               ours.offset, theirs.offset, ours.marks.base, theirs.marks.base, ours.marks.first, theirs.marks.first,
+               ours.marks.split, theirs.marks.split);
+    }
+    if (ours.fault.number == 0)
+        try_marks(c, sheet, have, ours.marks);
+    return &ours;
+}
+
+/* What is lent for a sheet to be written to, and what it should hold then. */
+static uint8_t before[REGION], should[REGION];
+
+static uint8_t *lend_room(struct chance *c, size_t room)
+{
+    for (size_t i = 0; i < room; i++)
+        before[i] = should[i] = (uint8_t)any(c);
+    return lend(&output, one_in(c, 2), before, room);
+}
+
+/* The two answers, and the buffers that were lent. */
+static bool same_written(struct plain_length ours, struct asterix_sheet_written theirs, bool *kept)
+{
+    *kept = unchanged(&input);
+    *kept = (ours.fault.number ? unchanged(&output) : holds(&output, should)) && *kept;
+    return *kept && theirs.number == ours.fault.number && theirs.place == ours.fault.place &&
+           theirs.length == ours.length;
+}
+
+static void written_differs(const char *question, const uint8_t *octets, size_t have, struct plain_length ours,
+                            struct asterix_sheet_written theirs, bool kept)
+{
+    answers(text, sizeof text, ours.fault, ours.length, 0, theirs.number, theirs.place, theirs.length, 0, kept);
+    differs(question, octets, have, text);
+}
+
+static void try_write_sheet(struct chance *c, int64_t offset, const uint8_t *marks, size_t have, size_t room)
+{
+    uint8_t *out = lend_room(c, room), *lent = lend(&input, one_in(c, 2), marks, have);
+    struct plain_length ours = plain_write_sheet(offset, marks, have, should, room);
+    struct asterix_sheet_written theirs = asterix_write_sheet(offset, lent, have, out, room);
+    bool kept;
+    tally(SHEET_WRITE, ours.fault.number);
+    if (!same_written(ours, theirs, &kept)) {
+        char question[80];
+        snprintf(question, sizeof question, "sheetwrite %zu %" PRId64 ", marks", room, offset);
+        written_differs(question, marks, have, ours, theirs, kept);
+    }
+}
+
+/* A changed sheet: with a mark more, without one, or without any. Where `old`, which is what reading it answers, is a
+ * refusal, it is counted as the old sheet's, in the place before the call's. */
+static void try_change(struct chance *c, enum call call, const uint8_t *sheet, size_t have,
+                       const struct plain_sheet *old, struct plain_mark mark, size_t room)
+{
+    uint8_t *out = lend_room(c, room), *lent = lend(&input, one_in(c, 2), sheet, have);
+    struct asterix_mark given = { mark.place, (uint8_t)mark.log, (uint8_t)mark.station, (uint8_t)mark.comment };
+    struct asterix_sheet_written theirs;
+    struct plain_length ours;
+    const char *question;
+    bool kept;
+    if (call == MARK_ADD) {
+        question = "sheetadd";
+        ours = plain_add_mark(sheet, have, mark, should, room);
+        theirs = asterix_add_mark(lent, have, given, out, room);
+    } else if (call == MARK_REMOVE) {
+        question = "sheetremove";
+        ours = plain_remove_mark(sheet, have, mark.log, mark.place, should, room);
+        theirs = asterix_remove_mark(lent, have, given.log, given.place, out, room);
+    } else {
+        question = "sheetempty";
+        ours = plain_empty_sheet(sheet, have, should, room);
+        theirs = asterix_empty_sheet(lent, have, out, room);
+    }
+    tally(old->fault.number ? call - 1 : call, ours.fault.number);
+    if (!same_written(ours, theirs, &kept)) {
+        written_differs(question, sheet, have, ours, theirs, kept);
+        printf("  mark %u:%u:%u:%u, room %zu\n", (unsigned)mark.place, mark.log, mark.station, mark.comment, room);
     }
 }
 
@@ -1030,6 +1248,192 @@ static void input_large(struct chance *c, struct chance *w)
     try_add(c, out, room, used, sketch.frns, sketch.items, sketch.length);
 }
 
+/* ---- Exercise sheets */
+
+/* The octets of marks that two octets of length can tell; and of marks that those would tell as a sheet's most. */
+enum { MOST_TOLD = 65535, MOST_LIST = MOST_TOLD + 1 + MOST_MARKS * MARK_OCTETS };
+
+static size_t draw_count(struct chance *c)
+{
+    switch (below(c, 12)) {
+    case 0:
+        return 0;
+    case 1:
+        return 1;
+    case 2:
+        return MOST_MARKS - 1;
+    case 3:
+    case 4:
+        return MOST_MARKS;
+    case 5:
+        return between(c, 9, MOST_MARKS - 2);
+    default:
+        return between(c, 2, 8);
+    }
+}
+
+/* More than a sheet may have: a few more, as many as an octet would count as fewer, or as two octets of length
+ * would. */
+static size_t draw_too_many(struct chance *c)
+{
+    static const size_t some[] = { MOST_MARKS + 1, MOST_MARKS + 1, MOST_MARKS + 2, 255, 256, 257, 256 + MOST_MARKS };
+    if (one_in(c, 8))
+        return between(c, MOST_TOLD_MARKS - 1, MOST_LIST / MARK_OCTETS);
+    return one_in(c, 3) ? between(c, MOST_MARKS + 1, MOST_MARKS + 100) : some[below(c, COUNT(some))];
+}
+
+/* Marks in `to`, at most `most` octets of them, legal or damaged; how many octets. */
+static size_t draw_marks(struct chance *c, size_t most, uint8_t *to)
+{
+    size_t have = make_marks(c, one_in(c, 12) ? draw_too_many(c) : draw_count(c), to);
+    if (one_in(c, 3))
+        for (size_t n = between(c, 1, 2); n > 0; n--)
+            damage_marks(c, to, &have);
+    return have < most ? have : most - below(c, MARK_OCTETS);
+}
+
+static int64_t draw_legal_offset(struct chance *c)
+{
+    for (;;) {
+        int64_t offset = draw_offset(c);
+        if (-ASTERIX_OFFSET <= offset && offset <= ASTERIX_OFFSET)
+            return offset;
+    }
+}
+
+/* A mark to add or to take out: mostly at or beside one that the sheet has, now and then of no log or station. */
+static struct plain_mark draw_mark(struct chance *c, const struct plain_sheet *sheet)
+{
+    struct plain_mark mark = { (uint32_t)any(c) >> below(c, 32), (unsigned)below(c, 2), (unsigned)below(c, 6),
+                               (unsigned)below(c, 256) };
+    if (sheet->marks.count > 0 && !one_in(c, 8)) {
+        struct plain_mark there = sheet->mark[below(c, sheet->marks.count)];
+        mark.place = there.place;
+        mark.log = there.log;
+        switch (below(c, 6)) {
+        case 0:
+            mark.place++;
+            break;
+        case 1:
+            mark.place--;
+            break;
+        case 2:
+            mark.log = 1 - mark.log;
+            break;
+        }
+    }
+    if (one_in(c, 12))
+        mark.log = one_in(c, 2) ? 2 : (unsigned)below(c, 256);
+    if (one_in(c, 12))
+        mark.station = one_in(c, 2) ? 6 : (unsigned)below(c, 256);
+    return mark;
+}
+
+/* Room for what needs so many octets: as many, one less, none, a mark more or less, or any. */
+static size_t draw_room(struct chance *c, size_t need)
+{
+    if (need > ASTERIX_SHEET_BYTES + 2 * MARK_OCTETS) /* no sheet is that long */
+        need = ASTERIX_SHEET_BYTES;
+    switch (below(c, 10)) {
+    case 0:
+        return 0;
+    case 1:
+    case 2:
+        return need - 1;
+    case 3:
+        return need < MARK_OCTETS ? 0 : need - MARK_OCTETS;
+    case 4:
+        return need + MARK_OCTETS;
+    case 5:
+        return below(c, need + 40);
+    default:
+        return need;
+    }
+}
+
+/* A number of where marks lie, instead of another: beside it, near the most that it may be, or one that wraps where
+ * it is added to or multiplied. */
+static size_t draw_instead(struct chance *c, size_t number)
+{
+    switch (below(c, 8)) {
+    case 0:
+        return number + 1;
+    case 1:
+        return number - 1;
+    case 2:
+        return SIZE_MAX - below(c, 300);
+    case 3:
+        return SIZE_MAX / (7 + below(c, 2)) + below(c, 20);
+    case 4:
+        return MOST_TOLD_MARKS - 1 + below(c, 4);
+    case 5:
+        return (size_t)any(c) >> below(c, 64);
+    default:
+        return below(c, 20);
+    }
+}
+
+/* Where marks may lie: as many as `have` octets hold, of either kind, or with other numbers. */
+static struct plain_marks draw_where(struct chance *c, size_t have)
+{
+    struct plain_marks marks = { SHEET_OCTETS, 0, 0, 0 };
+    if (one_in(c, 2)) {
+        marks.split = one_in(c, 2) ? 1 : (unsigned)below(c, 256);
+        marks.count = have < SHEET_OCTETS + 3 ? 0 : (have - SHEET_OCTETS - 3) / (MARK_OCTETS - 1);
+    } else
+        marks.count = have < SHEET_OCTETS ? 0 : (have - SHEET_OCTETS) / MARK_OCTETS;
+    marks.first = below(c, marks.count + 2);
+    for (size_t n = below(c, 3); n > 0; n--)
+        switch (below(c, 3)) {
+        case 0:
+            marks.base = draw_instead(c, marks.base);
+            break;
+        case 1:
+            marks.first = draw_instead(c, marks.first);
+            break;
+        case 2:
+            marks.count = draw_instead(c, marks.count);
+            break;
+        }
+    return marks;
+}
+
+/* A mark of those that may lie in these octets, which perhaps end where the marks do, or an octet before. */
+static void input_find(struct chance *c, const uint8_t *sheet, size_t have)
+{
+    struct plain_marks marks = draw_where(c, have);
+    size_t end = marks.base + (marks.split ? 3 + 7 * marks.count : 8 * marks.count);
+    if (end > 0 && end <= have && one_in(c, 3))
+        have = end - below(c, 2);
+    size_t n = draw_instead(c, marks.count);
+    if (marks.count <= REGION && !one_in(c, 4))
+        n = below(c, marks.count + 1);
+    try_mark(c, sheet, have, marks, n);
+}
+
+static void input_sheet(struct chance *c)
+{
+    static uint8_t sheet[REGION], marks[REGION];
+    size_t length = draw_marks(c, MOST_TOLD, marks), have = make_sheet(draw_legal_offset(c), marks, length, sheet);
+    if (one_in(c, 3))
+        for (size_t n = between(c, 1, 2); n > 0; n--)
+            damage_sheet(c, sheet, &have);
+    const struct plain_sheet *old = try_sheet(c, sheet, have);
+    struct plain_mark mark = draw_mark(c, old);
+    try_change(c, MARK_ADD, sheet, have, old, mark, draw_room(c, have + MARK_OCTETS));
+    mark = draw_mark(c, old);
+    size_t less = have < SHEET_OCTETS + MARK_OCTETS ? SHEET_OCTETS : have - MARK_OCTETS;
+    try_change(c, MARK_REMOVE, sheet, have, old, mark, draw_room(c, less));
+    try_change(c, SHEET_EMPTY, sheet, have, old, mark, draw_room(c, SHEET_OCTETS));
+    for (size_t n = 0; n < 3; n++)
+        input_find(c, sheet, have);
+    if (one_in(c, 50)) /* octets for the most marks that there may be, and one more */
+        input_find(c, marks, SHEET_OCTETS + 3 + (MOST_TOLD_MARKS + 1) * MARK_OCTETS);
+    length = draw_marks(c, MOST_LIST, marks);
+    int64_t offset = draw_offset(c);
+    try_write_sheet(c, offset, marks, length, draw_room(c, SHEET_OCTETS + length));
+}
+
 /* ---- All lengths by FSPEC octet */
 
 static void all_lengths(void)
@@ -1060,37 +1464,75 @@ static void lacks(const char *what, const char *of)
     complete = false;
 }
 
+/* A count in a table, and what it lacks: none where there can be some, or some where there can be none. */
+static void report_count(size_t count, bool can, const char *row, const char *column)
+{
+    char line[100];
+    if (can || count)
+        printf("%16zu", count);
+    else
+        printf("%16s", "");
+    snprintf(line, sizeof line, "%s of %s", row, column);
+    if (can && !count)
+        lacks("never met: ", line);
+    if (!can && count)
+        lacks("can't be: ", line);
+}
+
+/* The numbers that some calls gave. */
+static void report_calls(enum call from, enum call to)
+{
+    char row[20];
+    uint64_t all = 0;
+    printf("%-18s", "number");
+    for (enum call call = from; call < to; call++) {
+        printf("%16s", call_name[call]);
+        all |= can_give[call];
+        for (unsigned number = 0; number < NUMBERS; number++)
+            all |= met[call][number] ? NO(number) : 0;
+    }
+    printf("\n");
+    for (unsigned number = 0; number < NUMBERS; number++) {
+        if (!(all & NO(number)))
+            continue;
+        snprintf(row, sizeof row, number ? "%u" : "accepted", number);
+        printf("%-18s", row);
+        for (enum call call = from; call < to; call++)
+            report_count(met[call][number], can_give[call] & NO(number), row, call_name[call]);
+        printf("\n");
+    }
+}
+
+static void report_sheets(void)
+{
+    printf("%-18s", "sheets refused");
+    for (enum field_at at = 0; at < FIELDS_AT; at++)
+        printf("%16s", field_name[at]);
+    printf("\n");
+    for (enum fault fault = 0; fault < FAULTS; fault++) {
+        printf("%-18s", fault_name[fault]);
+        for (enum field_at at = 0; at < FIELDS_AT; at++)
+            report_count(at_fault[fault][at], can_be[fault] & NO(at), fault_name[fault], field_name[at]);
+        printf("\n");
+    }
+    printf("read_sheet read %zu sheets without marks and %zu full ones\n", sheets_empty, sheets_full);
+    if (sheets_empty == 0 || sheets_full == 0)
+        lacks("never read: a sheet ", sheets_empty ? "that is full" : "without marks");
+    printf("%-18s%16s%16s\n", "find_mark", "none", "found");
+    for (enum finding way = 0; way < FINDINGS; way++) {
+        printf("%-18s", finding_name[way]);
+        report_count(marks_met[way][0], true, "none", finding_name[way]);
+        report_count(marks_met[way][1], true, "found", finding_name[way]);
+        printf("\n");
+    }
+}
+
 static void report(void)
 {
     char line[200];
-    printf("%-10s", "number");
-    for (enum call call = 0; call < CALLS; call++)
-        printf("%16s", call_name[call]);
-    printf("\n");
-    for (unsigned number = 0; number < NUMBERS; number++) {
-        size_t sum = 0;
-        if (number)
-            printf("%-10u", number);
-        else
-            printf("%-10s", "accepted");
-        for (enum call call = 0; call < CALLS; call++) {
-            bool can = can_give[call] & NO(number);
-            sum += met[call][number];
-            if (can || met[call][number])
-                printf("%16zu", met[call][number]);
-            else
-                printf("%16s", "");
-            snprintf(line, sizeof line, "%u of %s", number, call_name[call]);
-            if (can && !met[call][number])
-                lacks("never met: ", line);
-            if (!can && met[call][number])
-                lacks("can't be: ", line);
-        }
-        printf("\n");
-        snprintf(line, sizeof line, "%u", number);
-        if (sum == 0)
-            lacks("a number never met: ", line);
-    }
+    report_calls(0, SHEET_READ);
+    report_calls(SHEET_READ, CALLS);
+    report_sheets();
     printf("next_record met %zu records and %zu ends\n", records_met, ends_met);
     if (records_met == 0 || ends_met == 0)
         lacks("never met by a walk: ", records_met ? "the end" : "a record");
@@ -1134,7 +1576,8 @@ int main(int argc, char **argv)
 {
     uint64_t seed = argc < 2 ? 1718 : strcmp(argv[1], "fresh") == 0 ? fresh_seed() : strtoull(argv[1], NULL, 10);
     size_t inputs = argc < 3 ? 1000000 : (size_t)strtoull(argv[2], NULL, 10);
-    struct chance c = { seed }, w = { ~seed }, m = { seed + ((uint64_t)1 << 63) }; /* walks and merges draw apart */
+    const uint64_t half = (uint64_t)1 << 63; /* walks, merges and sheets draw apart */
+    struct chance c = { seed }, w = { ~seed }, m = { seed + half }, s = { ~seed + half };
     printf("differ: seed %" PRIu64 ", %zu inputs\n", seed, inputs);
     fflush(stdout);
     open_region(&input);
@@ -1145,6 +1588,8 @@ int main(int argc, char **argv)
     for (size_t i = 0; i < inputs; i++) {
         if (i % 12 == 11) /* two logs, beside the input in turn */
             input_merge(&m);
+        if (i % 4 == 3) /* and a sheet */
+            input_sheet(&s);
         if (i % 2500 == 2499) {
             input_large(&c, &w);
             continue;

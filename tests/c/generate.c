@@ -401,3 +401,168 @@ size_t make_recording(struct chance *c, uint8_t *to, size_t size)
         len += n;
     }
 }
+
+/* ---- Exercise sheets */
+
+static void put_number(uint8_t *to, size_t octets, uint32_t number)
+{
+    for (size_t i = octets; i > 0; i--, number >>= 8)
+        to[i - 1] = (uint8_t)number;
+}
+
+/* Where the marks of a log start: mostly low, or near where an octet of a place runs over. */
+static uint64_t draw_first_place(struct chance *c)
+{
+    static const uint32_t ends[] = { 0x100, 0x10000, 0x1000000, 0x80000000, 0xFFFFFFFF };
+    switch (below(c, 8)) {
+    case 0:
+        return 0;
+    case 1:
+        return (uint32_t)any(c) >> below(c, 32);
+    case 2:
+    case 3:
+        return ends[below(c, COUNT(ends))] - below(c, 20);
+    default:
+        return below(c, 300);
+    }
+}
+
+/* From one mark of a log to the next. */
+static uint64_t draw_step(struct chance *c)
+{
+    if (one_in(c, 2))
+        return 1;
+    return 1 + (one_in(c, 50) ? any(c) >> 34 : below(c, 200));
+}
+
+size_t make_marks(struct chance *c, size_t count, uint8_t *to)
+{
+    size_t of_a = one_in(c, 6) ? 0 : one_in(c, 5) ? count : below(c, count + 1);
+    uint64_t place = 0;
+    for (size_t i = 0; i < count; i++) {
+        uint8_t *at = to + i * MARK_OCTETS;
+        size_t later = (i < of_a ? of_a : count) - 1 - i; /* of the same log: a place is left for each */
+        uint64_t most = 0xFFFFFFFF - (uint64_t)later;
+        place = i == 0 || i == of_a ? draw_first_place(c) : place + draw_step(c);
+        place = place < most ? place : most;
+        put_number(at, 4, (uint32_t)place);
+        at[4] = i >= of_a;
+        at[5] = (uint8_t)below(c, 6);
+        at[6] = one_in(c, 4) ? 0 : (uint8_t)any(c);
+        at[7] = 0;
+    }
+    return count * MARK_OCTETS;
+}
+
+void damage_marks(struct chance *c, uint8_t *marks, size_t *have)
+{
+    size_t count = *have / MARK_OCTETS, n = count ? below(c, count) : 0;
+    uint8_t *at = marks + n * MARK_OCTETS, *other = n + 1 < count ? at + MARK_OCTETS : marks, kept[MARK_OCTETS];
+    switch (count == 0 ? 7 : below(c, 9)) {
+    case 0: /* a log that is none */
+        at[4] = one_in(c, 2) ? 2 : draw_octet(c, at[4]);
+        break;
+    case 1: /* the other log */
+        at[4] ^= 1;
+        break;
+    case 2: /* a station that is none */
+        at[5] = one_in(c, 2) ? 6 : draw_octet(c, at[5]);
+        break;
+    case 3:
+        at[7] = one_in(c, 2) ? 1 : draw_octet(c, at[7]);
+        break;
+    case 4: /* two exchanged, mostly neighbours */
+        if (one_in(c, 4))
+            other = marks + below(c, count) * MARK_OCTETS;
+        memcpy(kept, at, MARK_OCTETS);
+        memmove(at, other, MARK_OCTETS);
+        memcpy(other, kept, MARK_OCTETS);
+        break;
+    case 5: /* two at one place of one log */
+        memmove(other, at, 5);
+        break;
+    case 6: /* any place */
+        put_number(at, 4, (uint32_t)any(c) >> below(c, 32));
+        break;
+    default:
+        damage(c, marks, have);
+        break;
+    }
+}
+
+size_t make_sheet(int64_t offset, const uint8_t *marks, size_t length, uint8_t *to)
+{
+    static const uint8_t empty[SHEET_OCTETS] = { 1, 0, 1, 1, 2, 0, 4, 0, 0, 0, 0, 3, 0, 0 };
+    memcpy(to, empty, sizeof empty);
+    put_number(to + 7, 4, (uint32_t)offset);
+    put_number(to + 12, 2, (uint32_t)length);
+    memcpy(to + SHEET_OCTETS, marks, length);
+    return SHEET_OCTETS + length;
+}
+
+/* The octets from `at` to `end` become `octets` others. */
+static void replace(struct chance *c, uint8_t *sheet, size_t *have, size_t at, size_t end, size_t octets)
+{
+    memmove(sheet + at + octets, sheet + end, *have - end);
+    *have = at + octets + (*have - end);
+    for (size_t i = end; i < at + octets; i++)
+        sheet[i] = (uint8_t)any(c);
+}
+
+/* Just outside of the range, or inside of it by some of its octets only. */
+static uint32_t draw_barred_offset(struct chance *c)
+{
+    static const uint32_t some[] = { 46081,      (uint32_t)-46081, 0x7FFFFFFF, 0x80000000, 0x10000,   0xFFFF0000,
+                                     0x0100B400, 0x8000B400,       0x7FFF4C00, 0x00FF4C00, 0x0000FFFF };
+    return one_in(c, 8) ? (uint32_t)any(c) : some[below(c, COUNT(some))];
+}
+
+void damage_sheet(struct chance *c, uint8_t *sheet, size_t *have)
+{
+    static const size_t starts[] = { 0, 4, 11 };
+    size_t at = starts[below(c, COUNT(starts))], length = 0, n;
+    if (*have >= SHEET_OCTETS)
+        length = (size_t)sheet[at + 1] * 256 + sheet[at + 2];
+    bool whole = *have >= SHEET_OCTETS && *have - at - 3 >= length;
+    switch (whole ? below(c, 12) : 11) {
+    case 0:
+        sheet[at] = one_in(c, 2) ? (uint8_t)below(c, 8) : draw_octet(c, sheet[at]);
+        break;
+    case 1: /* a length that the body does not have */
+        n = at + 1 + below(c, 2);
+        sheet[n] = draw_octet(c, sheet[n]);
+        break;
+    case 2: /* a length, and a body that has it */
+        n = one_in(c, 3) ? below(c, 12) : one_in(c, 4) ? length + 256 : length + below(c, 5) - (length < 2 ? 0 : 2);
+        replace(c, sheet, have, at + 3, at + 3 + length, n);
+        put_number(sheet + at + 1, 2, (uint32_t)n);
+        break;
+    case 3: /* a field left out */
+        replace(c, sheet, have, at, at + 3 + length, 0);
+        break;
+    case 4: /* the edition */
+        sheet[3] = one_in(c, 2) ? (uint8_t)below(c, 5) : draw_octet(c, sheet[3]);
+        break;
+    case 5:
+    case 6:
+        put_number(sheet + 7, 4, draw_barred_offset(c));
+        break;
+    case 7: /* a cut at a field's start, in its head or soon behind it, perhaps with another tag */
+    case 8:
+        if (one_in(c, 3))
+            sheet[at] = (uint8_t)below(c, 10);
+        n = at + below(c, 6);
+        *have = n < *have ? n : *have;
+        break;
+    case 9: /* a field after the last */
+        n = one_in(c, 2) ? 0 : 12;
+        sheet[*have] = (uint8_t)below(c, 7);
+        put_number(sheet + *have + 1, 2, (uint32_t)n);
+        memset(sheet + *have + 3, 0, n);
+        *have += 3 + n;
+        break;
+    default:
+        damage(c, sheet, have);
+        break;
+    }
+}

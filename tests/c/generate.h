@@ -1,5 +1,5 @@
-/* Inputs for differ.c and bench/: legal items, records, blocks and recordings of both categories, and damaged
- * ones. All comes from one seed. */
+/* Inputs for differ.c and bench/: legal items, records, blocks and recordings of both categories, exercise sheets,
+ * and damaged ones. All comes from one seed. */
 #ifndef GENERATE_H
 #define GENERATE_H
 
@@ -57,5 +57,23 @@ void damage_block(struct chance *c, uint8_t *block, size_t *have);
 /* A legal recording of some `size` octets, every message type alike often, one to twenty records a block; its
  * length, at most `size`. */
 size_t make_recording(struct chance *c, uint8_t *to, size_t size);
+
+/* A mark's octets; those of a sheet without marks; the most marks that a sheet may have, and that a length of two
+ * octets can tell. */
+enum { MARK_OCTETS = 8, SHEET_OCTETS = 14, MOST_MARKS = 200, MOST_TOLD_MARKS = 8191 };
+
+/* Legal marks that rise, as many as asked for, also more than a sheet may have; their length. */
+size_t make_marks(struct chance *c, size_t count, uint8_t *to);
+
+/* One change of marks of `*have` octets, which may come to be up to 8 more: a barred value, two exchanged, two at one
+ * place, or as `damage` does. */
+void damage_marks(struct chance *c, uint8_t *marks, size_t *have);
+
+/* The sheet of an offset and of marks, whatever those are, at most 65,535 octets; its length. */
+size_t make_sheet(int64_t offset, const uint8_t *marks, size_t length, uint8_t *to);
+
+/* One change of a sheet of `*have` octets, which may come to be up to 300 more: a field's tag, its length with its body
+ * or without, the edition, the offset, a cut in or behind a head, a field left out, octets after, or as `damage` does. */
+void damage_sheet(struct chance *c, uint8_t *sheet, size_t *have);
 
 #endif

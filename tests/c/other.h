@@ -12,3 +12,9 @@
 #define plain_write_item other_write_item
 #define plain_add_record other_add_record
 #define plain_least_length other_least_length
+#define plain_read_sheet other_read_sheet
+#define plain_find_mark other_find_mark
+#define plain_write_sheet other_write_sheet
+#define plain_add_mark other_add_mark
+#define plain_remove_mark other_remove_mark
+#define plain_empty_sheet other_empty_sheet

@@ -1,5 +1,5 @@
 /* The plain implementation: see plain.h. In order: bits, one item, one record, blocks and
- * recordings, walking a recording, two logs, adding a record, lengths. */
+ * recordings, walking a recording, two logs, adding a record, lengths, exercise sheets. */
 #include "plain.h"
 #include "tables.h"
 
@@ -855,4 +855,254 @@ size_t plain_least_length(unsigned category, size_t place, unsigned octet)
             sum += item->layout == FIXED ? item->octets : 1;
     }
     return sum;
+}
+
+/* ---- Exercise sheets: the octets of one taken apart */
+
+enum { FIELD_HEAD = 3, EDITION = 1, FIRST_MARK = 14, MARK = 8, MARK_WITHOUT_LOG = 7, MOST_TOLD = 65535 / MARK };
+
+static uint32_t four_octets(const uint8_t *at)
+{
+    return (uint32_t)at[0] << 24 | (uint32_t)at[1] << 16 | (uint32_t)at[2] << 8 | at[3];
+}
+
+static int64_t get_offset(const uint8_t *at)
+{
+    int64_t value = four_octets(at);
+    return value < (int64_t)1 << 31 ? value : value - ((int64_t)1 << 32);
+}
+
+static struct plain_mark get_mark(const uint8_t *at)
+{
+    return (struct plain_mark){ four_octets(at), at[4], at[5], at[6] };
+}
+
+static bool is_mark(struct plain_mark mark)
+{
+    return mark.log <= 1 && mark.station <= 5;
+}
+
+/* Whether a mark may stand before another. */
+static bool is_below(struct plain_mark mark, struct plain_mark other)
+{
+    return mark.log != other.log ? mark.log < other.log : mark.place < other.place;
+}
+
+/* The first `count` marks, and where the first at fault starts: one that is barred, or not above the one before it.
+ * `count` times eight where none is. */
+static size_t get_marks(const uint8_t *at, size_t count, struct plain_mark *to)
+{
+    for (size_t i = 0; i < count; i++) {
+        to[i] = get_mark(at + i * MARK);
+        if (!is_mark(to[i]) || at[i * MARK + 7] != 0)
+            return i * MARK;
+        if (i > 0 && !is_below(to[i - 1], to[i]))
+            return i * MARK;
+    }
+    return count * MARK;
+}
+
+/* The field that starts at `at`, or would: how long its body is. 31 where nothing is left, 30, 31, at its start. */
+static struct plain_fault open_field(const uint8_t *sheet, size_t have, size_t at, unsigned tag, size_t *length)
+{
+    size_t left = have - at;
+    if (left == 0)
+        return refused(31, at);
+    if (left < FIELD_HEAD)
+        return refused(30, at);
+    *length = (size_t)sheet[at + 1] * 256 + sheet[at + 2];
+    if (*length > left - FIELD_HEAD)
+        return refused(30, at);
+    return sheet[at] == tag ? fine : refused(31, at);
+}
+
+/* Each of the three fields at `*at`, which goes on behind it. */
+
+static struct plain_fault get_edition_field(const uint8_t *sheet, size_t have, size_t *at, struct plain_sheet *to)
+{
+    size_t length = 0, start = *at;
+    struct plain_fault fault = open_field(sheet, have, start, 1, &length);
+    if (fault.number)
+        return fault;
+    if (length != 1)
+        return refused(32, start);
+    to->edition = sheet[start + FIELD_HEAD];
+    *at = start + FIELD_HEAD + length;
+    return to->edition == EDITION ? fine : refused(33, start);
+}
+
+static struct plain_fault get_offset_field(const uint8_t *sheet, size_t have, size_t *at, struct plain_sheet *to)
+{
+    size_t length = 0, start = *at;
+    struct plain_fault fault = open_field(sheet, have, start, 2, &length);
+    if (fault.number)
+        return fault;
+    if (length != 4)
+        return refused(32, start);
+    to->offset = get_offset(sheet + start + FIELD_HEAD);
+    *at = start + FIELD_HEAD + length;
+    return is_offset(to->offset) ? fine : refused(33, start);
+}
+
+static struct plain_fault get_marks_field(const uint8_t *sheet, size_t have, size_t *at, struct plain_sheet *to)
+{
+    size_t length = 0, start = *at;
+    struct plain_fault fault = open_field(sheet, have, start, 3, &length);
+    if (fault.number)
+        return fault;
+    if (length % MARK != 0)
+        return refused(32, start);
+    if (length / MARK > PLAIN_MARKS)
+        return refused(34, start);
+    size_t body = start + FIELD_HEAD, good = get_marks(sheet + body, length / MARK, to->mark);
+    if (good < length)
+        return refused(33, body + good);
+    to->marks = (struct plain_marks){ body, length / MARK, length / MARK, 0 };
+    *at = body + length;
+    return fine;
+}
+
+struct plain_sheet plain_read_sheet(const uint8_t *sheet, size_t have)
+{
+    struct plain_sheet answer = { .edition = 0 };
+    size_t at = 0;
+    struct plain_fault fault = get_edition_field(sheet, have, &at, &answer);
+    if (!fault.number)
+        fault = get_offset_field(sheet, have, &at, &answer);
+    if (!fault.number)
+        fault = get_marks_field(sheet, have, &at, &answer);
+    if (!fault.number && at < have)
+        fault = refused(31, at);
+    return fault.number ? (struct plain_sheet){ .fault = fault } : answer;
+}
+
+struct plain_found plain_find_mark(const uint8_t *sheet, size_t have, struct plain_marks marks, size_t n)
+{
+    const struct plain_found none = { .found = false };
+    size_t each = marks.split ? MARK_WITHOUT_LOG : MARK, between = marks.split ? FIELD_HEAD : 0;
+    if (marks.base > FIRST_MARK || marks.count > MOST_TOLD || n >= marks.count)
+        return none;
+    if (marks.base + between + marks.count * each > have)
+        return none;
+    const uint8_t *at = sheet + marks.base + n * each;
+    if (!marks.split)
+        return (struct plain_found){ true, get_mark(at) };
+    unsigned log = n >= marks.first;
+    if (log)
+        at += between;
+    return (struct plain_found){ true, { four_octets(at), log, at[4], at[5] } };
+}
+
+/* ---- Exercise sheets: one put together */
+
+static struct plain_length not_put(struct plain_fault fault)
+{
+    return (struct plain_length){ fault, false, 0 };
+}
+
+static void put_number(uint8_t *to, size_t octets, uint32_t number)
+{
+    for (size_t i = octets; i > 0; i--) {
+        to[i - 1] = (uint8_t)number;
+        number >>= 8;
+    }
+}
+
+static uint8_t *put_head(uint8_t *to, unsigned tag, size_t length)
+{
+    put_number(to, 1, tag);
+    put_number(to + 1, 2, (uint32_t)length);
+    return to + FIELD_HEAD;
+}
+
+/* The sheet of an offset and marks that are as they should be, at the start of `out`. Refuses by 16. */
+static struct plain_length put_sheet(int64_t offset, const struct plain_mark *mark, size_t count, uint8_t *out,
+                                     size_t room)
+{
+    size_t length = FIRST_MARK + count * MARK;
+    if (length > room)
+        return not_put(refused(16, 0));
+    uint8_t *at = put_head(out, 1, 1);
+    put_number(at, 1, EDITION);
+    at = put_head(at + 1, 2, 4);
+    put_number(at, 4, (uint32_t)offset);
+    at = put_head(at + 4, 3, count * MARK);
+    for (size_t i = 0; i < count; i++, at += MARK) {
+        put_number(at, 4, mark[i].place);
+        put_number(at + 4, 1, mark[i].log);
+        put_number(at + 5, 1, mark[i].station);
+        put_number(at + 6, 1, mark[i].comment);
+        put_number(at + 7, 1, 0);
+    }
+    return (struct plain_length){ fine, false, length };
+}
+
+struct plain_length plain_write_sheet(int64_t offset, const uint8_t *marks, size_t have, uint8_t *out, size_t room)
+{
+    struct plain_mark mark[PLAIN_MARKS];
+    size_t count = have / MARK;
+    if (count > PLAIN_MARKS)
+        return not_put(refused(34, 0));
+    if (!is_offset(offset) || have % MARK != 0 || get_marks(marks, count, mark) < have)
+        return not_put(refused(33, 0));
+    return put_sheet(offset, mark, count, out, room);
+}
+
+/* ---- Exercise sheets: one changed */
+
+/* The number of the first mark that is not below this one: where it is, or would belong. */
+static size_t place_of(const struct plain_sheet *sheet, struct plain_mark mark)
+{
+    size_t i = 0;
+    while (i < sheet->marks.count && is_below(sheet->mark[i], mark))
+        i++;
+    return i;
+}
+
+/* Whether the mark with a number is at the same log and place as this one. */
+static bool is_there(const struct plain_sheet *sheet, size_t i, struct plain_mark mark)
+{
+    return i < sheet->marks.count && sheet->mark[i].log == mark.log && sheet->mark[i].place == mark.place;
+}
+
+struct plain_length plain_add_mark(const uint8_t *sheet, size_t have, struct plain_mark mark, uint8_t *out,
+                                   size_t room)
+{
+    struct plain_sheet read = plain_read_sheet(sheet, have);
+    if (read.fault.number)
+        return not_put(read.fault);
+    if (!is_mark(mark))
+        return not_put(refused(33, 0));
+    size_t count = read.marks.count, at = place_of(&read, mark);
+    if (is_there(&read, at, mark))
+        return not_put(refused(35, 0));
+    if (count == PLAIN_MARKS)
+        return not_put(refused(34, 0));
+    for (size_t i = count; i > at; i--)
+        read.mark[i] = read.mark[i - 1];
+    read.mark[at] = mark;
+    return put_sheet(read.offset, read.mark, count + 1, out, room);
+}
+
+struct plain_length plain_remove_mark(const uint8_t *sheet, size_t have, unsigned log, uint32_t place, uint8_t *out,
+                                      size_t room)
+{
+    struct plain_sheet read = plain_read_sheet(sheet, have);
+    struct plain_mark mark = { .place = place, .log = log };
+    if (read.fault.number)
+        return not_put(read.fault);
+    size_t at = place_of(&read, mark);
+    if (!is_there(&read, at, mark))
+        return not_put(refused(36, 0));
+    for (size_t i = at; i + 1 < read.marks.count; i++)
+        read.mark[i] = read.mark[i + 1];
+    return put_sheet(read.offset, read.mark, read.marks.count - 1, out, room);
+}
+
+struct plain_length plain_empty_sheet(const uint8_t *sheet, size_t have, uint8_t *out, size_t room)
+{
+    struct plain_sheet read = plain_read_sheet(sheet, have);
+    if (read.fault.number)
+        return not_put(read.fault);
+    return put_sheet(read.offset, read.mark, 0, out, room);
 }

@@ -1,8 +1,8 @@
-/* Checking, reading, merging and writing blocks of ASTERIX categories 017 and 018: a second, plain
- * implementation, for comparison with the proved one.
+/* Checking, reading, merging and writing blocks of ASTERIX categories 017 and 018, and exercise sheets: a
+ * second, plain implementation, for comparison with the proved one.
  *
  * Written from the documents: category 017 edition 1.3, category 018 edition 1.6, the scope
- * paper, W-201 of the later requests, and docs/DECISIONS.md. It shares nothing with the proved
+ * paper, W-201 and W-203 of the later requests, and docs/DECISIONS.md. It shares nothing with the proved
  * code, and was made to be read and not to be fast. Nothing is proved of it. */
 #ifndef PLAIN_H
 #define PLAIN_H
@@ -12,11 +12,12 @@
 #include <stdint.h>
 
 enum {
-    PLAIN_FRNS = 35,   /* the longest profile's last field reference number */
-    PLAIN_FIELDS = 510 /* most fields of one item: a list of 255 parts with two each */
+    PLAIN_FRNS = 35,    /* the longest profile's last field reference number */
+    PLAIN_FIELDS = 510, /* most fields of one item: a list of 255 parts with two each */
+    PLAIN_MARKS = 200   /* most marks of one sheet */
 };
 
-/* A refusal: its number, 1 to 23, and its place. Number 0 is no refusal. */
+/* A refusal: its number, 1 to 23 or 30 to 36, and its place. Number 0 is no refusal. */
 struct plain_fault {
     unsigned number;
     size_t place;
@@ -112,6 +113,34 @@ struct plain_length {
     size_t length;
 };
 
+/* An instructor's mark. */
+struct plain_mark {
+    uint32_t place; /* in its log */
+    unsigned log, station, comment;
+};
+
+/* Where marks lie in the octets of a sheet: `count` of them from `base` on, eight octets each. Where `split` is not 0
+ * they are seven octets each, without the log: `first` of log 0 from `base` on, then three other octets, then log
+ * 1's. */
+struct plain_marks {
+    size_t base, first, count;
+    unsigned split;
+};
+
+/* A sheet taken apart: where its marks lie, and the marks themselves, as many as `marks.count` says. */
+struct plain_sheet {
+    struct plain_fault fault;
+    unsigned edition;
+    int64_t offset;
+    struct plain_marks marks;
+    struct plain_mark mark[PLAIN_MARKS];
+};
+
+struct plain_found {
+    bool found;
+    struct plain_mark mark;
+};
+
 struct plain_block plain_check_block(const uint8_t *block, size_t have);
 struct plain_recording plain_check_recording(const uint8_t *recording, size_t have);
 struct plain_record plain_find_record(const uint8_t *block, size_t have, size_t n);
@@ -147,5 +176,23 @@ struct plain_length plain_add_record(uint8_t *out, size_t room, size_t used, uin
 /* The fixed lengths, summed, of the items that an FSPEC octet names (`place` from 0): a list or a led item counts
  * 1, an item extended by FX its first part. 0 where the category or the octet is not there. */
 size_t plain_least_length(unsigned category, size_t place, unsigned octet);
+
+/* A sheet, and nothing after it. */
+struct plain_sheet plain_read_sheet(const uint8_t *sheet, size_t have);
+
+/* Mark n, from 0, of marks that lie somewhere in these octets; whatever stands there. None where the marks have no
+ * such one, or are not within the octets, or are not where or as many as a sheet's can be. */
+struct plain_found plain_find_mark(const uint8_t *sheet, size_t have, struct plain_marks marks, size_t n);
+
+/* The sheet of an offset and of marks, eight octets each, at the start of `out`, which has `room` octets. Here and
+ * below a refusal leaves `out` as it was. */
+struct plain_length plain_write_sheet(int64_t offset, const uint8_t *marks, size_t have, uint8_t *out, size_t room);
+
+/* A sheet with one mark more, with one less, and with none, at the start of `out`. */
+struct plain_length plain_add_mark(const uint8_t *sheet, size_t have, struct plain_mark mark, uint8_t *out,
+                                   size_t room);
+struct plain_length plain_remove_mark(const uint8_t *sheet, size_t have, unsigned log, uint32_t place, uint8_t *out,
+                                      size_t room);
+struct plain_length plain_empty_sheet(const uint8_t *sheet, size_t have, uint8_t *out, size_t room);
 
 #endif

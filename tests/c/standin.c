@@ -137,3 +137,53 @@ size_t asterix_least_length(uint8_t category, size_t place, uint8_t octet)
 {
     return plain_least_length(category, place, octet);
 }
+
+struct asterix_sheet_read asterix_read_sheet(const uint8_t *sheet, size_t have)
+{
+    struct plain_sheet answer = plain_read_sheet(sheet, have);
+    struct plain_marks marks = answer.marks;
+    return (struct asterix_sheet_read){ (uint8_t)answer.fault.number,
+                                        (uint8_t)answer.edition,
+                                        answer.fault.place,
+                                        answer.offset,
+                                        { marks.base, marks.first, marks.count, (uint8_t)marks.split } };
+}
+
+struct asterix_mark_found asterix_find_mark(const uint8_t *sheet, size_t have, struct asterix_marks given, size_t n)
+{
+    struct plain_marks marks = { given.base, given.first, given.count, given.split };
+    struct plain_found answer = plain_find_mark(sheet, have, marks, n);
+    struct plain_mark mark = answer.mark;
+    return (struct asterix_mark_found){
+        answer.found, { mark.place, (uint8_t)mark.log, (uint8_t)mark.station, (uint8_t)mark.comment }
+    };
+}
+
+static struct asterix_sheet_written told_sheet(struct plain_length answer)
+{
+    return (struct asterix_sheet_written){ (uint8_t)answer.fault.number, answer.fault.place, answer.length };
+}
+
+struct asterix_sheet_written asterix_write_sheet(int64_t offset, const uint8_t *marks, size_t have, uint8_t *out,
+                                                 size_t room)
+{
+    return told_sheet(plain_write_sheet(offset, marks, have, out, room));
+}
+
+struct asterix_sheet_written asterix_add_mark(const uint8_t *sheet, size_t have, struct asterix_mark given,
+                                              uint8_t *out, size_t room)
+{
+    struct plain_mark mark = { given.place, given.log, given.station, given.comment };
+    return told_sheet(plain_add_mark(sheet, have, mark, out, room));
+}
+
+struct asterix_sheet_written asterix_remove_mark(const uint8_t *sheet, size_t have, uint8_t log, uint32_t place,
+                                                 uint8_t *out, size_t room)
+{
+    return told_sheet(plain_remove_mark(sheet, have, log, place, out, room));
+}
+
+struct asterix_sheet_written asterix_empty_sheet(const uint8_t *sheet, size_t have, uint8_t *out, size_t room)
+{
+    return told_sheet(plain_empty_sheet(sheet, have, out, room));
+}

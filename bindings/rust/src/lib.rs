@@ -1,11 +1,12 @@
 //! ASTERIX categories 017 (Mode S Surveillance Coordination Function Messages, edition 1.3) and 018
 //! (Mode S Datalink Function Messages, edition 1.6): checking, finding, walking a log, merging two
-//! logs, reading and writing.
+//! logs, reading and writing; and exercise sheets.
 //!
 //! The work is done by the proved library, the archive that `rt staticlib asterix` writes; this
 //! crate gives it safe functions on slices. Any bytes may be given to any function. Each either
-//! does its work or refuses, with one of 23 [`Refusal`]s and a place; a refused call changes no
-//! byte that was lent to it. Nothing is allocated, and nothing is kept between calls.
+//! does its work or refuses, with one of 30 [`Refusal`]s and a place; a refused call changes no
+//! byte that was lent to it. Nothing is kept between calls, and nothing is allocated but the bytes
+//! of a [`Sheet`].
 //!
 //! ```
 //! use asterix::{check_block, find_item, read_item, Refusal, FIELDS};
@@ -51,6 +52,19 @@
 //! # Ok::<(), asterix::MergeRefused>(())
 //! ```
 //!
+//! An instructor's marks, and the offset of the second log's clock, are kept in a [`Sheet`]:
+//!
+//! ```
+//! use asterix::{Mark, Sheet, Which};
+//!
+//! let sheet = Sheet::write(-64, &[])?;
+//! let sheet = sheet.add(Mark { log: Which::A.number(), place: 15, station: 2, comment: 7 })?;
+//! for mark in sheet.marks() {
+//!     println!("log {} at {}: station {}, comment {}", mark.log, mark.place, mark.station, mark.comment);
+//! }
+//! # Ok::<(), asterix::Refused>(())
+//! ```
+//!
 //! The archive links into x86-64 Linux programs. `build.rs` looks for it in the repository's
 //! target/staticlib, or in the folder that `ASTERIX_LIB_DIR` names. The fields of each item, in
 //! their order, are listed at the end of `include/asterix.h` and in docs/FIELDS.md.
@@ -59,13 +73,20 @@
 use std::{error, fmt, iter::FusedIterator};
 
 mod raw;
+mod sheet;
+
+pub use sheet::{
+    add_mark, empty_sheet, read_sheet, remove_mark, write_sheet, Mark, Marks, Sheet, SheetRead, MARKS, SHEET_BYTES,
+    STATIONS,
+};
 
 // ---- Refusals
 
 /// Why a call was refused. The numbers are those of the scope paper and of `include/asterix.h`.
 ///
-/// Where a place is said to be a block's, a record's or an item's, it is where that starts, counted
-/// from the start of the bytes lent.
+/// Where a place is said to be a block's, a record's, an item's, or a field's or mark's of a sheet,
+/// it is where that starts, counted from the start of the bytes lent; in a sheet that was to be
+/// written it is 0.
 #[derive(Clone, Copy, Debug, PartialEq, Eq, Hash)]
 #[repr(u8)]
 pub enum Refusal {
@@ -118,10 +139,26 @@ pub enum Refusal {
     OffsetRange = 22,
     /// 23: a place in a log that is neither a record's start nor the log's end. Its place is 0.
     NoSuchPlace = 23,
+    /// 30: a field of a sheet is cut, its head or its body. Its place is the field's.
+    SheetCut = 30,
+    /// 31: a sheet has no such field, another in its place, or bytes after the last. Its place is
+    /// where the field starts or would start.
+    SheetTag = 31,
+    /// 32: a field of a sheet has another length than what it holds. Its place is the field's.
+    SheetLength = 32,
+    /// 33: a barred value in a sheet, or marks that do not rise. Its place is the field's, or in the
+    /// marks that of the first one at fault.
+    SheetValue = 33,
+    /// 34: more marks than a sheet may have. Its place is the field's.
+    SheetFull = 34,
+    /// 35: there is a mark already at that log and place. Its place is 0.
+    MarkTwice = 35,
+    /// 36: there is no mark at that log and place. Its place is 0.
+    NoSuchMark = 36,
 }
 
 impl Refusal {
-    const ALL: [Refusal; 23] = [
+    const ALL: [Refusal; 30] = [
         Refusal::HeadCut,
         Refusal::Category,
         Refusal::Len,
@@ -145,21 +182,29 @@ impl Refusal {
         Refusal::NoSuchItem,
         Refusal::OffsetRange,
         Refusal::NoSuchPlace,
+        Refusal::SheetCut,
+        Refusal::SheetTag,
+        Refusal::SheetLength,
+        Refusal::SheetValue,
+        Refusal::SheetFull,
+        Refusal::MarkTwice,
+        Refusal::NoSuchMark,
     ];
 
-    /// The refusal with a number, 1 to 23.
+    /// The refusal with a number, 1 to 23 or 30 to 36.
     ///
     /// ```
     /// use asterix::Refusal;
     /// assert_eq!(Refusal::from_number(9), Some(Refusal::ItemCut));
     /// assert_eq!(Refusal::from_number(0), None);
     /// assert_eq!(Refusal::from_number(24), None);
+    /// assert_eq!(Refusal::from_number(35), Some(Refusal::MarkTwice));
     /// ```
     pub fn from_number(number: u8) -> Option<Refusal> {
-        Refusal::ALL.get(usize::from(number).checked_sub(1)?).copied()
+        Refusal::ALL.into_iter().find(|why| why.number() == number)
     }
 
-    /// Its number, 1 to 23.
+    /// Its number, 1 to 23 or 30 to 36.
     pub fn number(self) -> u8 {
         self as u8
     }
@@ -191,6 +236,13 @@ impl fmt::Display for Refusal {
             Refusal::NoSuchItem => "the category has no item with that reference",
             Refusal::OffsetRange => "the clock offset is out of range",
             Refusal::NoSuchPlace => "a place is neither a record's start nor the log's end",
+            Refusal::SheetCut => "a field of the sheet is cut",
+            Refusal::SheetTag => "a field of the sheet is not there, is another, or bytes follow the last",
+            Refusal::SheetLength => "a field of the sheet has another length than what it holds",
+            Refusal::SheetValue => "a value in the sheet is barred, or its marks do not rise",
+            Refusal::SheetFull => "the sheet has too many marks",
+            Refusal::MarkTwice => "there is a mark already at that log and place",
+            Refusal::NoSuchMark => "there is no mark at that log and place",
         })
     }
 }
@@ -205,7 +257,8 @@ pub struct Refused {
 }
 
 impl Refused {
-    // What an answer of the library says: 0 is no refusal, and its contracts give no number above 23.
+    // What an answer of the library says: 0 is no refusal, and its contracts give no other number
+    // than those of the refusals.
     fn answer(number: u8, place: usize) -> Result<(), Refused> {
         if number == 0 {
             return Ok(());
@@ -572,6 +625,14 @@ impl Which {
             Which::A
         } else {
             Which::B
+        }
+    }
+
+    /// Its number, as a [`Mark`] has it: 0 is A, 1 is B.
+    pub fn number(self) -> u8 {
+        match self {
+            Which::A => 0,
+            Which::B => 1,
         }
     }
 }

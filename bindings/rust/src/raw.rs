@@ -167,6 +167,46 @@ pub struct RecordAdded {
     pub length: usize,
 }
 
+#[repr(C)]
+#[derive(Clone, Copy)]
+pub struct Mark {
+    pub place: u32,
+    pub log: u8,
+    pub station: u8,
+    pub comment: u8,
+}
+
+#[repr(C)]
+#[derive(Clone, Copy, Debug, PartialEq, Eq, Hash)]
+pub struct Marks {
+    pub base: usize,
+    pub first: usize,
+    pub count: usize,
+    pub split: u8,
+}
+
+#[repr(C)]
+pub struct SheetRead {
+    pub number: u8,
+    pub edition: u8,
+    pub place: usize,
+    pub offset: i64,
+    pub marks: Marks,
+}
+
+#[repr(C)]
+pub struct MarkFound {
+    pub found: u8,
+    pub mark: Mark,
+}
+
+#[repr(C)]
+pub struct SheetWritten {
+    pub number: u8,
+    pub place: usize,
+    pub length: usize,
+}
+
 extern "C" {
     fn asterix_check_block(block: *const u8, block_len: usize) -> BlockChecked;
     fn asterix_check_recording(recording: *const u8, recording_len: usize) -> RecordingChecked;
@@ -210,6 +250,25 @@ extern "C" {
         items_len: usize,
     ) -> RecordAdded;
     fn asterix_least_length(category: u8, place: usize, octet: u8) -> usize;
+    fn asterix_read_sheet(sheet: *const u8, sheet_len: usize) -> SheetRead;
+    fn asterix_find_mark(sheet: *const u8, sheet_len: usize, marks: Marks, n: usize) -> MarkFound;
+    fn asterix_write_sheet(
+        offset: i64,
+        marks: *const u8,
+        marks_len: usize,
+        out: *mut u8,
+        out_len: usize,
+    ) -> SheetWritten;
+    fn asterix_add_mark(sheet: *const u8, sheet_len: usize, mark: Mark, out: *mut u8, out_len: usize) -> SheetWritten;
+    fn asterix_remove_mark(
+        sheet: *const u8,
+        sheet_len: usize,
+        log: u8,
+        place: u32,
+        out: *mut u8,
+        out_len: usize,
+    ) -> SheetWritten;
+    fn asterix_empty_sheet(sheet: *const u8, sheet_len: usize, out: *mut u8, out_len: usize) -> SheetWritten;
 }
 
 pub fn check_block(block: &[u8]) -> BlockChecked {
@@ -278,4 +337,28 @@ pub fn add_record(out: &mut [u8], used: usize, frns: u64, items: &[u8]) -> Recor
 
 pub fn least_length(category: u8, place: usize, octet: u8) -> usize {
     unsafe { asterix_least_length(category, place, octet) }
+}
+
+pub fn read_sheet(sheet: &[u8]) -> SheetRead {
+    unsafe { asterix_read_sheet(sheet.as_ptr(), sheet.len()) }
+}
+
+pub fn find_mark(sheet: &[u8], marks: Marks, n: usize) -> MarkFound {
+    unsafe { asterix_find_mark(sheet.as_ptr(), sheet.len(), marks, n) }
+}
+
+pub fn write_sheet(offset: i64, marks: &[u8], out: &mut [u8]) -> SheetWritten {
+    unsafe { asterix_write_sheet(offset, marks.as_ptr(), marks.len(), out.as_mut_ptr(), out.len()) }
+}
+
+pub fn add_mark(sheet: &[u8], mark: Mark, out: &mut [u8]) -> SheetWritten {
+    unsafe { asterix_add_mark(sheet.as_ptr(), sheet.len(), mark, out.as_mut_ptr(), out.len()) }
+}
+
+pub fn remove_mark(sheet: &[u8], log: u8, place: u32, out: &mut [u8]) -> SheetWritten {
+    unsafe { asterix_remove_mark(sheet.as_ptr(), sheet.len(), log, place, out.as_mut_ptr(), out.len()) }
+}
+
+pub fn empty_sheet(sheet: &[u8], out: &mut [u8]) -> SheetWritten {
+    unsafe { asterix_empty_sheet(sheet.as_ptr(), sheet.len(), out.as_mut_ptr(), out.len()) }
 }

@@ -2,8 +2,9 @@
 //! through the safe functions.
 
 use asterix::{
-    add_record, check_block, check_recording, find_item, find_record, merge_step, read_item, write_item, AddRefused,
-    ItemSet, Merge, MergeRefused, Refused, Stepped, FIELDS, FRNS,
+    add_mark, add_record, check_block, check_recording, empty_sheet, find_item, find_record, merge_step, read_item,
+    read_sheet, remove_mark, write_item, write_sheet, AddRefused, ItemSet, Mark, Merge, MergeRefused, Refusal, Refused,
+    Sheet, Stepped, FIELDS, FRNS,
 };
 use std::{fs, path::Path};
 
@@ -81,6 +82,28 @@ fn signed(word: &str) -> Option<i64> {
         None => (word, 1),
     };
     Some(sign * i64::try_from(number(digits, i64::MAX as u64)?).ok()?)
+}
+
+// About sheets a number that a call can't be given makes a bad line.
+fn offset(word: &str) -> Option<i64> {
+    word.parse().ok().filter(|_| !word.starts_with('+'))
+}
+
+fn place(word: &str) -> Option<u32> {
+    number(word, u64::MAX)?.try_into().ok()
+}
+
+fn mark(word: &str) -> Option<Mark> {
+    let numbers: Vec<&str> = word.split(':').collect();
+    let [at, log, station, comment] = numbers[..] else {
+        return None;
+    };
+    Some(Mark {
+        log: small(log)?,
+        place: place(at)?,
+        station: small(station)?,
+        comment: small(comment)?,
+    })
 }
 
 fn list<T>(word: &str, part: impl Fn(&str) -> Option<T>) -> Option<Vec<T>> {
@@ -181,6 +204,53 @@ fn merge_run(offset: i64, a: &[u8], b: &[u8]) -> Result<String, MergeRefused> {
     Ok(format!("ok {count}{text}"))
 }
 
+// By a sheet in a lent slice, and by one that owns its bytes; its marks one after another and by
+// their numbers. What was read is written as the same bytes.
+fn sheet_read(bytes: &[u8]) -> Result<String, Refused> {
+    let owned = Sheet::read(bytes);
+    let read = read_sheet(bytes);
+    assert_eq!(owned.as_ref().err(), read.as_ref().err());
+    let (owned, read) = (owned?, read?);
+    assert_eq!(
+        (owned.edition(), owned.offset(), owned.len()),
+        (read.edition, read.offset, read.count)
+    );
+    let marks: Vec<Mark> = owned.marks().collect();
+    assert_eq!(marks.len(), owned.len());
+    assert!(read.marks().rev().eq(marks.iter().rev().copied()));
+    assert!((0..marks.len()).all(|n| owned.mark(n) == Some(marks[n]) && read.mark(n) == Some(marks[n])));
+    assert_eq!((owned.mark(marks.len()), read.mark(marks.len())), (None, None));
+    assert_eq!(Sheet::write(owned.offset(), &marks).as_ref(), Ok(&owned));
+    let marks = marks
+        .iter()
+        .map(|m| format!(" {}:{}:{}:{}", m.place, m.log, m.station, m.comment));
+    Ok(format!(
+        "{} {} {}{}",
+        read.edition,
+        read.offset,
+        read.count,
+        marks.collect::<String>()
+    ))
+}
+
+// A call that writes a sheet to a buffer with room for so many bytes. Where it is refused, and after
+// the sheet, the buffer stays as it was; a sheet that owns its bytes answers the same, but for 16.
+fn sheet_written(
+    room: usize,
+    write: impl FnOnce(&mut [u8]) -> Result<usize, Refused>,
+    owned: Result<Sheet, Refused>,
+) -> Result<String, Refused> {
+    let mut out = vec![0xEE; room];
+    let written = write(&mut out);
+    assert!(out[written.unwrap_or(0)..].iter().all(|&o| o == 0xEE));
+    match written {
+        Ok(length) => assert_eq!(owned.expect("a sheet").as_bytes(), &out[..length]),
+        Err(refused) if refused.why == Refusal::NoRoom => assert!(owned.expect("a sheet").as_bytes().len() > room),
+        Err(refused) => assert_eq!(owned, Err(refused)),
+    }
+    written.map(|length| format!("{length} {}", hex(&out[..length])))
+}
+
 fn answer(question: &str, fields: &mut [i64; FIELDS]) -> Option<String> {
     let words: Vec<&str> = question.split(' ').collect();
     Some(match words[..] {
@@ -222,6 +292,27 @@ fn answer(question: &str, fields: &mut [i64; FIELDS]) -> Option<String> {
         }
         ["mergerun", offset, a, b] => {
             merge_run(offset.parse().ok()?, &octets(a)?, &octets(b)?).unwrap_or_else(merge_said)
+        }
+        ["sheetread", bytes] => said(sheet_read(&octets(bytes)?)),
+        ["sheetwrite", room, units, marks] => {
+            let (room, units, marks) = (size(room, ROOM)?, offset(units)?, list(marks, mark)?);
+            let owned = Sheet::write(units, &marks);
+            said(sheet_written(room, |out| write_sheet(units, &marks, out), owned))
+        }
+        ["sheetadd", bytes, new, room] => {
+            let (bytes, new, room) = (octets(bytes)?, mark(new)?, size(room, ROOM)?);
+            let owned = Sheet::read(&bytes[..]).and_then(|sheet| sheet.add(new));
+            said(sheet_written(room, |out| add_mark(&bytes, new, out), owned))
+        }
+        ["sheetremove", bytes, log, at, room] => {
+            let (bytes, log, at, room) = (octets(bytes)?, small(log)?, place(at)?, size(room, ROOM)?);
+            let owned = Sheet::read(&bytes[..]).and_then(|sheet| sheet.remove(log, at));
+            said(sheet_written(room, |out| remove_mark(&bytes, log, at, out), owned))
+        }
+        ["sheetempty", bytes, room] => {
+            let (bytes, room) = (octets(bytes)?, size(room, ROOM)?);
+            let owned = Sheet::read(&bytes[..]).map(|sheet| sheet.empty());
+            said(sheet_written(room, |out| empty_sheet(&bytes, out), owned))
         }
         _ => return None,
     })
