@@ -23,21 +23,29 @@ python3 tests/vectors.py $start $made/answers-plain
 echo "== planted faults"
 link $made/differ-plain $made/differ.o $made/generate.o $made/standin.o $made/plain.o
 run $made/differ-plain 1718 100000 >$made/differ-plain.txt || { cat $made/differ-plain.txt; exit 1; }
-missed=
-for edit in tests/c/faults/*.edit; do
-    fault=$(basename $edit .edit)
-    here=$made/faults/$fault
-    python3 tests/c/plant.py $edit tests/c $here
+# Plants a fault, and leaves $here/missed where it isn't found.
+plant() {
+    here=$made/faults/$(basename "$1" .edit)
+    python3 tests/c/plant.py "$1" tests/c $here
+    rm -f $here/missed
     for c in plain standin; do
         compile -w -O1 -Iinclude -include tests/c/other.h -c $here/$c.c -o $here/$c.o
     done
     link $here/differ $made/differ.o $made/generate.o $here/standin.o $here/plain.o $made/plain.o
     if run $here/differ 1718 100000 >$here/differ.txt 2>&1; then
-        echo "not found: $fault"
-        missed=1
+        echo "not found: $(basename "$1" .edit)" | tee $here/missed
     fi
+}
+rm -rf $made/faults
+for edit in tests/c/faults/*.edit; do
+    plant $edit &
+    first=${first:-$!}
+    # two at a time
+    [ $first = $! ] || { wait $first; first=$!; }
 done
-[ -z "$missed" ]
+wait
+[ -z "$(find $made/faults -name missed)" ]
+[ "$(find $made/faults -name differ.txt | wc -l)" = "$(ls tests/c/faults/*.edit | wc -l)" ]
 echo "$(ls tests/c/faults/*.edit | wc -l) planted, each found"
 
 if [ ! -d crates/asterix ]; then
@@ -50,8 +58,11 @@ library=target/staticlib/libasterix.a
 link $made/answers $made/answers.o $library
 python3 tests/vectors.py $start $made/answers
 link $made/differ $made/differ.o $made/generate.o $made/plain.o $library
+run $made/differ "${FRESH:-fresh}" "$inputs" >$made/fresh.txt 2>&1 &
+fresh=$!
 run $made/differ 1718 "$inputs"
-run $made/differ "${FRESH:-fresh}" "$inputs"
+wait $fresh || { cat $made/fresh.txt; exit 1; }
+cat $made/fresh.txt
 
 echo "== the example"
 LIBRARY=$library examples/c/run.sh >$made/example.txt
