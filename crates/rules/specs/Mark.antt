@@ -11,14 +11,15 @@ use Rattle.rules.specs.declared.Mark.{Mark}
 use Rattle.rules.specs.declared.Shape.{Shape}
 use Rattle.rules.specs.declared.Shape.the-variants.{Whole, InLog}
 use Rattle.rules.specs.Answer.{Answer, ok, _>>=_, need_or_then_, later}
+use Rattle.rules.specs.SheetForm.{lastLog, lastStation}
 
 -- where a mark stands in the order: by log, then by place
 abbrev pub key : Mark → ℕ
 key m = m .log * 4294967296 + m .place
 
--- log 0 or 1, a place of four bytes, station 0 to 5, a comment of one byte
+-- a log and a station that there are, a place of four bytes, a comment of one byte
 abbrev pub okMark : Mark → Bool
-okMark m = leb (m .log) 1 && (ltb (m .place) 4294967296 && (leb (m .station) 5 && ltb (m .comment) 256))
+okMark m = leb (m .log) lastLog && (ltb (m .place) 4294967296 && (leb (m .station) lastStation && ltb (m .comment) 256))
 
 -- ---- the bytes of a mark: with its log, or without it in one log's list
 abbrev pub size : Shape → ℕ
@@ -49,7 +50,7 @@ markIn f bs = record { log = logIn f bs; place = number4 bs; station = getD bs (
 
 -- … is a legal one, its last byte is zero, and it is not below the least key that may come
 abbrev pub fits : Mark → ℕ → ℕ → Bool
-fits m last least = leb (m .log) 1 && (leb (m .station) 5 && (eqb last 0 && leb least (key m)))
+fits m last least = leb (m .log) lastLog && (leb (m .station) lastStation && (eqb last 0 && leb least (key m)))
 
 unfoldable pub markFits : Shape → ℕ → List ℕ → Bool
 markFits f least bs = fits (markIn f bs) (getD bs (size f - 1) 0) least
@@ -94,7 +95,7 @@ totalsFrom j zero ms = []
 totalsFrom j (suc n) ms = bytes2 (count j ms) (totalsFrom (suc j) n ms)
 
 abbrev pub totals : List Mark → List ℕ
-totals ms = totalsFrom 0 6 ms
+totals ms = totalsFrom 0 (suc lastStation) ms
 
 -- ---- one log's marks (W-211)
 unfoldable pub ofLog : ℕ → List Mark → List Mark

@@ -1,5 +1,5 @@
--- The form of an exercise sheet as data (document 02, W-203): what a field may hold, the fields of an edition in order, the editions, and how many marks a sheet
--- may have. The rules (`Sheet`, `SheetChange`) go by the data, and their laws hold of any form. Assumes nothing.
+-- The form of an exercise sheet as data (document 02, W-203): what a mark may have, what a field may hold, the fields of an edition in order, the editions, and how
+-- many marks a sheet may have. The rules (`Sheet`, `SheetChange`) go by the data, and their laws hold of any form. Assumes nothing.
 --
 -- Of the two columns of an edition one is for W-211 and one for W-208: each request is then a row. No edition in force has either.
 use Prim.Native.Nat.{ℕ}
@@ -8,6 +8,14 @@ use mathlib.Core.List.{List, [], _∷_, _++_}
 use Rattle.rules.specs.declared.Edition.{Edition}
 use Rattle.rules.specs.declared.Shape.{Shape}
 use Rattle.rules.specs.declared.Shape.the-variants.{Whole, InLog}
+
+-- ---- a mark: its place in the log, four bytes; then a byte each its log, its station, any comment code, and zero
+
+abbrev pub lastLog : ℕ
+lastLog = 1
+
+abbrev pub lastStation : ℕ
+lastStation = 5
 
 -- ---- the fields
 
