@@ -17,16 +17,13 @@ use Rattle.rules.specs.Mark.{key, plus, rising, ofLog}
 use Rattle.rules.specs.SheetChange.{insert, without, isAt, has}
 use Rattle.rules.proofs.MarkLaws.{Rises, rises}
 use Rattle.rules.proofs.SplitLaws.{of-append}
+use Rattle.rules.proofs.Codec.{decide}
 use Rattle.marks.specs.declared.Lists.{Lists}
 use Rattle.marks.specs.declared.Change.{Change}
 use Rattle.marks.specs.declared.Change.the-variants.{Keep, Insert, Skip, Clear}
 use Rattle.marks.specs.Lists.{markAt, span, marksOf, below, hasKey, tally, bothTallies, changed, newCount, Sound, noMark, newAt}
 use Rattle.marks.proofs.MarkSteps.{plus-is, or-more}
 use Rattle.marks.proofs.NumberLaws.{span-length, span-append, span-cons, span-same}
-
-decide : (b : Bool) → (b ≡ true) ⊎ (b ≡ false)
-decide true = inl refl
-decide false = inr refl
 
 -- ---- the mark with a number in the changed list
 module _ (c : Lists) (s : List ℕ) (ch : Change) (j : ℕ) where

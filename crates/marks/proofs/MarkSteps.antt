@@ -15,6 +15,7 @@ use Rattle.rules.specs.declared.Mark.{Mark}
 use Rattle.rules.specs.Answer.{ok, refused, _>>=_, need_or_then_, later}
 use Rattle.rules.specs.Mark.{key, size, number4, logIn, markIn, fits, markFits, marksIn, plus, ofLog}
 use Rattle.rules.proofs.AnswerLaws.{bind-in, later-in}
+use Rattle.rules.proofs.Codec.{decide}
 use Rattle.marks.specs.declared.Tally.{Tally}
 use Rattle.marks.specs.Lists.{passing, below, hasKey, tally}
 
@@ -201,10 +202,6 @@ marks-step f least n bs e = rw e
 marks-here : (f : Shape) (least n : ℕ) (bs : List ℕ) → markFits f least bs ≡ false → marksIn f least (suc n) bs ≡ refused 33 0
 unfolding marksIn need_or_then_
 marks-here f least n bs e = rw e
-
-decide : (b : Bool) → (b ≡ true) ⊎ (b ≡ false)
-decide true = inl refl
-decide false = inr refl
 
 pub fault-in : (f : Shape) (least n : ℕ) (bs : List ℕ) → length (passing f least n bs) < n → marksIn f least n bs ≡ refused 33 (length (passing f least n bs) * size f)
 unfolding _>>=_ later

@@ -2,13 +2,14 @@
 -- Assumes nothing.
 use Prim.Native.Nat.{ℕ}
 use mathlib.Core.Path.{_≡_, refl, subst}
+use mathlib.Core.Logic.{_⊎_, inl, inr}
 use mathlib.Core.Bool.{Bool, true, false, _&&_}
 use mathlib.Core.List.{List, _++_}
 use lib.Dec.{T}
 use Rattle.rules.specs.Answer.{ok, Read}
 use Rattle.rules.proofs.AnswerLaws.{Octets, octets-right}
 
--- ---- two tests
+-- ---- tests
 pub and-inv : (a b : Bool) → T (a && b) → T a × T b
 and-inv true b h = (tt, h)
 and-inv false b h = absurd h
@@ -23,6 +24,10 @@ is-true false h = absurd h
 
 pub true-is : (b : Bool) → b ≡ true → T b
 true-is b h = rw h tt
+
+pub decide : (b : Bool) → (b ≡ true) ⊎ (b ≡ false)
+decide true = inl refl
+decide false = inr refl
 
 -- ---- THE TWO LAWS
 pub record Codec {A : Type 0} (Good : A → Type 0) (bytes : A → List ℕ) (r : Read A) : Type 0 where

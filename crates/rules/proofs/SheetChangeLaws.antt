@@ -5,7 +5,7 @@
 use Prim.Native.Nat.{ℕ, suc, _+_, _*_, _/_, _%_, _≤_, _<_}
 use mathlib.Core.Path.{_≡_, refl, sym, ap, ap₂, _∙_, subst}
 use mathlib.Core.Logic.{⊎-elim, _⊎_, inl, inr, _↔_}
-use mathlib.Core.Bool.{Bool, true, false, _||_, not}
+use mathlib.Core.Bool.{Bool, true, false, _||_, not, true≢false}
 use mathlib.Core.List.{List, [], _∷_, append-nil}
 use native.Mathlib.Omega.{arith}
 use lib.Dec.{T, leb, ltb, eqb, leb→le, le→leb, ltb→lt, lt→ltb, eqb-refl}
@@ -22,7 +22,7 @@ use Rattle.rules.specs.Merge.{inRange}
 use Rattle.rules.specs.Sheet.{editionOf, Sheet, sheetBytes, toldEdition, writeSheet, readSheet}
 use Rattle.rules.specs.SheetChange.{orElse, backOf, withMarks, isAt, has, insert, without, sheetAdd, sheetRemove, sheetEmpty, atStart, writeMarks}
 use Rattle.rules.proofs.AnswerLaws.{ok-inj, bind-in, bind-elim, need-in, need-elim, both-left, both-right, T-true, Octets}
-use Rattle.rules.proofs.Codec.{and-inv, and-in}
+use Rattle.rules.proofs.Codec.{and-inv, and-in, is-true, decide}
 use Rattle.rules.proofs.MarkLaws.{Legal, legal, ok-mark, Rises, rises, rising-in, rising-nil, marks-length, marks-back}
 use Rattle.rules.proofs.SplitLaws.{lower}
 use Rattle.rules.proofs.SheetLaws.{edition-forth, Known, known, Fits, Came, sheet-back, sheet-forth}
@@ -59,27 +59,14 @@ same-marks least least′ (x ∷ xs) (y ∷ ys) r t f g =
     (λ m i. ⊎-elim (λ (q : m ≡ x). absurd (omega (arith, in-above (suc (key y)) ys m (u .more) i, ap key q, ap key e))) (λ (j : In m xs). j) (g m (inr i))))
 
 -- ---- inserting and removing
-decide : (b : Bool) → (b ≡ true) ⊎ (b ≡ false)
-decide true = inl refl
-decide false = inr refl
-
 or-false : (a b : Bool) → T (not (a || b)) → (a ≡ false) × T (not b)
 or-false true b h = absurd h
 or-false false b h = (refl, h)
 
 not-at : (l p : ℕ) (x : Mark) → isAt l p x ≡ false → x .log ≡ l → x .place ≡ p → ⊥
 not-at l p x h a b =
-    let t : isAt l p x ≡ true = is (isAt l p x) (and-in (eqb (x .log) l) _ (subst (λ z. T (eqb (x .log) z)) a (eqb-refl (x .log))) (subst (λ z. T (eqb (x .place) z)) b (eqb-refl (x .place)))) in
-    let z : _≡_ {A = ℕ} 0 1 = ap bit (sym h ∙ t) in
-    omega arith
-  where
-    is : (b : Bool) → T b → b ≡ true
-    is true h = refl
-    is false h = absurd h
-
-    bit : Bool → ℕ
-    bit true = 1
-    bit false = 0
+    true≢false
+    (sym (is-true (isAt l p x) (and-in (eqb (x .log) l) _ (subst (λ z. T (eqb (x .log) z)) a (eqb-refl (x .log))) (subst (λ z. T (eqb (x .place) z)) b (eqb-refl (x .place))))) ∙ h)
 
 insert-low : (m x : Mark) (ms : List Mark) → key x < key m → insert m (x ∷ ms) ≡ x ∷ insert m ms
 unfolding insert

@@ -22,7 +22,7 @@ use Rattle.rules.specs.Mark.{key, okMark, bytes4, number4, marksBytes, rising, 
 use Rattle.rules.specs.Sheet.{Sheet, editionOf, offsetCode, fieldBytes, sheetBytes, toldEdition, readSheet}
 use Rattle.rules.proofs.SheetSteps.{marksFields, totalsFields, stepBytes, bytes-are}
 use Rattle.rules.specs.SheetChange.{backOf, withMarks, has, insert, without, sheetAdd, sheetRemove, sheetEmpty, fitted}
-use Rattle.rules.proofs.Codec.{true-is}
+use Rattle.rules.proofs.Codec.{true-is, decide}
 use Rattle.rules.proofs.MarkLaws.{Legal, legal, number4-bytes4}
 use Rattle.rules.proofs.SplitLaws.{split}
 use Rattle.rules.proofs.SheetLaws.{Came, sheet-forth, offset-code}
@@ -63,10 +63,6 @@ only-33 : (es : List Edition) (n : ℕ) → _≡_ {A = Answer Edition} (editionO
 unfolding editionOf if_then_else_ _>>=_
 only-33 [] n = refl
 only-33 (x ∷ es) n = ⊎-elim (λ (t : eqb n (x .byte) ≡ true). rw t) (λ (t : eqb n (x .byte) ≡ false). rw t (only-33 es n)) (decide (eqb n (x .byte)))
-  where
-    decide : (b : Bool) → (b ≡ true) ⊎ (b ≡ false)
-    decide true = inl refl
-    decide false = inr refl
 
 pub told-low : (f : Form) (n : ℕ) → n < f .least → refused 33 0 ≡ toldEdition f n
 unfolding toldEdition need_or_then_

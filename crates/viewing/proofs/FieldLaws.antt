@@ -20,6 +20,7 @@ use Rattle.rules.specs.Mark.{size, number4, marksIn}
 use Rattle.rules.specs.Merge.{inRange}
 use Rattle.rules.specs.Sheet.{editionOf, offsetOf, bodyLength, fieldLength, readField, readEdition, readOffset, readList}
 use Rattle.rules.proofs.AnswerLaws.{ok-inj, need-elim}
+use Rattle.rules.proofs.Codec.{decide}
 use Rattle.marks.specs.declared.Tally.{Tally}
 use Rattle.marks.specs.Lists.{passing, tally}
 use Rattle.marks.proofs.MarkSteps.{fault-in, marks-pass}
@@ -155,10 +156,6 @@ offset-barred c h l = ⊎-elim
     (λ (e : ltb c 2147483648 ≡ true). rw (e, lt-leb c 46080 h))
     (λ (e : ltb c 2147483648 ≡ false). rw (e, lt-leb (4294967295 - c) 46079 (omega arith)))
     (decide (ltb c 2147483648))
-  where
-    decide : (b : Bool) → (b ≡ true) ⊎ (b ≡ false)
-    decide true = inl refl
-    decide false = inr refl
 
 -- ---- a field of marks
 body-end : (n : ℕ) → 3 + n - 3 ≡ n

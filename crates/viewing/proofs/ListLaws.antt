@@ -80,8 +80,8 @@ list-read t f limit key bs a small b h =
       room = omega (arith, z, ap length j, length-append (fieldBytes t (marksBytes f (x .0))) (x .1));
     }
 
-gone : (a n : ℕ) (bs : List ℕ) → n ≤ length bs → length bs - length (drop n bs) ≡ n
-gone a n bs h = omega (arith, length-drop n bs)
+pub gone : (n : ℕ) (bs : List ℕ) → n ≤ length bs → length bs - length (drop n bs) ≡ n
+gone n bs h = omega (arith, length-drop n bs)
 
 module _ (limit key : ℕ) (small : limit ≤ 8191) (bs : List ℕ) (b : Octets bs) where
   abbrev Says : Answer Marked → Type 0
@@ -106,7 +106,7 @@ module _ (limit key : ℕ) (small : limit ≤ 8191) (bs : List ℕ) (b : Octets 
     split-refused-2 k p g =
         let e : readList 6 (InLog 1) (limit - length (first .marks)) (drop (3 + a .count * 7) bs) ≡ refused k p =
         ap₂ (λ x y. readList 6 (InLog 1) (limit - x) y) (first .many) (sym (tail-is (3 + a .count * 7) bs)) ∙ fmap-refused _ _ k p g in
-        sym (fmap-no _ (rw (first .reads, e) (ap (λ x. refused k (x + p)) (gone 0 (3 + a .count * 7) bs (first .room)))))
+        sym (fmap-no _ (rw (first .reads, e) (ap (λ x. refused k (x + p)) (gone (3 + a .count * 7) bs (first .room)))))
 
     module _ (c : Tally) (g : ok c ≡ fmap (λ x. tally key (x .0)) (readList 6 (InLog 1) (limit - a .count) (tail (3 + a .count * 7) bs))) where
       second : Read 6 (InLog 1) (limit - a .count) key (drop (3 + a .count * 7) bs) c

@@ -30,7 +30,7 @@ use Rattle.marks.proofs.NumberLaws.{count-is, base-is, marks-are}
 use Rattle.viewing.specs.declared.Marked.{Marked}
 use Rattle.viewing.specs.declared.View.{View}
 use Rattle.viewing.specs.Read.{fmap, value, totalsSize, markedOf, viewOf}
-use Rattle.viewing.proofs.ListLaws.{fmap-ok, fmap-refused, fmap-is, fmap-no, field-size, bind-refused, need-refused, later-refused, ok-not-refused, field-place, list-place-in}
+use Rattle.viewing.proofs.ListLaws.{fmap-ok, fmap-refused, fmap-is, fmap-no, field-size, bind-refused, need-refused, later-refused, ok-not-refused, field-place, list-place-in, gone}
 
 codec-rest : {A : Type 0} {Good : A → Type 0} {bytes : A → List ℕ} {r : Read A} → Codec Good bytes r → (a : A) (bs rest : List ℕ) → Octets bs → r bs ≡ ok (a, rest)
     → (rest ≡ drop (length (bytes a)) bs) × (length (bytes a) ≤ length bs)
@@ -40,9 +40,6 @@ codec-rest {bytes = bytes} c a bs rest b h =
 
 pub bytes-drop : (n : ℕ) (bs : List ℕ) → Octets bs → Octets (drop n bs)
 bytes-drop n bs b = after bs (take n bs) (drop n bs) (sym (take-append-drop n bs)) b
-
-gone : (n : ℕ) (bs : List ℕ) → n ≤ length bs → length bs - length (drop n bs) ≡ n
-gone n bs h = omega (arith, length-drop n bs)
 
 pub edition-size : (e : Edition) → length (fieldBytes 1 (e .byte ∷ [])) ≡ 4
 unfolding fieldBytes
