@@ -1,7 +1,7 @@
 -- Every refusal of the rules has a number from 1 to 21, whatever octets are lent: so a struct's `number` is 0 exactly where the work was done.
 --
 -- In order: answers; fields; an item; an FSPEC; a record; blocks; finding; walking a log; one item; adding a record; the structs. Assumes nothing.
-use Prim.Native.Nat.{ℕ, zero, suc, _+_, _-_, _≤_}
+use Prim.Native.Nat.{ℕ, zero, suc, _-_, _≤_}
 use mathlib.Core.Path.{_≡_, refl, sym, ap, _∙_, subst}
 use mathlib.Core.Bool.{Bool, true, false, _&&_}
 use mathlib.Core.Option.{Option, none, some}

@@ -1,9 +1,8 @@
 -- Every refusal of the rules of sheets has a number from 16 to 37: so the `number` of a struct is 0 exactly where the work was done. Of any form.
 --
 -- In order: a field; the marks; a sheet; what is made of it; the structs. Assumes nothing.
-use Prim.Native.Nat.{ℕ, zero, suc, _/_, _≤_}
+use Prim.Native.Nat.{ℕ, zero, suc, _≤_}
 use mathlib.Core.Path.{_≡_, refl, sym}
-use mathlib.Core.Bool.{true, false}
 use mathlib.Core.List.{List, [], _∷_}
 use native.Mathlib.Omega.{arith}
 use lib.Dec.{T, leb, leb→le}
@@ -16,7 +15,7 @@ use Rattle.rules.specs.declared.Shape.{Shape}
 use Rattle.rules.specs.declared.Shape.the-variants.{Whole}
 use Rattle.rules.specs.Mark.{marksIn}
 use Rattle.rules.specs.SheetForm.{Form, Holds, theMarks, theTotals, Tagged, fields, form}
-use Rattle.rules.specs.Sheet.{Sheet, editionOf, toldEdition, writeSheet, fieldLength, readField, readEdition, readOffset, readList, readTotal, readHeld, readFields, readSheet}
+use Rattle.rules.specs.Sheet.{editionOf, toldEdition, writeSheet, fieldLength, readField, readEdition, readOffset, readList, readTotal, readHeld, readFields, readSheet}
 use Rattle.rules.specs.SheetChange.{sheetAdd, sheetRemove, sheetEmpty, atStart, writeMarks, fitted}
 use Rattle.rules.proofs.AnswerLaws.{refused-ok}
 use Rattle.asterix.specs.Sheets.{sheetTold, sheetWritten}

@@ -6,7 +6,6 @@ use mathlib.Core.List.{List}
 use native.Mathlib.Omega.{arith}
 use lib.IntN.{ℤ}
 use lib.ListN.{length}
-use lib.Signed.{mag}
 use Rattle.rules.specs.Layout.{flatten}
 use Rattle.rules.specs.Presence.{placeAt}
 use Rattle.rules.specs.Catalogue.{categories}

@@ -6,15 +6,14 @@ use mathlib.Core.Path.{_≡_, refl, sym, ap, _∙_, subst}
 use mathlib.Core.Bool.{Bool, true, false, cond, _&&_}
 use mathlib.Core.List.{List, [], _∷_, map}
 use native.Mathlib.Omega.{arith}
-use native.Mathlib.Nat.{pow-suc, not-suc-le-zero, lt-of-lt-of-le, le-trans, zero-add, mod-lt}
+use native.Mathlib.Nat.{pow-suc, not-suc-le-zero, lt-of-lt-of-le, le-trans, mod-lt}
 use lib.Dec.{leb, ltb, eqb, lit≤, leb·zero, leb·suc-zero, leb·suc-suc, eqb·suc-zero}
 use lib.Pow.{pow-pos, pow-mono, shr-lt}
-use lib.IntN.{ℤ, pos, negsuc, _-ℤ_}
+use lib.IntN.{ℤ, pos, negsuc}
 use lib.Signed.{leZ}
 use borrow.Author.Tests.{lt-ltb, le-ltb}
 use mir.Syntax.{w64}
-use mir.Val.{toZ, ofZ, SFits}
-use mir.ValLaws.{toZ-pos, toZ-ofZ}
+use mir.Val.{toZ, ofZ}
 use Rattle.rules.specs.Answer.{Answer, ok, _>>=_, need_or_then_, if_then_else_}
 use Rattle.rules.specs.Field.{Field, Kind, spare, value, unsigned, signed, bits, half, get, unpack}
 use Rattle.tables.specs.declared.tables.FieldRow.{FieldRow}

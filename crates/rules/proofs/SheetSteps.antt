@@ -3,7 +3,7 @@
 --
 -- In order: the steps; that they write the same; that a reading rule leaves no more than it was given; that they read the same. Assumes nothing.
 use Prim.Native.Nat.{ℕ, _+_, _-_, _≤_}
-use mathlib.Core.Path.{_≡_, refl, sym, ap, ap₂, _∙_}
+use mathlib.Core.Path.{_≡_, refl, sym, ap, _∙_}
 use mathlib.Core.Bool.{Bool, true, false}
 use mathlib.Core.List.{List, [], _∷_, _++_, append-assoc, append-nil}
 use native.Mathlib.Omega.{arith}
@@ -16,7 +16,7 @@ use Rattle.rules.specs.declared.Mark.{Mark}
 use Rattle.rules.specs.declared.Shape.{Shape}
 use Rattle.rules.specs.declared.Shape.the-variants.{Whole, InLog}
 use Rattle.rules.specs.Mark.{bytes4, marksBytes, totals, ofLog}
-use Rattle.rules.specs.SheetForm.{Form, markFields, totalFields, fields}
+use Rattle.rules.specs.SheetForm.{Form, markFields, totalFields}
 use Rattle.rules.specs.Sheet.{Sheet, offsetCode, fieldBytes, heldBytes, fieldsBytes, sheetBytes, readField, readEdition, readOffset, readList, readTotal, readHeld, readFields, readSheet}
 use Rattle.rules.proofs.AnswerLaws.{ok-inj, bind-elim, need-elim, later-inv}
 

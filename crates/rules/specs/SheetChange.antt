@@ -12,7 +12,7 @@ use Rattle.rules.specs.declared.Shape.the-variants.{Whole}
 use Rattle.rules.specs.Mark.{key, okMark, marksIn}
 use Rattle.rules.specs.declared.Edition.{Edition}
 use Rattle.rules.specs.SheetForm.{Form}
-use Rattle.rules.specs.Sheet.{editionOf, Sheet, sheetBytes, toldEdition, writeSheet, readSheet}
+use Rattle.rules.specs.Sheet.{editionOf, Sheet, sheetBytes, writeSheet, readSheet}
 
 -- a value, or another where it is refused
 abbrev pub orElse : {A : Type 0} → Answer A → A → A

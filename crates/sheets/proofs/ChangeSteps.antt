@@ -3,12 +3,12 @@
 -- In order: editions; what is known of a sheet that was read; its new bytes, whatever the change; emptying; adding; removing; reading.
 use Prim.Native.Nat.{ℕ, _+_, _-_, _*_, _≤_, _<_}
 use mathlib.Core.Path.{_≡_, refl, sym, ap, ap₂, _∙_, subst}
-use mathlib.Core.Logic.{⊎-elim, _⊎_, inl, inr}
+use mathlib.Core.Logic.{⊎-elim, _⊎_}
 use mathlib.Core.Bool.{Bool, true, false}
 use mathlib.Core.List.{List, [], _∷_, _++_, append-assoc}
 use native.Mathlib.Omega.{arith}
 use lib.Dec.{T, eqb}
-use borrow.Author.Tests.{le-leb, lt-leb, lt-ltb, le-ltb, eq-eqb, ne-eqb}
+use borrow.Author.Tests.{le-leb, lt-leb, lt-ltb, le-ltb}
 use lib.ListN.{length, take, drop, length-append}
 use lib.Seq.{drop-drop, drop-at, take-at}
 use lib.IntN.{ℤ}
@@ -28,7 +28,7 @@ use Rattle.rules.proofs.SplitLaws.{split}
 use Rattle.rules.proofs.SheetLaws.{Came, sheet-forth, offset-code}
 use Rattle.rules.proofs.SheetChangeLaws.{insert-rising, without-rising}
 use Rattle.rules.proofs.SheetForms.{small}
-use Rattle.marks.specs.declared.Change.the-variants.{Keep, Insert, Skip, Clear}
+use Rattle.marks.specs.declared.Change.the-variants.{Insert, Skip, Clear}
 use Rattle.marks.specs.declared.Tally.{Tally}
 use Rattle.marks.specs.Lists.{listsOf, endOf, Held, span, marksOf, below, hasKey, tally, changed, newAt}
 use Rattle.marks.proofs.NumberLaws.{count-is, base-is, marks-are, span-append, span-length}

@@ -1,7 +1,7 @@
 -- No two distinct results satisfy the statement of a function on sheets: neither its answer, nor what the second buffer then holds. And the marks of a sheet that is
 -- accepted are those that `marks::find_mark` tells by the lists that `read_sheet` told. Assumes nothing.
 use Prim.Native.Nat.{ℕ, _<_}
-use mathlib.Core.Path.{_≡_, refl, sym, ap, _∙_}
+use mathlib.Core.Path.{_≡_, sym, ap, _∙_}
 use mathlib.Core.List.{List}
 use native.Mathlib.Omega.{arith}
 use lib.ListN.{length, getD}
@@ -16,7 +16,6 @@ use Rattle.rules.specs.Sheet.{Sheet, readSheet}
 use Rattle.marks.specs.declared.MarkFound.the-variants.{Found}
 use Rattle.marks.specs.Lists.{listsOf, foundMark}
 use Rattle.marks.proofs.FoundLaws.{told-marks}
-use Rattle.viewing.specs.declared.View.{View}
 use Rattle.viewing.specs.Read.{viewOf}
 use Rattle.viewing.proofs.ListLaws.{fmap-is}
 use Rattle.laying.specs.declared.Written.{Written}

@@ -5,7 +5,7 @@ use mathlib.Core.Bool.{Bool, true, false, true≢false}
 use mathlib.Core.List.{List, [], _++_, append-nil}
 use native.Mathlib.Omega.{arith}
 use lib.Dec.{T}
-use borrow.Author.Tests.{le-leb, lt-leb, lt-ltb, le-ltb, eq-eqb, ne-eqb}
+use borrow.Author.Tests.{le-leb, lt-leb, le-ltb, eq-eqb, ne-eqb}
 use lib.ListN.{length, drop}
 use lib.IntN.{ℤ, pos, negsuc}
 use lib.Signed.{mag, ltZ}
@@ -24,7 +24,7 @@ use Rattle.rules.proofs.MarkLaws as rules
 use Rattle.marks.specs.declared.Lists.{Lists}
 use Rattle.marks.specs.declared.Change.the-variants.{Keep}
 use Rattle.marks.specs.declared.Tally.{Tally}
-use Rattle.marks.specs.Lists.{passing, tally, listsOf, Held, marksOf, newAt}
+use Rattle.marks.specs.Lists.{passing, tally, Held, marksOf, newAt}
 use Rattle.marks.proofs.MarkSteps.{fault-in, marks-pass}
 use Rattle.marks.proofs.NumberLaws.{marks-whole}
 use Rattle.marks.proofs.ChangedLaws.{kept, of-few}

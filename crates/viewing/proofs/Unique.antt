@@ -5,10 +5,8 @@ use mathlib.Core.Bool.{Bool}
 use mathlib.Core.List.{List}
 use Rattle.rules.specs.Answer.{Answer, refused}
 use Rattle.rules.proofs.AnswerLaws.{ok-inj, refused-ok}
-use Rattle.rules.specs.declared.Edition.{Edition}
 use Rattle.rules.specs.SheetForm.{form}
 use Rattle.rules.specs.Sheet.{editionOf, readSheet}
-use Rattle.viewing.specs.declared.View.{View}
 use Rattle.viewing.specs.declared.SheetViewed.{SheetViewed}
 use Rattle.viewing.specs.declared.SheetViewed.the-variants.{Accepted, Refused}
 use Rattle.viewing.specs.declared.EditionRead.{EditionRead}

@@ -7,7 +7,6 @@ use Rattle.rules.specs.Answer.{Answer, ok, refused}
 use Rattle.rules.specs.declared.Edition.{Edition}
 use Rattle.rules.specs.Sheet.{Sheet}
 use Rattle.rules.specs.declared.Mark.{Mark}
-use Rattle.marks.specs.declared.Lists.{Lists}
 use Rattle.marks.specs.declared.Tally.{Tally}
 use Rattle.marks.specs.Lists.{listsOf, tally}
 use Rattle.viewing.specs.declared.Counted.{Counted}
