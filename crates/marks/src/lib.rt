@@ -12,6 +12,11 @@ ghost use Rattle.marks.specs.Lists.{passing, tally, bothTallies, shapeFo
 
 // ---- one mark
 
+// The last log and the last station that there are (W-203).
+pub const LAST_LOG: u8 = 1;
+
+pub const LAST_STATION: u8 = 5;
+
 // One where the test holds.
 pub fn one_if(t: bool) -> usize
     ensures { λ r. ⌜ (r ≡ plus t 0) × (r ≤ 1) ⌝ }
@@ -86,10 +91,10 @@ pub fn key_of(m: Mark) -> usize
 fn mark_fits(m: Mark, last: u8, least: usize) -> bool
     ensures { λ r. ⌜ r ≡ fits m last least ⌝ }
 {
-    if 1 < m.log {
+    if LAST_LOG < m.log {
         return false;
     }
-    if 5 < m.station {
+    if LAST_STATION < m.station {
         return false;
     }
     if last != 0 {
@@ -276,7 +281,7 @@ pub fn count_new(s: &[u8], lists: Lists, change: Change, n: usize, station: u8) 
 
 // ---- for any caller: nothing is asked of the bytes or of the lists
 
-// Whether the lists lie in so many bytes.
+// Whether the lists lie in so many bytes: no more marks than the length of a field can say, from no later place than a sheet's marks start at.
 fn lists_held(lists: Lists, len: usize) -> bool
     ensures { λ r. ⌜ r ≡ heldIn lists len ⌝ }
 {

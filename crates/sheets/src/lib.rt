@@ -2,6 +2,8 @@
 // of a sheet are passed over once to read it, and once more to lay the changed one.
 use laying::Written;
 use marks::Change;
+use marks::LAST_LOG;
+use marks::LAST_STATION;
 use marks::Lists;
 use rules::Edition;
 use rules::Mark;
@@ -108,10 +110,10 @@ pub fn empty_sheet(sheet: &[u8], out: &mut [u8]) -> Written
 fn mark_ok(m: Mark) -> bool
     ensures { λ r. ⌜ r ≡ okMark m ⌝ }
 {
-    if 1 < m.log {
+    if LAST_LOG < m.log {
         return false;
     }
-    if 5 < m.station {
+    if LAST_STATION < m.station {
         return false;
     }
     true
@@ -211,7 +213,7 @@ pub enum Coded {
     Barred,
 }
 
-// A clock offset in four bytes, two's complement.
+// A clock offset in four bytes, two's complement: from -46,080 to 46,080 (W-201). The magnitude of -n is n - 1.
 fn offset_code(offset: i64) -> Coded
     ensures { λ r. ⌜ codedAs r ≡ (need inRange offset or 33 then ok (offsetCode offset)) ⌝ }
 {

@@ -122,6 +122,7 @@ pub enum OffsetRead {
     Barred { number: u8, place: usize },
 }
 
+// From -46,080, which is 4,294,921,216 in four bytes of two's complement, to 46,080 (W-201).
 fn read_offset(bs: &[u8]) -> OffsetRead
     ensures { λ r. ⌜ offsetAnswer r ≡ value (readOffset (now (bs .entry))) ⌝ }
 {
