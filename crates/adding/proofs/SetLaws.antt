@@ -4,13 +4,13 @@
 use Prim.Native.Nat.{ℕ, zero, suc, _+_, _-_, _*_, _^_, _≤_, _<_}
 use mathlib.Core.Path.{_≡_, refl, sym, ap, _∙_, subst}
 use mathlib.Core.Logic.{_⊎_, inl, inr, ⊎-elim}
-use mathlib.Core.Bool.{Bool, true, false, _&&_, _||_, false≢true}
+use mathlib.Core.Bool.{Bool, true, false, _||_, false≢true}
 use mathlib.Core.Option.{Option, none, some}
 use mathlib.Core.List.{List, [], _∷_, _++_, map}
 use native.Mathlib.Omega.{arith}
 use native.Mathlib.Nat.{add-zero, lt-of-lt-of-le}
 use lib.Dec.{leb, ltb, eqb, lt→ltb}
-use borrow.Author.Tests.{eq-eqb, eqb-true, lt-ltb, leb-true, ltb-true, ltb-false}
+use borrow.Author.Tests.{eq-eqb, eqb-true, lt-ltb, leb-true}
 use lib.Pow.{pow-pos, pow-mono}
 use lib.ListN.{length, getD, length-append, length-map, List·getD-append}
 use lib.Seq.{getD-append-add}
@@ -18,15 +18,11 @@ use Rattle.rules.specs.Answer.{ok}
 use Rattle.rules.specs.Layout.{flatten, octets, writeNum, writeChain}
 use Rattle.rules.specs.Presence.{present, number, usable, house, numbers, writePresence, has, placeAt, allUsable, rowFlags, anySet, keepRow, setFlags}
 use Rattle.rules.specs.Record.{Place}
-use Rattle.rules.proofs.AnswerLaws.{bind-in, need-in, T-true, both-left, both-right}
+use Rattle.rules.proofs.AnswerLaws.{bind-in, need-in, T-true, both-left, both-right, or-right, or-cases, below-or}
 use Rattle.rules.proofs.PresenceLaws.{number-lt}
 use Rattle.rules.proofs.Tables.{sevens}
 
 -- ---- numbers of the set: each has a usable place
-
-either : (a b : Bool) → (a || b) ≡ true → (a ≡ true) ⊎ (b ≡ true)
-either true b e = inl refl
-either false b e = inr e
 
 has-usable : (ps : List (List (Option Place))) (fs : List ℕ) (g : ℕ) → allUsable ps fs ≡ true → has g fs ≡ true → present (placeAt ps g) ≡ true
 has-usable ps [] g u h = absurd (false≢true h)
@@ -34,7 +30,7 @@ has-usable ps (f ∷ fs) g u h =
     ⊎-elim
     (λ e. ap (λ k. present (placeAt ps k)) (eqb-true g f e) ∙ both-left (present (placeAt ps f)) (allUsable ps fs) u)
     (λ e. has-usable ps fs g (both-right (present (placeAt ps f)) (allUsable ps fs) u) e)
-    (either (eqb g f) (has g fs) h)
+    (or-cases (eqb g f) (has g fs) h)
 
 nil-cons {ℓ} : {A : Type 0} {C : Type ℓ} {a : A} {l : List A} → a ∷ l ≡ [] → C
 nil-cons e = absurd (omega (arith, ap length e))
@@ -63,17 +59,6 @@ unfolding usable
 usable-cons false q ps ts h u = u
 usable-cons true none ps ts h u = absurd (false≢true (h refl))
 usable-cons true (some p) ps ts h u = u
-
-or-right : (a b : Bool) → b ≡ true → (a || b) ≡ true
-or-right true b e = refl
-or-right false b e = e
-
-below-or : (g n : ℕ) → (g < n) ⊎ (n ≤ g)
-below-or g n = go (ltb g n) refl
-  where
-    go : (t : Bool) → ltb g n ≡ t → (g < n) ⊎ (n ≤ g)
-    go true e = inl (ltb-true g n e)
-    go false e = inr (ltb-false g n e)
 
 first-or : (f g : ℕ) → f ≤ g → (f ≡ g) ⊎ (f < g)
 first-or f g l = ⊎-elim (λ e. inr e) (λ e. inl (omega arith)) (below-or f g)

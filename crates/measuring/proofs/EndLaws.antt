@@ -29,8 +29,10 @@ use Rattle.sets.specs.declared.ItemSet.{ItemSet}
 use Rattle.sets.specs.declared.SetRead.{SetRead}
 use Rattle.sets.specs.declared.SetRead.the-variants as set
 use Rattle.sets.proofs.FlagLaws.{flags-split, First, first, first-from, first-rest, first-flags}
-use Rattle.quick_items.specs.Item.{allBelow, octetsBy, rowOctets, isPlace, rowOf, octetsAt}
-use Rattle.quick_items.proofs.ItemLaws.{octet-at, all-below}
+use Rattle.tables.specs.Tests.{allBelow}
+use Rattle.quick_items.specs.Item.{octetsBy, rowOctets, isPlace, rowOf, octetsAt}
+use Rattle.tables.proofs.TableLaws.{all-below}
+use Rattle.quick_items.proofs.ItemLaws.{octet-at}
 use Rattle.measuring.specs.Measure.{endFrom, endOf, startOf, timeFrn, isIn, isUntimed, clockAt, timeIn, sized, measureBy, measureIn, measureOf}
 use Rattle.measuring.specs.Shape.{isFixed}
 use Rattle.measuring.proofs.CategoryLaws.{untimed-told}

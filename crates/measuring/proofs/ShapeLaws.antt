@@ -21,10 +21,10 @@ use Rattle.items.specs.Answers.{profileIn}
 use Rattle.sets.specs.Sets.{categoryAt, setAt}
 use Rattle.sets.specs.Steps.{setFrom, typeFrn}
 use Rattle.sets.proofs.SetLaws.{octets-all}
-use Rattle.quick_items.specs.Item.{allBelow, octetsBy, isPlace, rowOf, octetsAt}
+use Rattle.quick_items.specs.Item.{octetsBy, isPlace, rowOf, octetsAt}
 use Rattle.tables.specs.Tables.{groupAt}
 use Rattle.tables.specs.Profiles.{profileRowAt}
-use Rattle.quick_items.proofs.ItemLaws.{all-below}
+use Rattle.tables.proofs.TableLaws.{all-below}
 use Rattle.quick_records.specs.Shape.{shapeCount, lowNumber, lowOctets, usedOf, profileOf}
 use Rattle.quick_records.proofs.ShapeLaws.{cut-same, fspec-told}
 use Rattle.measuring.specs.Measure.{endFrom, endOf, startOf, timeFrn, isIn, isUntimed, clockAt, timeIn, sized, measureBy, measureIn, measureOf}

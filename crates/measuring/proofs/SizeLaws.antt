@@ -19,15 +19,16 @@ use Rattle.rules.specs.Catalogue.{categories}
 use Rattle.rules.proofs.AnswerLaws.{if-true, refused-ok, ok-inj, bind-elim, need-elim, if-inv, expect-elim, none-some, both-left, both-right, Octets}
 use Rattle.tables.specs.declared.tables.LayoutRow.{LayoutRow}
 use Rattle.tables.specs.Tables.{profileCount, frnCount, groups, layouts, groupAt, layoutAt, placeRowAt}
-use Rattle.tables.proofs.TableLaws.{profile-past}
+use Rattle.tables.proofs.TableLaws.{profile-past, all-below}
 use Rattle.layouts.specs.Read.{Shaped, chain, listShape, shapeBy, shapeOf, wholeSize}
 use Rattle.layouts.proofs.ReadLaws.{le-or-lt}
 use Rattle.layouts.proofs.WholeLaws.{whole-shape}
 use Rattle.items.specs.Answers.{checkAt}
 use Rattle.items.proofs.CheckLaws.{check-place}
 use Rattle.records.proofs.PlaceLaws.{check-few}
-use Rattle.quick_items.specs.Item.{allBelow, octetsBy, rowOctets, rowOf, octetsAt}
-use Rattle.quick_items.proofs.ItemLaws.{all-below, other}
+use Rattle.tables.specs.Tests.{allBelow}
+use Rattle.quick_items.specs.Item.{octetsBy, rowOctets, rowOf, octetsAt}
+use Rattle.quick_items.proofs.ItemLaws.{other}
 
 -- ---- parts by FX bits: two at most, of an octet each
 

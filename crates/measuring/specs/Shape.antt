@@ -13,7 +13,8 @@ use Rattle.rules.specs.Presence.{flags}
 use Rattle.tables.specs.Profiles.{profileRowAt}
 use Rattle.sets.specs.Sets.{categoryAt}
 use Rattle.sets.specs.Steps.{setFrom, typeFrn}
-use Rattle.quick_items.specs.Item.{allBelow, rowOf, octetsAt}
+use Rattle.tables.specs.Tests.{allBelow}
+use Rattle.quick_items.specs.Item.{rowOf, octetsAt}
 use Rattle.quick_records.specs.Shape.{shapeCount, lowOctets, usedOf, profileOf}
 use Rattle.measuring.specs.Measure.{timeFrn, isIn, measureIn}
 use Rattle.measuring.specs.declared.record.Measured.{Measured}

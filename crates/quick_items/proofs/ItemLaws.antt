@@ -1,6 +1,6 @@
 -- What a word of the table tells of an item is what the exact check answers.
 --
--- In order: tests of all numbers below another; what is told; the words of the table; a free item; the item of a profile at an FRN; the first three octets of a part; a rule; one part with a rule; a list or a led item;
+-- In order: what is told; the words of the table; a free item; the item of a profile at an FRN; the first three octets of a part; a rule; one part with a rule; a list or a led item;
 -- an extended item; the octets of an item that is legal. Assumes nothing.
 use Prim.Native.Nat.{ℕ, zero, suc, _+_, _-_, _*_, _/_, _%_, _<_, _≤_, _^_}
 use mathlib.Core.Path.{_≡_, refl, sym, ap, ap₂, _∙_, subst}
@@ -22,7 +22,7 @@ use Rattle.tables.specs.declared.tables.LayoutRow.{LayoutRow}
 use Rattle.tables.specs.declared.tables.PlaceRow.{PlaceRow}
 use Rattle.items.specs.Answers.{checkAt}
 use Rattle.tables.specs.FieldRules.{Rule, obeys, allObeyed, rules, firstRule, singleOf, singles}
-use Rattle.quick_items.specs.Item.{allBelow, Plainly, ruleIn, nextIn, firstThree, downOf, addedOf, upOf, limitOf, asks, sameRule, sameRules, soundRule, lowAt, highAt, asked, soundRow, soundFree, soundSingle, soundCounted, soundExtended, samePair, soundTwice, soundBy, soundWord, soundWords, soundSteps, rowOctets, wordOctets, exactWord, exactSteps, isPlace, wordFor, rowOf, octetsAt}
+use Rattle.quick_items.specs.Item.{Plainly, ruleIn, nextIn, firstThree, downOf, addedOf, upOf, limitOf, asks, sameRule, sameRules, soundRule, lowAt, highAt, asked, soundRow, soundFree, soundSingle, soundCounted, soundExtended, samePair, soundTwice, soundBy, soundWord, soundWords, soundSteps, rowOctets, wordOctets, exactWord, exactSteps, isPlace, wordFor, rowOf, octetsAt}
 use Rattle.layouts.specs.Read.{rowsAt, partAt, legal, partSound, partsLegal, chain, listShape, shapeOf, wholeSize, rowSound}
 use Rattle.tables.specs.Tables.{profileCount, frnCount, placeCount, groupCount, groupAt, layoutAt, nowhere, profileRows, placeRowAt}
 use Rattle.items.proofs.CheckLaws.{Single, single-is, single-size, single-sound, single-legal, free-of, free-there, check-whole, check-place}
@@ -32,17 +32,7 @@ use Rattle.layouts.proofs.ReadLaws.{octets-drop, le-or-lt}
 use Rattle.layouts.proofs.LegalLaws.{part-ruled}
 use Rattle.layouts.proofs.ShapeLaws.{rowed, Chaining, chain-begun, chain-group, chain-last, chain-more, chain-parts, chain-shape, list-shape, list-there, led-there}
 use Rattle.layouts.proofs.SoundLaws.{layout-sound}
-use Rattle.tables.proofs.TableLaws.{place-row}
-
--- ---- tests of all numbers below another
-
-pub all-below : (n : ℕ) (p : ℕ → Bool) (j : ℕ) → allBelow n p ≡ true → j < n → p j ≡ true
-all-below zero p j h l = absurd (omega arith)
-all-below (suc n) p j h l =
-    ⊎-elim
-    (λ (k : n ≤ j). let e : n ≡ j = omega arith in subst (λ x. p x ≡ true) e (both-left (p n) (allBelow n p) h))
-    (λ (k : j < n). all-below n p j (both-right (p n) (allBelow n p) h) k)
-    (le-or-lt n j)
+use Rattle.tables.proofs.TableLaws.{place-row, all-below}
 
 pub other : (a b : Bool) → a || b ≡ true → (a ≡ true → ⊥) → b ≡ true
 other true b h n = absurd (n refl)

@@ -11,13 +11,9 @@ use Rattle.rules.specs.Answer.{Answer, ok, if_then_else_}
 use Rattle.rules.specs.Catalogue.{categories}
 use Rattle.tables.specs.declared.tables.LayoutRow.{LayoutRow}
 use Rattle.tables.specs.declared.tables.PlaceRow.{PlaceRow}
+use Rattle.tables.specs.Tests.{allBelow}
 use Rattle.tables.specs.Tables.{profileCount, frnCount, placeCount, groupAt, layoutAt, profileRows, placeRowAt}
 use Rattle.tables.specs.FieldRules.{Rule, rules, firstRule, singleOf}
-
--- a test of every number below another
-abbrev pub allBelow : ℕ → (ℕ → Bool) → Bool
-allBelow zero p = true
-allBelow (suc n) p = p n && allBelow n p
 
 -- 0 tells nothing of an answer, and any other number that the answer is that number
 abbrev pub Plainly : ℕ → Answer ℕ → Type 0

@@ -21,10 +21,12 @@ use Rattle.rules.specs.Entry.{RecordMap, mapOf}
 use Rattle.rules.proofs.AnswerLaws.{ok-inj, bind-in, bind-elim, later-in, both-left, both-right, Octets}
 use Rattle.rules.proofs.PresenceLaws.{flags-length}
 use Rattle.items.specs.Answers.{checkAt}
-use Rattle.quick_items.specs.Item.{Plainly, allBelow}
+use Rattle.tables.specs.Tests.{allBelow}
+use Rattle.quick_items.specs.Item.{Plainly}
 use Rattle.tables.specs.Tables.{profileCount, frnCount}
 use Rattle.layouts.proofs.ReadLaws.{le-or-lt, octets-drop}
-use Rattle.quick_items.proofs.ItemLaws.{free-check, all-below, other}
+use Rattle.tables.proofs.TableLaws.{all-below}
+use Rattle.quick_items.proofs.ItemLaws.{free-check, other}
 use Rattle.sets.specs.Sets.{categoryAt, setAt, within}
 use Rattle.sets.specs.Steps.{typeFrn, rowAt, judgeSet}
 use Rattle.records.specs.Walk.{Came, passed, walk, startAt, recordBy}

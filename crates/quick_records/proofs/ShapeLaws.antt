@@ -23,7 +23,7 @@ use Rattle.layouts.specs.Read.{wholeSize, rowSound}
 use Rattle.tables.specs.Tables.{profileCount, frnCount, layoutAt, placeRowAt}
 use Rattle.layouts.proofs.ReadLaws.{octets-drop}
 use Rattle.layouts.proofs.SoundLaws.{layout-sound}
-use Rattle.tables.proofs.TableLaws.{place-row}
+use Rattle.tables.proofs.TableLaws.{place-row, all-below}
 use Rattle.items.specs.Answers.{checkAt}
 use Rattle.items.proofs.CheckLaws.{check-place}
 use Rattle.sets.specs.Sets.{categoryAt, setAt, within}
@@ -32,10 +32,11 @@ use Rattle.sets.specs.Steps.{rowAt, judgeSet, ended, setFrom}
 use Rattle.sets.specs.declared.SetRead.the-variants as set
 use Rattle.sets.proofs.SetLaws.{set-law, octets-all, to-end}
 use Rattle.records.proofs.WalkLaws.{walk-none, walk-skip}
-use Rattle.quick_items.specs.Item.{Plainly, firstThree, asks, soundSingle, soundCounted, allBelow}
+use Rattle.tables.specs.Tests.{allBelow}
+use Rattle.quick_items.specs.Item.{Plainly, firstThree, asks, soundSingle, soundCounted}
 use Rattle.quick_records.specs.Record.{kindCount, rowCount, typeSets, mustAt, mayAt, soundTypes, free, hasFront, frontOctets, typeAt, Content, Goes, Later, Walks, Passed, endAt}
 use Rattle.quick_records.specs.Shape.{shapeCount, setCount, lowNumber, lowOctets, usedOf, startOf, tailOf, profileOf, typesOf, wordOf, placeOf, soundType, soundMask, isFree, runSum, runLeft, soundSpecial, soundFirst, soundThen, soundItems, soundFront, shapeBy, bounded, soundShape, soundShapeAt, soundSets, Front, Fronts, Listed, OfType}
-use Rattle.quick_items.proofs.ItemLaws.{octet-at, cut, free-check, ruled-told, counted-told, told, all-below, other}
+use Rattle.quick_items.proofs.ItemLaws.{octet-at, cut, free-check, ruled-told, counted-told, told, other}
 use Rattle.quick_records.proofs.RecordLaws.{row-under, row-read, front-some, one, none-here, kind-stays, Skipped, third, first-three, third-here, third-kind, seven, content, quick-whole}
 
 octet-here : (n : ℕ) (xs bs : List ℕ) → xs ≡ drop n bs → getD xs 0 0 ≡ getD bs n 0

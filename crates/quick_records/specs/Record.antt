@@ -17,7 +17,7 @@ use Rattle.sets.specs.Steps.{typeFrn, markBits, rowAt}
 use Rattle.records.specs.Walk.{Came, walk, startAt}
 use Rattle.sets.specs.Sets.{categoryAt}
 use Rattle.records.specs.Answers.{recordAt}
-use Rattle.quick_items.specs.Item.{allBelow}
+use Rattle.tables.specs.Tests.{allBelow}
 
 -- ---- the tables
 

@@ -12,7 +12,8 @@ use Rattle.tables.specs.declared.tables.LayoutRow.{LayoutRow}
 use Rattle.tables.specs.Tables.{profileCount, frnCount, layoutAt, placeRowAt}
 use Rattle.sets.specs.Sets.{categoryAt, within}
 use Rattle.sets.specs.Steps.{setFrom, rowAt}
-use Rattle.quick_items.specs.Item.{firstThree, asks, soundSingle, soundCounted, allBelow}
+use Rattle.tables.specs.Tests.{allBelow}
+use Rattle.quick_items.specs.Item.{firstThree, asks, soundSingle, soundCounted}
 use Rattle.quick_records.specs.Record.{rowCount, typeSets, mustAt, mayAt, free, hasFront, frontOctets, typeAt}
 
 -- ---- octets as a number, the first one lowest

@@ -4,8 +4,8 @@
 -- judgement. Assumes nothing.
 use Prim.Native.Nat.{ℕ, zero, suc, _+_, _*_, _/_, _%_, _≤_, _<_}
 use mathlib.Core.Path.{_≡_, refl, sym, ap, ap₂, _∙_, subst}
-use mathlib.Core.Logic.{_⊎_, inl, inr, ⊎-elim}
-use mathlib.Core.Bool.{Bool, true, false, _&&_, _||_, not, true≢false, false≢true}
+use mathlib.Core.Logic.{_⊎_, ⊎-elim}
+use mathlib.Core.Bool.{Bool, true, false, _&&_, not, true≢false, false≢true}
 use mathlib.Core.Option.{Option, none, some}
 use mathlib.Core.List.{List, [], _∷_, _++_, map, reverse}
 use native.Mathlib.Omega.{arith}
@@ -19,9 +19,10 @@ use Rattle.rules.specs.Presence.{flags, present, has}
 use Rattle.rules.specs.Record.{Place, Message, Category, Record, places, named, items, references, valueOf, allIn, typeOf, messageOf, judge}
 use Rattle.rules.specs.Catalogue.{categories}
 use Rattle.rules.specs.Entry.{over, isItem}
-use Rattle.rules.proofs.AnswerLaws.{ok-inj, bind-in, bind-out, bind-assoc, need-bind, need-in, if-inv, if-true, if-false, some-inj, none-some, both-left, both-right, refused-ok}
+use Rattle.rules.proofs.AnswerLaws.{ok-inj, bind-in, bind-out, bind-assoc, need-bind, need-in, if-inv, if-true, if-false, some-inj, none-some, both-left, both-right, or-left, or-right, or-cases, refused-ok}
 use Rattle.rules.proofs.Tables.{distinct, everyCategory}
 use Rattle.tables.specs.Tables.{profileCount}
+use Rattle.tables.proofs.MatchLaws.{NoneOf, none-of}
 use Rattle.tables.proofs.ProfileLaws.{category-none}
 use Rattle.sets.specs.Sets.{categoryIn, categoryAt, bitsOf, within}
 use Rattle.sets.specs.Steps.{typeFrn, marks, markBits, rowAt, judgeRow, judgeSet}
@@ -30,31 +31,6 @@ use Rattle.sets.proofs.ProfileLaws.{category-test, places-few, places-d
 use Rattle.sets.proofs.SetLaws.{bind-same}
 
 -- ---- rows of message types
-
--- a number is none of a match's, the last arm's first
-abbrev pub NoneOf : ℕ → List ℕ → Type 0
-NoneOf t [] = Unit {0}
-NoneOf t (k ∷ ks) = NoneOf t ks × (t ≡ k → ⊥)
-
-or-cases : (a b : Bool) → a || b ≡ true → (a ≡ true) ⊎ (b ≡ true)
-or-cases true b h = inl refl
-or-cases false b h = inr h
-
-or-left : (a b : Bool) → a ≡ true → a || b ≡ true
-or-left true b h = refl
-or-left false b h = absurd (false≢true h)
-
-or-right : (a b : Bool) → b ≡ true → a || b ≡ true
-or-right true b h = refl
-or-right false b h = h
-
-none-of : (t k : ℕ) (ks : List ℕ) → NoneOf t ks → has k ks ≡ true → eqb t k ≡ false
-none-of t k [] n h = absurd (false≢true h)
-none-of t k (j ∷ ks) n h =
-    ⊎-elim
-    (λ e. ne-eqb t k (λ (p : t ≡ k). n .1 (p ∙ eqb-true k j e)))
-    (λ e. none-of t k ks (n .0) e)
-    (or-cases (eqb k j) (has k ks) h)
 
 -- the numbers by which the code finds the rows: 256 for each category before, and the type
 abbrev keys : ℕ → List Message → List ℕ

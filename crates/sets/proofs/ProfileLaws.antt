@@ -15,7 +15,7 @@ use Rattle.rules.specs.Field.{Field, spare, value, unsigned, signed, any}
 use Rattle.rules.specs.Layout.{Layout, fixed, repeated, led, extended, group, item}
 use Rattle.rules.specs.Record.{Place, Category, places, at}
 use Rattle.rules.specs.Catalogue.{categories}
-use Rattle.rules.proofs.AnswerLaws.{both-left, both-right}
+use Rattle.rules.proofs.AnswerLaws.{both-left, both-right, or-cases}
 use Rattle.rules.proofs.Tables.{everyCategory, distinct, soundCategory, catsOf, once, Sound, sound-category, tables-hold}
 use Rattle.rules.specs.Entry.{mapPlaces}
 use Rattle.tables.specs.Places.{frnAs}
@@ -130,7 +130,3 @@ type-place i =
       place = place-is _ (both-right (ltb 0 (frnIn 0 (categoryAt i))) _ h);
     }))
     (or-cases (eqb (length (categoryAt i .profile)) 0) _ (category-test typed tables-typed refl i))
-  where
-    or-cases : (a b : Bool) → a || b ≡ true → (a ≡ true) ⊎ (b ≡ true)
-    or-cases true b h = inl refl
-    or-cases false b h = inr h

@@ -3,6 +3,7 @@
 -- In order: a test of each row; places; fields; groups; rows as one number; layouts. Assumes nothing.
 use Prim.Native.Nat.{ℕ, zero, suc, _+_, _*_, _/_, _%_, _≤_, _<_}
 use mathlib.Core.Path.{_≡_, refl, sym, ap, _∙_}
+use mathlib.Core.Logic.{⊎-elim}
 use mathlib.Core.Bool.{Bool, true, false, _&&_}
 use mathlib.Core.Option.{Option, none}
 use mathlib.Core.List.{List, [], _∷_, _++_, map}
@@ -15,7 +16,7 @@ use lib.Seq.{slice, getD-append-add}
 use borrow.Author.Tests.{ltb-true, leb-true}
 use Rattle.rules.specs.Field.{Field}
 use Rattle.rules.specs.Layout.{Group, flatten}
-use Rattle.rules.proofs.AnswerLaws.{both-left, both-right}
+use Rattle.rules.proofs.AnswerLaws.{both-left, both-right, below-or}
 use Rattle.rules.proofs.EntryLaws.{length-over}
 use Rattle.rules.specs.Presence.{present, placeAt}
 use Rattle.rules.specs.Record.{Place, Category, places}
@@ -24,6 +25,7 @@ use Rattle.rules.specs.Entry.{profileAt, over}
 use Rattle.tables.specs.declared.tables.GroupRow.{GroupRow}
 use Rattle.tables.specs.declared.tables.LayoutRow.{LayoutRow}
 use Rattle.tables.specs.declared.tables.FieldRow.{FieldRow}
+use Rattle.tables.specs.Tests.{allBelow}
 use Rattle.tables.specs.Tables.{fieldCount, groupCount, layoutCount, profileCount, frnCount, rangeCount, fields, fieldRow, noFieldRow, noGroupRow, noLayoutRow, fieldAt, ranges, least, greatest, fieldWord, fieldWords, groupWord, groupWords, layoutWord, layoutWords, layoutsIn, referencesIn, isFree, groups, layouts, groupRows, groupAt, layoutRows, layoutBy, layoutIs, layoutAt, nowhere, profileRows, placeRowAt, placeIs}
 
 -- ---- what holds of each row of a table, by one test
@@ -36,6 +38,15 @@ pub each : {A : Type 0} (t : A → Bool) (l : List A) (d : A) → every t l ≡ 
 each t [] d h i k = absurd (not-suc-le-zero k)
 each t (a ∷ l) d h zero k = both-left (t a) (every t l) h
 each t (a ∷ l) d h (suc i) k = each t l d (both-right (t a) (every t l) h) i (le-of-suc-le-suc k)
+
+-- and of each number below another
+pub all-below : (n : ℕ) (p : ℕ → Bool) (j : ℕ) → allBelow n p ≡ true → j < n → p j ≡ true
+all-below zero p j h l = absurd (not-suc-le-zero l)
+all-below (suc n) p j h l =
+    ⊎-elim
+    (λ m. all-below n p j (both-right (p n) (allBelow n p) h) m)
+    (λ m. let e : j ≡ n = omega arith in ap p e ∙ both-left (p n) (allBelow n p) h)
+    (below-or j n)
 
 -- what holds of a whole table holds of each row
 at-row : {A B : Type 0} (f g : A → B) (l : List A) (i : ℕ) (d : A) → f d ≡ g d → map f l ≡ map g l → f (getD l i d) ≡ g (getD l i d)

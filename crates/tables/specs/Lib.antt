@@ -1,4 +1,5 @@
 pub mod Places
 pub mod Tables
+pub mod Tests
 pub mod FieldRules
 pub mod Profiles
