@@ -2,6 +2,7 @@
 its lines. What a column is, and how it is tied to the rules, says the file that has the region.
 """
 
+import reading
 import rows
 from rows import FRNS, PROFILES
 from tables import SIGNED, SPARE
@@ -188,28 +189,46 @@ def message_arms():
 
 # ---- crates/lengths
 
-def firsts():
-    """Where the FRNs of each profile begin in the table of least lengths."""
-    return short("FIRST", "u8", [str(sum(len(category.profile) for category in PROFILES[:profile])) for profile in range(len(PROFILES))])
+def fspec_octets():
+    """The FSPEC octets of every profile: the profile, the octet's place, and what stands at its seven bits."""
+    for profile in range(len(PROFILES)):
+        printed = rows.places_of(profile)
+        for place in range(len(printed) // 7):
+            yield profile, place, printed[7 * place:7 * place + 7]
 
 
-def least_octets(item):
-    """The fewest octets of an item."""
-    return item.octets if item.form == "fixed" else 1
+def sums_name(profile, place):
+    return "OCTET_%d_OF_%03d" % (1 + place, PROFILES[profile].number)
 
 
-def least_rows():
-    out = []
-    for profile, category in enumerate(PROFILES):
-        for place in rows.places_of(profile):
-            says = rows.cited(place).rstrip() if place.item else place.says
-            out.append((str(least_octets(place.item)) if place.item else "0", "%03d  FRN %-2d  %s" % (category.number, place.frn, says)))
-    return out
+def bit_adds(bit, at):
+    says = rows.cited(at).rstrip() if at.item else at.says
+    return "// bit %d  FRN %-2d  %d  %s" % (bit, at.frn, reading.least_octets(at.item) if at.item else 0, says)
 
 
-def leasts():
-    return constant("LEAST", "u8", least_rows())
+def sums_table(profile, place, bits):
+    """The sums of one octet by its value, after what each of its bits adds."""
+    category = PROFILES[profile].number
+    out = ["// Category %03d, octet %d:" % (category, 1 + place)] + [bit_adds(8 - n, at) for n, at in enumerate(bits)]
+    lines = []
+    for value in range(256):
+        named = [at.frn for n, at in enumerate(bits) if value >> (7 - n) & 1]
+        lines.append((str(reading.least_length(category, place, value)), ("%02X  %s" % (value, " ".join(map(str, named)))).rstrip()))
+    return out + constant(sums_name(profile, place), "u8", lines)
 
 
-def least_count():
-    return number_spec("leastCount", len(least_rows()))
+def sums():
+    tables = [sums_table(*octet) for octet in fspec_octets()]
+    return tables[0] + [line for table in tables[1:] for line in [""] + table]
+
+
+def sums_arms():
+    return ["        0x%X_%X => sum_in(octet, %s, value)," % (profile, place, sums_name(profile, place))
+            for profile, place, _ in fspec_octets()]
+
+
+def sums_lines():
+    """The proof has the same lines for each arm of the match, and the tool asks for one by one: that the
+    table passes the test, and then that the answer is the callee's."""
+    arms = [1 + arm for arm, _ in enumerate(fspec_octets())]
+    return ["    (λ c κs. exact-at _ (c .match .keys%d) refl)" % arm for arm in arms] + ["    (λ c. search needs)" for _ in arms]

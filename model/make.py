@@ -38,8 +38,8 @@ TABLES_SPECS = "crates/tables/specs/Tables.antt"
 PROFILES = "crates/tables/src/profiles.rt"
 MESSAGES = "crates/sets/src/messages.rt"
 MESSAGES_PROOF = "crates/sets/proofs/messages/row_of/Proof.antt"
-LENGTHS = "crates/lengths/src/lib.rt"
-LENGTHS_SPECS = "crates/lengths/specs/Least.antt"
+SUMS = "crates/lengths/src/sums.rt"
+SUMS_PROOF = "crates/lengths/proofs/sums/sum_at/Proof.antt"
 QUICK_ITEMS = "crates/quick_items/src/lib.rt"
 LENT = "crates/quick_records/src/lent.rt"
 LENT_SPECS = "crates/quick_records/specs/Record.antt"
@@ -64,9 +64,9 @@ REGIONS = [
     Region(PROFILES, "the columns of profiles", code.profiles),
     Region(MESSAGES, "the rows of message types", code.messages),
     Region(MESSAGES_PROOF, "a line to an arm", code.message_arms),
-    Region(LENGTHS, "FIRST", code.firsts),
-    Region(LENGTHS, "LEAST", code.leasts),
-    Region(LENGTHS_SPECS, "leastCount", code.least_count),
+    Region(SUMS, "a table to an octet", code.sums),
+    Region(SUMS, "an arm to a table", code.sums_arms),
+    Region(SUMS_PROOF, "a line to an arm", code.sums_lines),
     Region(QUICK_ITEMS, "steps", quick.steps),
     Region(LENT, "KINDS, ROWS", quick.lent_sizes),
     Region(LENT_SPECS, "kindCount, rowCount", quick.lent_sizes_spec),

@@ -298,6 +298,25 @@ def answer_sheet(octets):
     return "ok %d %d %d" % (edition, offset, len(marks)) + "".join(" %d:%d:%d:%d" % mark[:4] for mark in marks)
 
 
+# ---- lengths
+
+def least_octets(item):
+    """The fewest octets of an item: of a list or a led item its first, of an extended item its first part."""
+    return 1 if item.form in ("list", "led") else item.octets
+
+
+def least_length(number, place, octet):
+    """The sum over the items that the octet at a place of an FSPEC names; 0 where the category has no such octet."""
+    if number not in tables.CATEGORIES:
+        return 0
+    category = tables.CATEGORIES[number]
+    items, usable = tables.items(category), tables.usable(category)
+    named = [7 * place + bit + 1 for bit in range(7) if octet >> (7 - bit) & 1]
+    return sum(least_octets(items[usable[frn]]) for frn in named if frn in usable)
+
+
+# ---- lines
+
 HEX = r"(-|(?:[0-9A-Fa-f]{2})+)"
 NUMBER = r"([0-9]+)"
 CAT = r"(0*(?:[0-9]{1,2}|1[0-9]{2}|2[0-4][0-9]|25[0-5]))"
