@@ -1,5 +1,5 @@
 """Makes from tables.py what the repository has of it: the tables of the code, docs/FIELDS.md,
-docs/MESSAGES.md, the vectors of message types and of edges, and the sample recording.
+docs/MESSAGES.md, the vectors of message types, of edges and of lengths, and the sample recording.
 
     python3 model/make.py [--check]
 
@@ -20,6 +20,7 @@ from collections import namedtuple
 import code_tables as code
 import edges
 import fields
+import lengths
 import messages
 import quick_tables as quick
 import samples
@@ -85,6 +86,8 @@ PAGES = [
     Page("tests/vectors/messages-answers.txt", messages.answers),
     Page("tests/vectors/edges-questions.txt", edges.questions),
     Page("tests/vectors/edges-answers.txt", edges.answers),
+    Page("tests/vectors/lengths-questions.txt", lengths.questions),
+    Page("tests/vectors/lengths-answers.txt", lengths.answers),
     Page("samples/messages.rec", samples.recording),
     Page("crates/asterix_check/stdin", samples.recording),
     Page("crates/asterix_check/stdout", samples.line),

@@ -318,6 +318,7 @@ def least_length(number, place, octet):
 # ---- lines
 
 HEX = r"(-|(?:[0-9A-Fa-f]{2})+)"
+OCTET = r"([0-9A-Fa-f]{2})"
 NUMBER = r"([0-9]+)"
 CAT = r"(0*(?:[0-9]{1,2}|1[0-9]{2}|2[0-4][0-9]|25[0-5]))"
 FIELDS = r"(-|-?[0-9]+(?:,-?[0-9]+)*)"
@@ -334,6 +335,7 @@ FORMS = {
     "add": [HEX, NUMBER, FRNS, HEX],
     "find": [HEX, NUMBER, NUMBER],
     "record": [HEX, NUMBER],
+    "least": [CAT, NUMBER, OCTET],
     "sheetread": [HEX],
     "sheetwrite": [NUMBER, OFFSET, MARKS],
     "sheetadd": [HEX, MARK, NUMBER],
@@ -402,6 +404,8 @@ def answer(line):
             return answer_find(octets_of(words[0]), int(words[1]), int(words[2]))
         if kind == "record":
             return answer_record(octets_of(words[0]), int(words[1]))
+        if kind == "least":
+            return "ok %d" % least_length(int(words[0]), int(words[1]), int(words[2], 16))
         if kind == "sheetread":
             return answer_sheet(octets_of(*words))
         if kind == "sheetwrite":

@@ -483,6 +483,19 @@ static bool ask_record(const struct word *word)
     return true;
 }
 
+static bool ask_least(const struct word *word)
+{
+    uint8_t category;
+    uint64_t place;
+    struct octets octet;
+    if (!take_category(word[0], &category) || !take_number(word[1], UINT64_MAX, &place) ||
+        !take_octets(word[2], &octet) || octet.count != 1)
+        return false;
+    say("ok ");
+    say_number(asterix_least_length(category, place, octet.at[0]));
+    return true;
+}
+
 /* ---- Two logs */
 
 struct logs {
@@ -833,6 +846,7 @@ static const struct question {
     { "add", 4, ask_add },
     { "find", 3, ask_find },
     { "record", 2, ask_record },
+    { "least", 3, ask_least },
     { "merge", 5, ask_merge },
     { "mergerun", 3, ask_mergerun },
     { "sheetread", 1, ask_sheetread },

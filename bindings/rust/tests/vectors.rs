@@ -2,9 +2,9 @@
 //! through the safe functions.
 
 use asterix::{
-    add_mark, add_record, check_block, check_recording, empty_sheet, find_item, find_record, merge_step, read_item,
-    read_sheet, remove_mark, write_item, write_sheet, AddRefused, ItemSet, Mark, Merge, MergeRefused, Refusal, Refused,
-    Sheet, Stepped, FIELDS, FRNS,
+    add_mark, add_record, check_block, check_recording, empty_sheet, find_item, find_record, least_length, merge_step,
+    read_item, read_sheet, remove_mark, write_item, write_sheet, AddRefused, ItemSet, Mark, Merge, MergeRefused,
+    Refusal, Refused, Sheet, Stepped, FIELDS, FRNS,
 };
 use std::{fs, path::Path};
 
@@ -286,6 +286,12 @@ fn answer(question: &str, fields: &mut [i64; FIELDS]) -> Option<String> {
             let map = (1..=FRNS).filter_map(|frn| Some(format!(" {frn}@{}", r.item_start(frn)?)));
             format!("{} {} {}{}", r.start, r.octets.len(), r.count, map.collect::<String>())
         })),
+        ["least", category, at, octet] => {
+            let [octet] = octets(octet)?[..] else {
+                return None;
+            };
+            format!("ok {}", least_length(small(category)?, size(at, u64::MAX)?, octet))
+        }
         ["merge", offset, place_a, place_b, a, b] => {
             let (place_a, place_b) = (size(place_a, u64::MAX)?, size(place_b, u64::MAX)?);
             merge(offset.parse().ok()?, place_a, place_b, &octets(a)?, &octets(b)?).unwrap_or_else(merge_said)
