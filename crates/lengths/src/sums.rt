@@ -8,8 +8,8 @@ type Sums = [u8; 256];
 // An octet is known by one number: the profile, and in its last hexadecimal digit the octet's place. No FSPEC has so many octets.
 pub const PLACES: usize = 16;
 
-// Before each table stands what the octet's bits add: the column "Length in octets" of the User Application Profile (5.3.1; 017: Table 2, 018: Table 9),
-// 1 where that has 1+n or 3+, 0 where no item stands. Beside each sum stand the value and the FRNs that it names.
+// Before each table stands what the octet's bits add: the last column of the User Application Profile (5.3.1; 017: Table 2, "Length in octets"; 018: Table
+// 9, "Length in bytes"), 1 where that is no plain figure (1+3*n, 1+, 3+), 0 where no item stands. Beside each sum stand the value and the FRNs that it names.
 // ---- made by model/make.py: a table to an octet
 // Category 017, octet 1:
 // bit 8  FRN 1   2  I017/010  5.2.2
