@@ -1,4 +1,4 @@
-/* Two checkers of recordings of categories 017 and 018, written by hand in C, to be compared with: nothing is proved of either.
+/* Two checkers of recordings of categories 017, 018 and 061, written by hand in C, to be compared with: nothing is proved of either.
  * They read I017/230 as edition 1.3 has it in its figure (bit 5 is SI, four spare bits). README.md says how they were made. */
 #ifndef BASELINE_H
 #define BASELINE_H
@@ -13,7 +13,7 @@ struct answer {
     uint64_t records; /* the same */
 };
 
-/* Checks blocks end to end, as fast as could be written. Reads p[0..n) and nothing else. */
+/* Checks blocks end to end, those of 017 and 018 as fast as could be written. Reads p[0..n) and nothing else. */
 void check_recording(const uint8_t *p, size_t n, struct answer *out);
 
 /* Checks one block, which is all that is lent; blocks is then 1. */

@@ -45,7 +45,7 @@ static void walk_recording_library(const uint8_t *p, size_t n, struct answer *ou
         blocks += at.block == end; /* the first of its block */
         records++;
         end = at.next.end;
-        types += p[at.block + at.starts[2]];
+        types += p[at.block + at.starts[at.category == 61 ? 1 : 2]];
         cursor = at.next;
     }
     sink += types;
@@ -138,10 +138,10 @@ static size_t time_checkers(const uint8_t *recording, size_t n, size_t rounds)
 
 /* ---- A recording of 4 MB, and what damaged ones are answered */
 
-static void bench_recording(const uint8_t *recording, size_t n, size_t rounds)
+static void bench_recording(const char *of, const uint8_t *recording, size_t n, size_t rounds)
 {
     size_t records = time_checkers(recording, n, rounds);
-    printf("checking a recording: %zu bytes, %zu records, %zu rounds\n", n, records, rounds);
+    printf("checking a recording%s: %zu bytes, %zu records, %zu rounds\n", of, n, records, rounds);
     printf("  %-16s %12s %12s %14s\n", "", "best MB/s", "median MB/s", "ns a record");
     for (size_t i = 0; i < CHECKERS; i++)
         printf("  %-16s %12.0f %12.0f %14.1f\n", checkers[i].name, (double)n * 1000 / checkers[i].best,
@@ -154,14 +154,23 @@ static void bench_recording(const uint8_t *recording, size_t n, size_t rounds)
 #endif
 }
 
+/* A recording of at most 4,000 bytes, of 017 and 018; or of 061, mostly with some of those before it. */
+static size_t draw_short(struct chance *c, bool of_061, uint8_t *to)
+{
+    if (!of_061)
+        return make_recording(c, 0, to, between(c, 100, 4000));
+    size_t n = one_in(c, 4) ? 0 : make_recording(c, 0, to, below(c, 400));
+    return n + make_recording(c, 61, to + n, 4000 - n);
+}
+
 /* Of a refused recording the work ends at the fault. The answers are compared over many damaged recordings:
  * nothing is timed. */
-static void compare_damaged(struct chance *c)
+static void compare_damaged(struct chance *c, bool of_061)
 {
     static uint8_t bytes[4000 + 8];
     size_t refused = 0, tries = 20000;
     for (size_t i = 0; i < tries; i++) {
-        size_t n = make_recording(c, bytes, between(c, 100, 4000));
+        size_t n = draw_short(c, of_061, bytes);
         struct answer first, other;
         for (size_t k = below(c, 3); k > 0; k--)
             damage(c, bytes, &n);
@@ -174,29 +183,46 @@ static void compare_damaged(struct chance *c)
             same(&first, &other, checkers[k].name);
         }
     }
-    printf("%zu recordings, %zu of them refused: answered alike by all\n", tries, refused);
+    printf("%zu recordings%s, %zu of them refused: answered alike by all\n", tries, of_061 ? " with 061" : "",
+           refused);
 }
 
 /* ---- How the cost grows */
 
-static void bench_growth(const uint8_t *recording, const size_t *ends, size_t rounds)
+/* From 1 to 64 MB, each size some times the one before. */
+static void bench_growth(const char *of, const uint8_t *recording, const size_t *ends, size_t times, size_t rounds)
 {
-    printf("growth: MB/s of the best of %zu rounds, by the recording's size\n  %-16s", rounds, "");
-    for (size_t size = 1; size <= 64; size *= 2)
+    size_t sizes = 0;
+    printf("growth%s: MB/s of the best of %zu rounds, by the recording's size\n  %-16s", of, rounds, "");
+    for (size_t size = 1; size <= 64; size *= times, sizes++)
         printf("%5zu MB", size);
     printf("\n");
     double speed[CHECKERS][7];
-    for (size_t k = 0; k < 7; k++) {
+    for (size_t k = 0; k < sizes; k++) {
         time_checkers(recording, ends[k], rounds);
         for (size_t i = 0; i < CHECKERS; i++)
             speed[i][k] = (double)ends[k] * 1000 / checkers[i].best;
     }
     for (size_t i = 0; i < CHECKERS; i++) {
         printf("  %-16s", checkers[i].name);
-        for (size_t k = 0; k < 7; k++)
+        for (size_t k = 0; k < sizes; k++)
             printf("%8.0f", speed[i][k]);
         printf("\n");
     }
+}
+
+/* A recording of 061 alone: all its message types, with their items, compound ones among them. */
+static void bench_061(uint8_t *recording, size_t rounds)
+{
+    struct chance c = { SEED }; /* its own, so that the other inputs stay as they are */
+    size_t size = 0, ends[4];
+    compare_damaged(&c, true);
+    for (size_t k = 0; k < 4; k++) {
+        size += make_recording(&c, 61, recording + size, ((size_t)MB << 2 * k) - size);
+        ends[k] = size;
+    }
+    bench_recording(" of 061", recording, ends[1], rounds);
+    bench_growth(" of 061", recording, ends, 4, rounds < 9 ? rounds : 9);
 }
 
 #ifdef LIBRARY
@@ -490,17 +516,18 @@ int main(int argc, char **argv)
     size_t room = 64 * (size_t)MB, size = 0, ends[7];
     uint8_t *recording = need(malloc(room));
     for (size_t k = 0; k < 7; k++) {
-        size += make_recording(&c, recording + size, ((size_t)MB << k) - size);
+        size += make_recording(&c, 0, recording + size, ((size_t)MB << k) - size);
         ends[k] = size;
     }
-    bench_recording(recording, ends[2], rounds);
-    compare_damaged(&c);
-    bench_growth(recording, ends, rounds < 9 ? rounds : 9);
+    bench_recording("", recording, ends[2], rounds);
+    compare_damaged(&c, false);
+    bench_growth("", recording, ends, 2, rounds < 9 ? rounds : 9);
 #ifdef LIBRARY
     bench_full_blocks(rounds < 9 ? rounds : 9);
     bench_merging(recording, ends[5], ends[6], rounds < 9 ? rounds : 9);
     bench_calls(&c);
 #endif
+    bench_061(recording, rounds);
     free(recording);
     return 0;
 }

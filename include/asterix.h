@@ -1,8 +1,9 @@
-/* ASTERIX categories 017 and 018: checking, finding, merging two logs, reading and writing; exercise sheets.
+/* ASTERIX categories 017, 018 and 061: checking, finding, merging two logs, reading and writing; exercise sheets.
  *
  * Category 017, Mode S Surveillance Coordination Function Messages, edition 1.3; category 018, Mode S Datalink
- * Function Messages, edition 1.6. Every item and message type of both. The functions are those of the crate
- * `asterix`, proved to answer as its contracts say for any bytes; this file says the same in words.
+ * Function Messages, edition 1.6; category 061, SDPS Session and Service Control Messages, edition 1.2. Every item
+ * and message type of the three. The functions are those of the crate `asterix`, proved to answer as its contracts
+ * say for any bytes; this file says the same in words.
  *
  *     rt staticlib asterix                                     writes target/staticlib/libasterix.a
  *     cc -Iinclude program.c target/staticlib/libasterix.a     x86-64 Linux; C99, C11 or C++
@@ -44,16 +45,20 @@ extern "C" {
  *
  *   No.  Given when                                                                    Place
  *    1   fewer than 3 bytes where a block should start                                 block
- *    2   CAT is neither 17 nor 18                                                      block
+ *    2   CAT is not 17, 18 or 61                                                       block
  *    3   LEN is under 3, or is not the length lent (in a recording: is more than left)  block
  *    4   LEN is 3: the block has no record                                             block
  *    5   the FSPEC is cut by the block's end                                           record
- *    6   FX is set in the last FSPEC octet that there may be (017: third, 018: fifth)  record
+ *    6   FX is set in the last FSPEC octet that there may be (017: third, 018: fifth,
+ *        061: fourth)                                                                  record
+ *        or in an item's last printed part, or last printed primary octet              item
  *    7   the last FSPEC octet has no presence bit                                      record
+ *        or a compound item's last primary octet has none                              item
  *    8   a presence bit for an FRN that has no item                                    record
- *    9   an item is cut by the end, its count or length octet included                 item
+ *        or in a primary octet, where no subfield is printed                           item
+ *    9   an item is cut by the end, its count, length and primary octets included      item
  *   10   a length octet under the least that its item allows                           item
- *   11   a field outside its range, a spare bit set, an empty list that may not be     item
+ *   11   a field outside its range, a spare bit set, a list of too few or many parts   item
  *   12   the record has no message type item                                           record
  *   13   its message type is not one of the document's                                 record
  *   14   an item is absent that this message type must have                            record
@@ -81,8 +86,9 @@ extern "C" {
  *
  * Blocks are taken in order, the records of a block in order, and the first fault ends the work. At a block's
  * start 1, 2, 3, 4 are tried in that order; in a record 5 and 6 octet by octet, then 7, then 8, then each item
- * in FRN order (9, 10, 9 for its body, 11), then 12, 13, 14, 15. What else a call tries, and when, is said at
- * the call. */
+ * in FRN order, then 12, 13, 14, 15. In an item 9, 10, 9 for its body, 11; in one that FX extends 9 part by part,
+ * then 6, then 11 over all parts; in a compound one 9 and 6 primary octet by primary octet, then 7, then 8, then
+ * each subfield in order, all of it before the next. What else a call tries, and when, is said at the call. */
 enum asterix_refusal {
     ASTERIX_HEAD_CUT = 1,
     ASTERIX_CATEGORY = 2,
@@ -122,13 +128,13 @@ static inline const char *asterix_refusal_text(unsigned number)
     static const char *const text[] = {
         "",
         "fewer than three bytes where a block should start",
-        "CAT is neither 17 nor 18",
+        "CAT is not 17, 18 or 61",
         "LEN is not the block's length",
         "the block has no record",
         "the FSPEC is cut",
-        "FX is set in the last FSPEC octet allowed",
-        "the last FSPEC octet has no presence bit",
-        "a presence bit for an FRN without an item",
+        "FX is set in the last octet or part allowed",
+        "the last FSPEC or primary octet has no presence bit",
+        "a presence bit for no item or subfield",
         "an item is cut",
         "a length octet is too small",
         "a field or spare bit is outside its rule",
@@ -264,18 +270,18 @@ struct asterix_record_met {
  * Any cursor may be given, also one of another recording. One that is not inside a block of this recording by its own
  * numbers (block <= place <= end <= recording_len, with end - block at most 65,535), or is at the recording's end,
  * gets the end. Any other is taken at its word: the octets from `place` to `end` are read as records of `category`,
- * 2 at `place` where it is neither 17 nor 18, and where `place` is `end` a block is read from there, whatever the
+ * 2 at `place` where it is not 17, 18 or 61, and where `place` is `end` a block is read from there, whatever the
  * category. So three times the same place stands before the block that starts there. */
 struct asterix_record_met asterix_next_record(const uint8_t *recording, size_t recording_len,
                                               struct asterix_cursor cursor);
 
 /* ---- Merging two logs
  *
- * The records of two logs, A and B, in one order by their times, I017/140 and I018/002, with an offset that is added
- * to B's times for the difference of the clocks. Each log keeps its own order. Of the two records that come next, A's
- * goes first where B's time plus the offset, less A's time, modulo 11,059,200 (a day), is at most 5,529,600 (half a
- * day), and else B's. A record without a time goes out at once, A's before B's; a GICB_extraction counts as one, for
- * its I018/002 is the end of a request. A log at its end yields to the other.
+ * The records of two logs, A and B, in one order by their times, I017/140, I018/002 and I061/020, with an offset that
+ * is added to B's times for the difference of the clocks. Each log keeps its own order. Of the two records that come
+ * next, A's goes first where B's time plus the offset, less A's time, modulo 11,059,200 (a day), is at most 5,529,600
+ * (half a day), and else B's. A record without a time goes out at once, A's before B's; a GICB_extraction counts as
+ * one, for its I018/002 is the end of a request. A log at its end yields to the other.
  *
  * There are two ways. asterix_merge_step is one step from a place in each log; nothing is kept, so every call checks
  * both whole logs. To go through two logs, begin a merge, which checks both once, and ask for the records, many at a
@@ -367,9 +373,10 @@ struct asterix_merge_next asterix_next_merged_words(const uint8_t *a, size_t a_l
  * Any merge may be given with any logs, also one that was damaged or is of other logs. A head is taken at its word
  * where it lies in its log by its own numbers (block <= place <= end <= the log's length; a length that is not 0, and
  * at most end - place); a log with any other head counts as at its end, and that head stays as it is. `timed` is no
- * where it is 0, and comes back as 0 or 1; times and `turn` count modulo a day. Behind a record the log goes on by the lengths of the items
- * that its octets name, to the head's `end` and through the blocks from there on, and is at its end where they name
- * no record of category 17 or 18 that its block holds. So what comes out lies in its log, and every call ends. */
+ * where it is 0, and comes back as 0 or 1; times and `turn` count modulo a day. Behind a record the log goes on by the
+ * lengths of the items that its octets name, to the head's `end` and through the blocks from there on, and is at its
+ * end where they name no record of category 17, 18 or 61 that its block holds. So what comes out lies in its log, and
+ * every call ends. */
 static inline struct asterix_merge_next asterix_next_merged(const uint8_t *a, size_t a_len, const uint8_t *b,
                                                             size_t b_len, struct asterix_merge merge,
                                                             struct asterix_merged *out, size_t room)
@@ -383,24 +390,37 @@ static inline struct asterix_merge_next asterix_next_merged(const uint8_t *a, si
 
 /* ---- One item
  *
- * An item's fields are whole numbers, from its highest bit down, in the order of the table at this file's end.
- * Signed fields come with their sign. Spare bits, FX bits, a list's count and a led item's length octet are not
- * among them: a list has its parts' fields, one part after another, a led item its content octets, an extended
- * item the fields of its first octet and, where the extent is present, those of the extent. So how many fields
- * there are says how many parts there are. */
+ * An item's fields are whole numbers, from its highest bit down, in the order of the tables at this file's end.
+ * Signed fields come with their sign. Spare bits, FX bits, primary octets and a led item's length octet are not
+ * among them.
+ *
+ *   fixed     its fields
+ *   list      its parts' fields, one part after another, without the count: how many there are says how many parts
+ *   led       its content octets
+ *   extended  for each printed part, in order, its fields, or one ASTERIX_ABSENT where the part is absent. The first
+ *             part never is, and behind an absent one all are. FX past the printed parts is 6
+ *   compound  for each printed subfield, in order, its fields, those of a list behind their count, or one
+ *             ASTERIX_ABSENT where the subfield is absent. The primary octets say which are there, at least one
+ *
+ * So I018/008 without its extent is UDS, DDS, UCS, DCS, EI, ASTERIX_ABSENT, which differs from an extent of zeros;
+ * and I061/380 with a refresh period of 60 s alone is 60 and eight times ASTERIX_ABSENT. */
 
-/* How many numbers are lent for an item's fields. No item of these categories has more than 510. */
+/* What an absent extent or subfield has in place of its fields: once, where it would begin. Anywhere else it is a
+ * value like any other, outside every range. */
+#define ASTERIX_ABSENT INT64_MIN
+
+/* How many numbers are lent for an item's fields. I061/130 has the most, 7,421. */
 enum { ASTERIX_FIELDS = 8192 };
 
 struct asterix_item_read {
     uint8_t number;
     size_t place; /* from the item's first octet */
-    size_t count; /* how many fields the item has */
+    size_t count; /* how many numbers the item has, each ASTERIX_ABSENT among them */
 };
 
-/* Reads the fields of one item that is all of `item`. Refuses by 21 (also where the category is neither 17 nor
- * 18), 9, 10, 9 for the body, 11, then 18. On success the first `count` of `fields` are the item's; the others
- * stay as they were. Any message type is read. */
+/* Reads the fields of one item that is all of `item`. Refuses by 21 (also where the category is not 17, 18 or 61),
+ * by 6 to 11 as in a record, then by 18. On success the first `count` of `fields` are the item's; the others stay
+ * as they were. Any message type is read. */
 struct asterix_item_read asterix_read_item(uint8_t category, uint16_t reference, const uint8_t *item,
                                            size_t item_len, int64_t fields[ASTERIX_FIELDS]);
 
@@ -410,9 +430,10 @@ struct asterix_item_written {
     size_t length; /* how many octets the item has */
 };
 
-/* Writes one item from its fields, at the start of `out`. Refuses by 21, then 11 (a value outside its range, or
- * a number of fields that no legal item has), then 16. On success the first `length` of `out` are the item; the
- * others stay as they were. Any message type is written. */
+/* Writes one item from its fields, at the start of `out`. Refuses by 21, then 11 (a value outside its range; too few
+ * or too many numbers, or a count that those behind it do not bear out; an extent behind an absent one; a compound
+ * item without a subfield), then 16. On success the first `length` of `out` are the item; the others stay as they
+ * were. Any message type is written. */
 struct asterix_item_written asterix_write_item(uint8_t category, uint16_t reference, const int64_t *fields,
                                                size_t fields_len, uint8_t *out, size_t out_len);
 
@@ -433,8 +454,8 @@ struct asterix_record_added {
  *
  * Refusals in the old block (`in_new` 0): 16 at 0 where `used` is more than `out_len`; then the octets in use
  * are checked as a single block, but a LEN of 3 is allowed. In the new record (`in_new` 1): 7 for an empty set,
- * 8 for an FRN without an item, 9 to 11 of the items, 18, 12 to 15, then 17, then 16; their places count from
- * the start of `items`, and are 0 but for 9, 10, 11 and 18.
+ * 8 for an FRN without an item, 6 to 11 of the items, 18, 12 to 15, then 17, then 16; their places count from
+ * the start of `items`, and are 0 but for those of an item and 18.
  *
  * On success the record, FSPEC first, follows the old ones, LEN is the new length, and no other octet of `out`
  * changes. */
@@ -449,9 +470,10 @@ static inline uint64_t asterix_frn(unsigned frn)
 
 /* ---- Lengths */
 
-/* The sum of the least lengths of the items that one FSPEC octet names: a fixed item its length, a list, a led
- * or an extended item 1. `place` is the octet's, the first is 0; its FX bit and the bits of FRNs without an item
- * add nothing. 0 where the category has no such octet, or is neither 17 nor 18. */
+/* The sum of the least lengths of the items that one FSPEC octet names: a fixed item its length, an extended one
+ * that of its first part (I061/230: 3, any other: 1), a list, a led or a compound one 1. `place` is the octet's, the
+ * first is 0; its FX bit and the bits of FRNs without an item add nothing. 0 where the category has no such octet, or
+ * is not 17, 18 or 61. */
 size_t asterix_least_length(uint8_t category, size_t place, uint8_t octet);
 
 /* ---- Exercise sheets
@@ -564,7 +586,8 @@ struct asterix_sheet_written asterix_empty_sheet(const uint8_t *sheet, size_t sh
 
 /* ---- The items and their fields
  *
- * Ranges that the bits alone don't give are in brackets. "each": of each part of a list.
+ * Ranges that the bits alone don't give are in brackets. "each": of each part of a list. "extent": a part that may be
+ * absent.
  *
  * Category 017. FSPEC of at most 3 octets; FRN 16 to 21 have no item.
  *
@@ -623,6 +646,49 @@ struct asterix_sheet_written asterix_empty_sheet(const uint8_t *sheet, size_t sh
  *    33  035   2           heading, 360/2^16 degree
  *    34  012   1           FS, CQF (0 not supported, 127 undefined)
  *    35  013   1           CQF calculation method
+ *
+ * Category 061. FSPEC of at most 4 octets; FRN 23 to 28 have no item.
+ *
+ *   FRN  Item  Octets      Fields
+ *     1  010   2           SAC, SIC of the SDPS
+ *     2  000   1           message type, FAM, NAT: 1, 1 to 6; 2, 1 to 8; 2, 15
+ *     3  012   1           user identification
+ *     4  015   1           service identification
+ *     5  020   3           time of message, 1/128 s [0 to 11,059,199]
+ *     6  030   1           batch number
+ *     7  045   1           application version number
+ *     8  050   1           DGA
+ *     9  060   1 + 8 each  latitude [-16,777,216 to 16,777,216], longitude [-33,554,432 to 33,554,432] each; signed,
+ *                          180/2^25 degree [at least three parts]
+ *    10  070   2           lower limit; signed, 1/4 FL [-60 to 6,000]
+ *    11  080   2           upper limit; signed, 1/4 FL [-60 to 6,000]
+ *    12  100   1 + 1 each  CODE each [at least one part]
+ *    13  130   compound    track selector: nine subfields, below
+ *    14  210   1 to 4      N1 to N7; extents: N8 to N14, N15 to N21, N22 to N28
+ *    15  220   5           SD, scanning period, batch period, update period, extra delay, MAXFLOW
+ *    16  230   3 or 6      MSAC, MSIC, NOP; extent: BSAC, BSIC
+ *    17  240   compound    triggering criteria for aperiodical services: eleven subfields, below
+ *    18  330   1 + 2 each  CODE (16 bits) each [may be empty]
+ *    19  350   1 + 2 each  SAC, SIC each [at most 30 parts, may be empty]
+ *    20  360   1 to 3      N1 to N7; extents: N8 to N14, N15 to N21
+ *    21  370   2           update period, s
+ *    22  380   compound    aperiodical characteristics of sensor information service: nine subfields, below
+ *
+ * The subfields of its compound items, named as the bits of the primary octets are. Their lists may be empty.
+ *
+ *   130  TNS               list: track number (15 bits) each
+ *        AAS               list: aircraft address each
+ *        AIS               list: eight characters of 6 bits each
+ *        CFS               list: W1, W2, W3, W4, Mode 3/A code (12 bits) each
+ *        DPS, DTS, ATS     each a list: four characters of 8 bits each
+ *        CCS               list: CENTRE, POSITION each
+ *        TCS               SIM, CSR, PSR, SSR, MDS, ADS, VALT, FPC, CNF, SPI, GAT/OAT, IFR, VFR, CFR, RVSM, FRI/FOE,
+ *                          ME, MI
+ *   240  DPF               TLF, TNB, PLN, M3A, COR, SPE, MOF. Subfield 2 is spare and has no place
+ *        RCT, PT, RTT, TAT, GST, LAT, AT, FK, RP, MNP      one number of 8 bits each
+ *   380  RP                refresh period, s [4 to 3,600]
+ *        DP                SSC
+ *        TSB, SRB, SGB, SAB, PRB, PGB, PAB                 one threshold of 16 bits each
  */
 
 #ifdef __cplusplus

@@ -7,7 +7,7 @@ import rows
 from rows import FRNS, PROFILES
 from tables import SIGNED, SPARE
 
-KINDS = {"fixed": 1, "list": 2, "led": 3, "extended": 4}  # how parts lie, in `LAYOUTS`
+KINDS = {"fixed": 1, "list": 2, "led": 3, "extended": 4, "compound": 5}  # how parts lie, in `LAYOUTS`
 
 
 def aligned(table, indent=4):
@@ -69,18 +69,49 @@ def groups():
 
 
 def layouts():
-    out, first = [("0", "no item")], 0
-    for place in rows.with_item():
+    """The place in each row is that of a group. A compound item has no parts of its own, and its place is that of a primary octet."""
+    out, group, primary = [("0", "no item")], 0, 0
+    for place in rows.layouts():
         item = place.item
-        word = "%d_%d_%03d_%03d_%d" % (KINDS[item.form], item.least, item.greatest, first, len(item.parts))
-        out.append((word, rows.titled(place)))
-        first += len(item.parts)
+        if item.form == "compound":
+            columns = (0, 0, primary, len(item.primaries))
+        else:
+            columns = (item.least, item.greatest, group, len(item.parts))
+        out.append(("%d_%d_%03d_%03d_%d" % (KINDS[item.form], *columns), rows.titled(place)))
+        group, primary = group + len(item.parts), primary + len(item.primaries)
     return constant("LAYOUTS", "u32", out)
 
 
+def layout_places():
+    """Where the layout of an item stands, by its profile, its FRN and, for a subfield, its number."""
+    return {(place.profile, place.frn, place.item.number): n for n, place in enumerate(rows.layouts(), 1)}
+
+
 def places():
-    at = {(place.profile, place.frn): n for n, place in enumerate(rows.with_item(), 1)}
-    return constant("PLACES", "u8", [(str(at.get((p.profile, p.frn), 0)), rows.at_frn(p)) for p in rows.places()])
+    at = layout_places()
+    return constant("PLACES", "u8", [(str(at.get((p.profile, p.frn, 0), 0)), rows.at_frn(p)) for p in rows.places()])
+
+
+def primary_octets():
+    """Each primary octet of each compound item: its place in the profile, its number, what stands at its bits."""
+    return [(place, n, row) for place in rows.with_item() for n, row in enumerate(place.item.primaries, 1)]
+
+
+def primaries():
+    out = []
+    for place, n, row in primary_octets():
+        bits = sum(128 >> bit for bit, some in enumerate(row) if some)
+        out.append(("0x%02X" % bits, "%s  octet %d: %s" % (rows.cited(place), n, ", ".join("#%d" % some.number for some in row if some))))
+    return constant("PRIMARIES", "u8", out)
+
+
+def subfields():
+    at, out = layout_places(), []
+    for place, n, row in primary_octets():
+        for bit, some in enumerate(row):
+            says = rows.numbered(some) + some.title if some else "none"
+            out.append((str(at[place.profile, place.frn, some.number] if some else 0), "%s  octet %d, bit %d  %s" % (rows.cited(place), n, 8 - bit, says)))
+    return constant("SUBFIELDS", "u8", out)
 
 
 def references():

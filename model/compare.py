@@ -2,12 +2,13 @@
 
     python3 model/compare.py [QUESTIONS ANSWERS]..
 
-From Category017.antt and Category018.antt it takes every layout, every row of the profile, every
-message type, the item that is a record's time and the types without one, and the section, title, FRN
-and name of a field in the comment beside each (so that two fields of one width, exchanged, show); from
-Catalogue.antt the list of categories. Then reading.py (of sheets by sheets.py) answers every question of
-tests/vectors, and of the pairs of files named, but those about two logs, and its answers are held to those
-written there. Each difference is a line; with one or more the exit status is 1.
+From each CategoryNNN.antt it takes every layout, every row of the profile, every message type, the item
+that is a record's time and the types without one, and the section, title, FRN and number of a subfield in the
+comment beside each; the names of fields too (so that two of one width, exchanged, show), which stand beside each
+or, in Category061.antt, in the comment on their item or subfield. From Catalogue.antt it takes the list of
+categories. Then reading.py (of sheets by sheets.py) answers every question of tests/vectors, and of the pairs of
+files named, but those about two logs, and its answers are held to those written there. Each difference is a
+line; with one or more the exit status is 1.
 """
 
 import pathlib
@@ -90,24 +91,47 @@ def field(term):
     raise ValueError(term)
 
 
-def layout(term):
-    """A layout of the specs as (form, octets, least, greatest, fields of each part)."""
+def fixed(octets, fields):
+    return "fixed", octets, 1, 1, [[field(f) for f in fields]]
+
+
+def listed(least, greatest, octets, fields):
+    return "list", octets, least, greatest, [[field(f) for f in fields]]
+
+
+def subfield(term):
+    """A subfield of the specs, or None for a bit without one."""
+    if term == "none":
+        return None
     form, *rest = term
+    return {"sub": fixed, "subList": lambda *parts: listed(0, 255, *parts)}[form](*rest)
+
+
+def layout(term, groups):
+    """A layout of the specs as (form, octets, least, greatest, fields of each part), a compound one as (form, subfields by primary
+    octet); the groups that have a name are given."""
+    form, *rest = term
+    if form == "plain":
+        return layout(rest[0], groups)
     if form == "item":
-        return "fixed", rest[0], 1, 1, [[field(f) for f in rest[1]]]
+        return fixed(*rest)
     if form == "list":
-        return "list", rest[2], rest[0], rest[1], [[field(f) for f in rest[3]]]
+        return listed(*rest)
     if form == "led":
         return "led", 1, rest[0], 254, [[field(("any", 8))]]
     if form == "extended":
-        groups = rest[0]
-        sizes = {size for _, size, _ in groups}
-        return "extended", *sizes, 1, len(groups), [[field(f) for f in fields] for _, _, fields in groups]
+        parts = [groups.get(part, part) if isinstance(part, str) else part for part in rest[0]]
+        sizes = {size for _, size, _ in parts}
+        return "extended", *sizes, 1, len(parts), [[field(f) for f in fields] for _, _, fields in parts]
+    if form == "compound":
+        return "compound", [[subfield(place) for place in row] for row in rest[0]]
     raise ValueError(term)
 
 
 def ours(item):
     """An item of tables.py in the same form; an FX bit closes each part of an extended item."""
+    if item.form == "compound":
+        return "compound", [[some and ours(some) for some in row] for row in item.primaries]
     parts = []
     for part in item.parts:
         if item.form == "extended":
@@ -118,12 +142,50 @@ def ours(item):
     return item.form, item.octets, item.least, item.greatest, parts
 
 
+def pieces(there, here):
+    """Two layouts as what is compared of them: of two compound ones what stands at each bit, where they have as many."""
+    if there[0] == here[0] == "compound" and list(map(len, there[1])) == list(map(len, here[1])):
+        for octet, rows in enumerate(zip(there[1], here[1]), 1):
+            for n, both in enumerate(zip(*rows)):
+                yield ", primary octet %d, bit %d" % (octet, 8 - n), *both
+    else:
+        yield "", there, here
+
+
 def named(item):
     """What stands beside each field of an item that has more than one: its name, of spare bits which they are."""
     fields = [f for part in item.parts for f in part if f.kind != FX]
     if len(fields) == 1:
         return []
     return [("bit %s" if f.width == 1 else "bits %s") % f.bits if f.kind == SPARE else f.name for f in fields]
+
+
+def unsaid(item, comment):
+    """The fields of an item or subfield that a comment doesn't name in order; `W1 to W4` names four, and characters go by their number alone."""
+    def run(found):
+        return ", ".join(found.group(1) + str(n) for n in range(int(found.group(2)), int(found.group(3)) + 1))
+
+    said, at, missing = re.sub(r"\b([A-Z]+)(\d+) to \1(\d+)", run, comment.partition(":")[2] or comment), 0, []
+    fields = [f for part in item.parts for f in part if f.kind not in (SPARE, FX) and not f.name.startswith("character")]
+    for f in fields if len(fields) > 1 else []:
+        found = re.compile(r"(?<!\w)%s(?!\w)" % re.escape(f.called)).search(said, at)
+        missing += [] if found else [f.called]
+        at = found.end() if found else at
+    return missing
+
+
+def compare_subfields(name, item, term):
+    """The comments on the subfields of a compound item: the number of each, its title, unless its fields are named instead, and their names."""
+    comments = re.findall(r"-- #(\d+) +(.*)", term)
+    printed = {some.number: some for some in tables.subfields(item)}
+    same(name + ", the numbers of its subfields", [int(number) for number, said in comments if said != "spare"], list(printed))
+    for number, said in comments:
+        some = printed.get(int(number))
+        if some:
+            title = some.title.lower().removesuffix(" selector")
+            named = said.lower().startswith(title) or said.startswith(some.parts[0][0].called)
+            same("%s #%s, its title" % (name, number), said if not named else title, title)
+            same("%s #%s, fields that the comment doesn't name in order" % (name, number), [], unsaid(some, said))
 
 
 # ---- one category
@@ -136,16 +198,22 @@ def compare(category):
     prefix = "I%03d/" % category.number
 
     known = tables.items(category)
+    groups = {defined: parsed(term) for defined, term in re.findall(r"^abbrev \w+ : Group\n(\w+) =(.*?)(?=^\S|\Z)", bare(text), re.M | re.S)}
     layouts = {}
     for reference, term in re.findall(r"^i(\d{3}) =(.*?)(?=^\S|\Z)", bare(text), re.M | re.S):
-        layouts[reference] = layout(parsed(term))
+        layouts[reference] = layout(parsed(term), groups)
     same("%s, the items" % name, sorted(layouts), sorted(known))
     for reference in sorted(set(layouts) & set(known)):
-        same(prefix + reference, layouts[reference], ours(known[reference]))
+        for where, there, here in pieces(layouts[reference], ours(known[reference])):
+            same(prefix + reference + where, there, here)
 
+    beside = {}
     for reference, term in re.findall(r"^i(\d{3}) =(.*?)(?=^\S|\Z)", re.sub(r"(?m)^--.*", "", text), re.M | re.S):
-        if reference in known:
-            same("%s%s, the names of its fields" % (prefix, reference), re.findall(r"(?:any|within|twos|spare)[ 0-9_]+?  -- (.*)", term), named(known[reference]))
+        beside[reference] = re.findall(r"(?:any|within|twos|spare)[ 0-9_]+?  -- (.*)", term)
+        if reference in known and known[reference].form == "compound":
+            compare_subfields(prefix + reference, known[reference], term)
+        elif reference in known and beside[reference]:
+            same("%s%s, the names of its fields" % (prefix, reference), beside[reference], named(known[reference]))
 
     comments = re.findall(r"^-- (5\.2\.\d+) +I(\d{3})/(\d{3}), (.*)\n(?:--.*\n)*abbrev pub i(\d{3}) : Layout$", text, re.M)
     same("%s, the comments on items" % name, len(comments), len(known))
@@ -155,6 +223,8 @@ def compare(category):
         if item:
             plain = re.split(r"[:(.]|, in ", title)[0].strip()
             same(prefix + reference + ", section and title", (section, plain), (item.section, item.title.split(" (")[0]))
+            if item.form != "compound" and not beside.get(reference):
+                same(prefix + reference + ", fields that the comment doesn't name in order", [], unsaid(item, title))
 
     body = text[text.index("= record {"):]
     profile = re.search(r"profile =(.*?);", bare(body), re.S).group(1)
@@ -169,7 +239,7 @@ def compare(category):
                 there.append("%03d" % place[1])
     same("%s, the FSPEC octets" % name, len(there) // 7, category.octets)
     same("%s, the profile" % name, there, [place.reference for place in category.profile])
-    frns = re.findall(r"(?:at (\d{3}) i\d{3}|none)  -- FRN (\d+) +(?:I(\d{3})/(\d{3})|\S)", body)
+    frns = re.findall(r"(?:at (\d{3}) i\d{3}|none)  -- FRN (\d+)(?: +I(\d{3})/(\d{3})| +\S|$)", body, re.M)
     same("%s, the FRNs in comments" % name, [int(row[1]) for row in frns], [place.frn for place in category.profile])
     for reference, frn, number, said in frns:
         if reference:
@@ -188,7 +258,8 @@ def compare(category):
     time = re.search(r"\btime = (\d+);", body).group(1)
     same("%s, the item that is a record's time" % name, time if time in known else None, category.time)
     same("%s, the untimed message types" % name, parsed(re.search(r"\buntimed = (.*);", bare(body)).group(1)), category.untimed)
-    fields = sum(len([f for f in part if f.kind != FX]) for item in category.items for part in item.parts)
+    formats = [some for item in category.items for some in tables.formats(item)]
+    fields = sum(f.kind != FX for some in formats for part in some.parts for f in part)
     print("%s: %d items with %d fields and spare groups, %d FRNs, %d message types compared" % (
         name, len(known), fields, len(category.profile), len(category.messages)))
 

@@ -55,6 +55,8 @@ REGIONS = [
     Region(TABLES, "LAYOUTS", code.layouts),
     Region(TABLES, "PLACES", code.places),
     Region(TABLES, "REFERENCES", code.references),
+    Region(TABLES, "PRIMARIES", code.primaries),
+    Region(TABLES, "SUBFIELDS", code.subfields),
     Region(FIELD_RULES, "RULES", code.field_rules),
     Region(FIELD_RULES, "ADDED", code.added),
     Region(FIELD_RULES, "LIMITS", code.limits),

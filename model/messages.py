@@ -11,6 +11,7 @@ import textwrap
 
 import reading
 import tables
+from reading import ABSENT
 from tables import FX, SPARE
 
 # ---- the fields of items that some type must send; an item that is not here has those of `middle`
@@ -43,12 +44,20 @@ VALUES = {
         "002": [5797952],  # 12:34:56.5
         "006": [0x4B1815],
         "007": [1, 0, 1, 0],
-        "008": [1, 0, 0, 0, 1],
-        "009": [1, 0, 1, 0, 0, 1, 0],
+        "008": [1, 0, 0, 0, 1, ABSENT],
+        "009": [1, 0, 1, 0, 0, 1, 0, ABSENT],
         "020": [50002],
         "022": [0x1234567],
         "023": [0x58C382D690C8AC],
         "004": [5, 6],
+    },
+    61: {
+        "010": [25, 12],
+        "012": [9],
+        "015": [5],
+        "020": [3686400],  # 08:00:00
+        "045": [3],
+        "330": [258],
     },
 }
 
@@ -97,6 +106,7 @@ def said(item, values):
     if item.form == "led":
         return "length %d, contents %s" % (1 + len(values), " ".join("%02X" % value for value in values))
     text = ", ".join("%s %s" % (field.name, shown(field, value)) for field, value in zip(told, values))
+    text += ", no extent" * (values[-1] == ABSENT)
     return "REP 1: " + text if item.form == "list" else text
 
 
@@ -115,9 +125,9 @@ def spaced(octets):
 
 
 def middle(item):
-    """The number in the middle of each field's range, of one part or of as few contents as may be."""
+    """The number in the middle of each field's range, of one part or of as few as may be; extents are absent."""
     values = [(field.least + field.greatest) // 2 for field in item.parts[0] if field.kind not in (SPARE, FX)]
-    return values * (item.least if item.form == "led" else 1)
+    return values * max(1, item.least) + [ABSENT] * (len(item.parts) - 1)
 
 
 def expected(reference, left):
@@ -128,7 +138,7 @@ def expected(reference, left):
 def cases(category, row):
     """(reference left out or None, octets, parts, answer) for a message type."""
     compulsory = row.compulsory.split()
-    chosen = {"000": [row.number], **VALUES.get(category.number, {})}
+    chosen = {"000": reading.type_fields(category, row.number), **VALUES.get(category.number, {})}
     values = {reference: chosen.get(reference) or middle(tables.items(category)[reference]) for reference in compulsory}
     for missing in [None] + compulsory:
         kept = {reference: fields for reference, fields in values.items() if reference != missing}
@@ -150,8 +160,9 @@ def number(category, kind):
 def summary(category):
     yield "## Category %03d" % category.number
     yield ""
-    yield "Sections 5.2.1 (numbers%s) and 5.3.2 (items). Items are named by the number after the slash." % (
-        ", hexadecimal" if category.base == 16 else ", decimal")
+    digits = len(tables.items(category)["000"].parts[0]) > 1
+    yield "Sections 5.2.1 (numbers, %s%s) and %s (items). Items are named by the number after the slash." % (
+        "hexadecimal" if category.base == 16 else "decimal", ": a digit of family, one of nature" * digits, category.sections[1])
     yield ""
     yield "| Type | Name | Compulsory | Optional |"
     yield "|--|--|--|--|"
@@ -179,13 +190,16 @@ def detail(category, row):
 
 
 def listed(category):
+    """The cells, those of one item in a row where they have the same ground."""
+    types = {}
+    for cell in category.cells:
+        types.setdefault(cell[1:], []).append(tables.message(category, cell.number))
     yield ""
     yield "| Type | Item | Printed | Ground |"
     yield "|--|--|--|--|"
-    for cell in category.cells:
-        row = tables.message(category, cell.number)
-        yield "| %s %s | I%03d/%s | %s | %s |" % (
-            number(category, row.number), row.name, category.number, cell.reference, cell.printed.replace("*", "\\*"), cell.ground)
+    for (reference, printed, ground), some in types.items():
+        named = ", ".join(number(category, row.number) for row in some) + (" " + some[0].name) * (len(some) == 1)
+        yield "| %s | I%03d/%s | %s | %s |" % (named, category.number, reference, printed.replace("*", "\\*"), ground)
 
 
 def lines():
@@ -203,7 +217,7 @@ def lines():
     yield "Each counts as optional (document 01, \"Block, record, item\"): a record is accepted with the item and without it."
     for category in tables.CATEGORIES.values():
         yield ""
-        yield "### Cells of category %03d, 5.3.2" % category.number
+        yield "### Cells of category %03d, %s" % (category.number, category.sections[1])
         yield from listed(category)
 
 

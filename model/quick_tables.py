@@ -270,9 +270,9 @@ def left_out():
 
 
 def shape_lines(words_of):
-    """The rows of a table of shapes. The shape that most message types have fills the places of no shape."""
+    """The rows of a table of shapes. The shape of fewest items fills the places of no shape."""
     some = [shape for shape in shapes() if words_of(shape)]
-    filler = max(some, key=lambda shape: len(shape.types))
+    filler = min(some, key=lambda shape: len(shape.frns))
     placed = slotted(some)
     out = []
     for slot in range(SLOTS):
@@ -333,7 +333,7 @@ def measured(shape):
     base, starts, parts = used, {}, []
     for frn in shape.frns:
         item = rows.places_of(shape.profile)[frn - 1].item
-        if item.form == "extended":
+        if item.form in ("extended", "compound"):
             return None
         if not parts:
             starts[frn] = base

@@ -1,4 +1,5 @@
-"""The reading and writing rules of document 01, over tables.py, in the plainest way there is.
+"""The reading and writing rules of document 01 and of W-205 in document 02, over tables.py, in the plainest
+way there is.
 
 Answers the questions of tests/vectors (README.md there has their form), those about sheets by the rules
 of sheets.py. It serves to make those vectors and to try the tables; it shares nothing with the crates but
@@ -12,6 +13,9 @@ import sheets
 import tables
 from refusal import Refused
 from tables import FX, SIGNED, SPARE
+
+
+ABSENT = -2 ** 63  # the number that no field has: in a list of fields a part or subfield that is not there
 
 
 # ---- fields and items
@@ -34,15 +38,28 @@ def read_part(part, octets, at):
 
 
 def read_item(item, octets, at):
-    """The fields of the item that starts at a place, and where it ends: 9, 10, 9, 11."""
+    """The fields of the item that starts at a place, and where it ends: 9, 10, 9, 6, 11."""
     def need(end):
         if end > len(octets):
             raise Refused(9, at)
         return end
 
+    if item.form == "compound":
+        return read_compound(item, octets, at)
     if item.form == "fixed":
         end = need(at + item.octets)
         return read_part(item.parts[0], octets[at:end], at), end
+    if item.form == "extended":
+        end = need(at + item.octets)
+        while octets[end - 1] & 1:
+            if end - at == item.octets * item.greatest:
+                raise Refused(6, at)
+            end = need(end + item.octets)
+        values = []
+        for n, part in enumerate(item.parts):
+            start = at + n * item.octets
+            values += read_part(part, octets[start:start + item.octets], at) if start < end else [ABSENT]
+        return values, end
     start = need(at + 1)
     if item.form == "list":
         count = octets[at]
@@ -53,19 +70,51 @@ def read_item(item, octets, at):
         for n in range(start, end, item.octets):
             values += read_part(item.parts[0], octets[n:n + item.octets], at)
         return values, end
-    if item.form == "led":
-        if octets[at] < 1 + item.least:
-            raise Refused(10, at)
-        end = need(at + octets[at])
-        return list(octets[start:end]), end
-    end = start
-    while octets[end - 1] & 1 and end - at < item.greatest:
-        end = need(end + 1)
-    if octets[end - 1] & 1:
-        raise Refused(11, at)
+    if octets[at] < 1 + item.least:
+        raise Refused(10, at)
+    end = need(at + octets[at])
+    return list(octets[start:end]), end
+
+
+def read_presence(octets, at, most, usable, cut):
+    """The places, from 1 on, that presence octets name, rising, and where the octets end: cut, 6, 7, 8."""
+    named, end = [], at
+    while True:
+        if end == len(octets):
+            raise Refused(cut, at)
+        octet, base = octets[end], 7 * (end - at)
+        named += [base + n + 1 for n in range(7) if octet & 128 >> n]
+        end += 1
+        if not octet & 1:
+            break
+        if end - at == most:
+            raise Refused(6, at)
+    if octets[end - 1] & 254 == 0:
+        raise Refused(7, at)
+    if not set(named) <= set(usable):
+        raise Refused(8, at)
+    return named, end
+
+
+def printed(item):
+    """The subfields of a compound item by their places in its primary octets, from 1 on."""
+    return {n: some for n, some in enumerate((some for row in item.primaries for some in row), 1) if some}
+
+
+def read_compound(item, octets, at):
+    """The same of a compound item: its primary octets, 9, 6, 7, 8, then its subfields, each by 9 and 11; all at its start."""
+    named, end = read_presence(octets, at, len(item.primaries), printed(item), 9)
     values = []
-    for part, n in zip(item.parts, range(at, end)):
-        values += read_part(part, octets[n:n + 1], at)
+    for place, some in printed(item).items():
+        if place not in named:
+            values.append(ABSENT)
+            continue
+        try:
+            listed, stop = read_item(some, octets, end)
+        except Refused as fault:
+            raise Refused(fault.number, at)
+        values += [octets[end]] * (some.form == "list") + listed
+        end = stop
     return values, end
 
 
@@ -87,52 +136,93 @@ def told(part):
     return sum(field.kind not in (SPARE, FX) for field in part)
 
 
+def take(values, many):
+    """So many numbers from the front of the list; 11 where it has fewer."""
+    if not 0 <= many <= len(values):
+        raise Refused(11, 0)
+    taken = values[:many]
+    del values[:many]
+    return taken
+
+
+def is_absent(values):
+    """Whether what begins here is not there, which one number of the list then says."""
+    if values[:1] != [ABSENT]:
+        return False
+    take(values, 1)
+    return True
+
+
 def write_item(item, values):
     """The octets of an item with those fields; 11 where no legal item has them."""
     values = list(values)
-    if item.form == "extended":
-        sizes = [sum(told(part) for part in item.parts[:n + 1]) for n in range(len(item.parts))]
-        if len(values) not in sizes:
-            raise Refused(11, 0)
-        octets = b"".join(write_part(part, values) for part in item.parts[:sizes.index(len(values)) + 1])
-        return bytes(octet | (n + 1 < len(octets)) for n, octet in enumerate(octets))
-    count, rest = divmod(len(values), told(item.parts[0]))
+    if item.form == "compound":
+        octets = write_compound(item, values)
+    elif item.form == "extended":
+        octets = write_extended(item, values)
+    else:
+        octets = write_parts(item, values, len(values))
+    if values:
+        raise Refused(11, 0)
+    return octets
+
+
+def write_parts(item, values, many):
+    """The octets of an item of equal parts, of so many numbers from the front of the list."""
+    count, rest = divmod(many, told(item.parts[0]))
     if rest or not item.least <= count <= item.greatest:
         raise Refused(11, 0)
-    body = b"".join(write_part(item.parts[0], values) for _ in range(count))
+    body = b"".join(write_part(item.parts[0], take(values, told(item.parts[0]))) for _ in range(count))
     if item.form == "list":
         return bytes([count]) + body
     return bytes([1 + count]) + body if item.form == "led" else body
 
 
+def write_extended(item, values):
+    """Each extension is there or absent; one that is there after an absent one is 11."""
+    parts = []
+    for n, part in enumerate(item.parts):
+        absent = n > 0 and is_absent(values)
+        if not absent and len(parts) < n:
+            raise Refused(11, 0)
+        parts += [] if absent else [bytearray(write_part(part, take(values, told(part))))]
+    for part in parts[:-1]:
+        part[-1] |= 1
+    return b"".join(parts)
+
+
+def write_compound(item, values):
+    """Each subfield is there or absent, a list behind its count; none at all is 11."""
+    places, body = [], b""
+    for place, some in printed(item).items():
+        if is_absent(values):
+            continue
+        count = take(values, 1)[0] if some.form == "list" else 1
+        body += write_parts(some, values, count * told(some.parts[0]))
+        places.append(place)
+    if not places:
+        raise Refused(11, 0)
+    return presence(places) + body
+
+
 # ---- records
 
-def fspec(frns):
-    """The FSPEC of a set of FRNs: no octet after the one that names the last, and one where it names none, which is refused."""
-    octets = bytearray((max(frns, default=1) + 6) // 7)
-    for frn in frns:
-        octets[(frn - 1) // 7] |= 128 >> (frn - 1) % 7
+def presence(places):
+    """The presence octets of places: none after the one that names the last, and one where they name none, which is refused."""
+    octets = bytearray((max(places, default=1) + 6) // 7)
+    for place in places:
+        octets[(place - 1) // 7] |= 128 >> (place - 1) % 7
     return bytes(octet | (n + 1 < len(octets)) for n, octet in enumerate(octets))
+
+
+def fspec(frns):
+    """The FSPEC of a set of FRNs."""
+    return presence(frns)
 
 
 def read_fspec(category, octets, at):
     """The FRNs that an FSPEC names, rising, and where it ends: 5, 6, 7, 8."""
-    frns, end = [], at
-    while True:
-        if end == len(octets):
-            raise Refused(5, at)
-        octet, base = octets[end], 7 * (end - at)
-        frns += [base + n + 1 for n in range(7) if octet & 128 >> n]
-        end += 1
-        if not octet & 1:
-            break
-        if end - at == category.octets:
-            raise Refused(6, at)
-    if octets[end - 1] & 254 == 0:
-        raise Refused(7, at)
-    if not set(frns) <= set(tables.usable(category)):
-        raise Refused(8, at)
-    return frns, end
+    return read_presence(octets, at, category.octets, tables.usable(category), 5)
 
 
 def read_items(category, frns, octets, at):
@@ -146,12 +236,28 @@ def read_items(category, frns, octets, at):
     return found, at
 
 
+def spelled(item, values):
+    """The number that the fields of one part make, from the highest bit down."""
+    number = 0
+    for field, value in zip(item.parts[0], values):
+        number = number << field.width | value
+    return number
+
+
+def type_fields(category, number):
+    """The fields of the message type item that make a number."""
+    fields, left = [], number
+    for field in reversed(tables.items(category)["000"].parts[0]):
+        fields, left = [left % 2 ** field.width] + fields, left >> field.width
+    return fields
+
+
 def judge(category, found, at):
     """The message type's rules on a record's items: 12, 13, 14, 15."""
     present = {reference: values for _, reference, _, values in found}
     if "000" not in present:
         raise Refused(12, at)
-    row = tables.message(category, present["000"][0])
+    row = tables.message(category, spelled(tables.items(category)["000"], present["000"]))
     if row is None:
         raise Refused(13, at)
     compulsory, optional = set(row.compulsory.split()), set(row.optional.split())
@@ -217,7 +323,7 @@ def known(category, reference):
 
 
 def commas(values):
-    return ",".join(str(value) for value in values) or "-"
+    return ",".join("x" if value == ABSENT else str(value) for value in values) or "-"
 
 
 def answer_block(octets):
@@ -301,7 +407,7 @@ def answer_sheet(octets):
 # ---- lengths
 
 def least_octets(item):
-    """The fewest octets of an item: of a list or a led item its first, of an extended item its first part."""
+    """The fewest octets of an item: of a list, a led or a compound item its first, of an extended item its first part."""
     return 1 if item.form in ("list", "led") else item.octets
 
 
@@ -321,7 +427,8 @@ HEX = r"(-|(?:[0-9A-Fa-f]{2})+)"
 OCTET = r"([0-9A-Fa-f]{2})"
 NUMBER = r"([0-9]+)"
 CAT = r"(0*(?:[0-9]{1,2}|1[0-9]{2}|2[0-4][0-9]|25[0-5]))"
-FIELDS = r"(-|-?[0-9]+(?:,-?[0-9]+)*)"
+FIELD = r"(?:-?[0-9]+|x)"
+FIELDS = r"(-|%s(?:,%s)*)" % (FIELD, FIELD)
 FRNS = r"(-|[0-9]+(?:,[0-9]+)*)"
 OFFSET = r"(-?[0-9]+)"
 MARK = r"([0-9]+(?::[0-9]+){3})"
@@ -349,7 +456,7 @@ def octets_of(word):
 
 
 def numbers_of(word):
-    return [] if word == "-" else [int(number) for number in word.split(",")]
+    return [] if word == "-" else [ABSENT if number == "x" else int(number) for number in word.split(",")]
 
 
 class BadLine(Exception):

@@ -1,7 +1,7 @@
 """The items of tables.py as the code has them: profile after profile, FRN by FRN.
 
 In order: places; groups and their fields; rules of fields; sets of FRNs. What each table of the code
-makes of them is in code_tables.py and shapes.py.
+makes of them is in code_tables.py and quick_tables.py.
 """
 
 from collections import namedtuple
@@ -47,6 +47,16 @@ def with_item():
     return [place for place in places() if place.item]
 
 
+def formats_of(place):
+    """A place for each of what has fields there: of a compound item its subfields, else the item."""
+    return [place._replace(item=item) for item in tables.formats(place.item)]
+
+
+def layouts():
+    """What has a row among the layouts, in order: the items, a compound one with its subfields behind it."""
+    return [row for place in with_item() for row in [place] * (place.item.form == "compound") + formats_of(place)]
+
+
 def type_frn(profile):
     """The FRN of the message type item."""
     return next(place.frn for place in places_of(profile) if place.item and place.item.reference == "000")
@@ -64,7 +74,12 @@ def cited(place):
 
 def titled(place):
     """The same with its title, less an abbreviation."""
-    return "%s  %s" % (cited(place), place.item.title.split(" (")[0])
+    return "%s  %s" % (cited(place), numbered(place.item) + place.item.title.split(" (")[0])
+
+
+def numbered(item):
+    """What stands before the name of a subfield: its number."""
+    return "#%d " % item.number if item.number else ""
 
 
 def at_frn(place):
@@ -78,8 +93,8 @@ Group = namedtuple("Group", "place part fields")
 
 
 def groups_of(place):
-    """Those of an item: one for each part that is printed."""
-    return [Group(place, n, [f for f in part if f.kind != FX]) for n, part in enumerate(place.item.parts)]
+    """Those of an item: one for each part that is printed, of a compound one those of its subfields."""
+    return [Group(some, n, [f for f in part if f.kind != FX]) for some in formats_of(place) for n, part in enumerate(some.item.parts)]
 
 
 def groups():
@@ -92,7 +107,7 @@ def fields():
 
 
 def named(group, field):
-    return "%s  %s" % (cited(group.place), field.called)
+    return "%s  %s" % (cited(group.place), numbered(group.place.item) + field.called)
 
 
 def range_of(field):

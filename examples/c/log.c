@@ -1,4 +1,4 @@
-/* log FILE: prints every record of a log of ASTERIX categories 017 and 018: its message type, and the fields of
+/* log FILE: prints every record of a log of ASTERIX categories 017, 018 and 061: its message type, and the fields of
  * its items. Status 1 where the log is refused: then one line says why and where, and nothing else is printed.
  *
  * log A B [OFFSET]: lists the records of two logs on one line by their times, a line for each: its log, where it
@@ -15,68 +15,120 @@
 
 /* ---- Names, as the documents have them */
 
-/* The items of a category in the order of their field reference numbers, with their fields. A list names the
- * fields of one part. */
+/* The items of a category in the order of their field reference numbers, with the names of their fields. A list has
+ * those of one part. | comes before each extent, and before each subfield of a compound item but the first; what ends
+ * in : is the name of a subfield, and what ends in = that of one that is a list, where its count is. */
 struct item {
     uint16_t reference;
-    const char *fields[12];
+    const char *names;
 };
 
 static const struct item items_017[] = {
-    { 10, { "SAC", "SIC" } },
-    { 12, { "SAC", "SIC" } },
-    { 0, { "type" } },
-    { 350, { "SAC", "SIC" } },
-    { 220, { "address" } },
-    { 221, { "DRN" } },
-    { 140, { "time" } },
-    { 45, { "latitude", "longitude" } },
-    { 70, { "V", "G", "L", "code" } },
-    { 50, { "V", "G", "altitude" } },
-    { 200, { "speed", "heading" } },
-    { 230, { "CA", "SI" } },
-    { 240, { "CST", "FLT" } },
-    { 210, { "address" } },
-    { 360, { "state" } },
+    { 10, "SAC SIC" },
+    { 12, "SAC SIC" },
+    { 0, "type" },
+    { 350, "SAC SIC" },
+    { 220, "address" },
+    { 221, "DRN" },
+    { 140, "time" },
+    { 45, "latitude longitude" },
+    { 70, "V G L code" },
+    { 50, "V G altitude" },
+    { 200, "speed heading" },
+    { 230, "CA SI" },
+    { 240, "CST FLT" },
+    { 210, "address" },
+    { 360, "state" },
 };
 
 static const struct item items_018[] = {
-    { 36, { "SAC", "SIC" } },
-    { 37, { "SAC", "SIC" } },
-    { 0, { "type" } },
-    { 1, { "CAUSE", "DIAG" } },
-    { 5, { "address" } },
-    { 16, { "number" } },
-    { 17, { "number" } },
-    { 18, { "PR", "PT" } },
-    { 19, { "octet" } },
-    { 28, { "periodicity" } },
-    { 30, { "priority", "PC", "AU", "NE", "RD" } },
-    { 25, { "number" } },
-    { 27, { "BDS" } },
-    { 29, { "GICB" } },
-    { 2, { "time" } },
-    { 6, { "address" } },
-    { 7, { "UM", "DM", "UC", "DC" } },
-    { 8, { "UDS", "DDS", "UCS", "DCS", "EI", "IC" } },
-    { 9, { "SR", "AR", "ER", "FR", "MR", "PR", "CR", "ID", "MA", "SP", "HG", "HD" } },
-    { 10, { "COM" } },
-    { 11, { "report" } },
-    { 14, { "RHO", "THETA" } },
-    { 15, { "X", "Y" } },
-    { 20, { "number" } },
-    { 21, { "priority", "power", "duration", "coverage" } },
-    { 22, { "prefix" } },
-    { 23, { "broadcast" } },
-    { 4, { "former", "current" } },
-    { 31, { "identity" } },
-    { 32, { "V", "G", "L", "code" } },
-    { 33, { "V", "G", "level" } },
-    { 34, { "speed" } },
-    { 35, { "heading" } },
-    { 12, { "FS", "CQF" } },
-    { 13, { "method" } },
+    { 36, "SAC SIC" },
+    { 37, "SAC SIC" },
+    { 0, "type" },
+    { 1, "CAUSE DIAG" },
+    { 5, "address" },
+    { 16, "number" },
+    { 17, "number" },
+    { 18, "PR PT" },
+    { 19, "octet" },
+    { 28, "periodicity" },
+    { 30, "priority PC AU NE RD" },
+    { 25, "number" },
+    { 27, "BDS" },
+    { 29, "GICB" },
+    { 2, "time" },
+    { 6, "address" },
+    { 7, "UM DM UC DC" },
+    { 8, "UDS DDS UCS DCS EI | IC" },
+    { 9, "SR AR ER FR MR PR CR | ID MA SP HG HD" },
+    { 10, "COM" },
+    { 11, "report" },
+    { 14, "RHO THETA" },
+    { 15, "X Y" },
+    { 20, "number" },
+    { 21, "priority power duration coverage" },
+    { 22, "prefix" },
+    { 23, "broadcast" },
+    { 4, "former current" },
+    { 31, "identity" },
+    { 32, "V G L code" },
+    { 33, "V G level" },
+    { 34, "speed" },
+    { 35, "heading" },
+    { 12, "FS CQF" },
+    { 13, "method" },
 };
+
+static const struct item items_061[] = {
+    { 10, "SAC SIC" },
+    { 0, "FAM NAT" },
+    { 12, "user" },
+    { 15, "service" },
+    { 20, "time" },
+    { 30, "batch" },
+    { 45, "version" },
+    { 50, "DGA" },
+    { 60, "latitude longitude" },
+    { 70, "lower" },
+    { 80, "upper" },
+    { 100, "CODE" },
+    { 130, "TNS= number | AAS= address | AIS= c1 c2 c3 c4 c5 c6 c7 c8 | CFS= W1 W2 W3 W4 code | DPS= c1 c2 c3 c4 "
+           "| DTS= c1 c2 c3 c4 | ATS= c1 c2 c3 c4 | CCS= CENTRE POSITION | TCS: SIM CSR PSR SSR MDS ADS VALT FPC "
+           "CNF SPI GAT/OAT IFR VFR CFR RVSM FRI/FOE ME MI" },
+    { 210, "N1 N2 N3 N4 N5 N6 N7 | N8 N9 N10 N11 N12 N13 N14 | N15 N16 N17 N18 N19 N20 N21 "
+           "| N22 N23 N24 N25 N26 N27 N28" },
+    { 220, "SD scanning batch update delay MAXFLOW" },
+    { 230, "MSAC MSIC NOP | BSAC BSIC" },
+    { 240, "DPF: TLF TNB PLN M3A COR SPE MOF | RCT: threshold | PT: threshold | RTT: threshold | TAT: threshold "
+           "| GST: threshold | LAT: threshold | AT: threshold | FK: factor | RP: period | MNP: period" },
+    { 330, "CODE" },
+    { 350, "SAC SIC" },
+    { 360, "N1 N2 N3 N4 N5 N6 N7 | N8 N9 N10 N11 N12 N13 N14 | N15 N16 N17 N18 N19 N20 N21" },
+    { 370, "period" },
+    { 380, "RP: period | DP: SSC | TSB: threshold | SRB: threshold | SGB: threshold | SAB: threshold "
+           "| PRB: threshold | PGB: threshold | PAB: threshold" },
+};
+
+/* A category's items, and the field reference numbers of its message type and of its time. */
+struct category {
+    uint8_t number;
+    const struct item *items;
+    size_t type_frn, time_frn;
+};
+
+static const struct category categories[] = {
+    { 17, items_017, 3, 7 },  /* I017/140 */
+    { 18, items_018, 3, 15 }, /* I018/002 */
+    { 61, items_061, 2, 5 },  /* I061/020 */
+};
+
+static const struct category *category_of(const struct asterix_record_met *record)
+{
+    const struct category *category = categories;
+    while (category->number != record->category) /* no record has another */
+        category++;
+    return category;
+}
 
 struct message {
     uint8_t category, type;
@@ -119,9 +171,29 @@ static const struct message messages[] = {
     { 18, 0x41, "Cancel_GICB_extraction" },
     { 18, 0x42, "GICB_extraction_ack" },
     { 18, 0x43, "GICB_response" },
+    { 61, 0x11, "Request for Connection" },
+    { 61, 0x12, "Request for Disconnection" },
+    { 61, 0x13, "Connection Acknowledgement" },
+    { 61, 0x14, "Connection Rejection" },
+    { 61, 0x15, "Disconnection Acknowledgement" },
+    { 61, 0x16, "Disconnection Rejection" },
+    { 61, 0x21, "Service Definition Request" },
+    { 61, 0x22, "Service Modification Request" },
+    { 61, 0x23, "Service Suspension Request" },
+    { 61, 0x24, "Service Resumption Request" },
+    { 61, 0x25, "Service Termination Request" },
+    { 61, 0x26, "Service Acknowledgement" },
+    { 61, 0x27, "Service Rejection" },
+    { 61, 0x28, "Service Report" },
+    { 61, 0x2F, "End of Batch" },
 };
 
-enum { MESSAGES = sizeof messages / sizeof *messages, TYPE_FRN = 3, GICB_EXTRACTION = 0x40 };
+enum { MESSAGES = sizeof messages / sizeof *messages, GICB_EXTRACTION = 0x40 };
+
+static uint8_t type_of(const uint8_t *log, const struct asterix_record_met *record)
+{
+    return log[record->block + record->starts[category_of(record)->type_frn - 1]];
+}
 
 static const char *message_name(uint8_t category, uint8_t type)
 {
@@ -135,16 +207,58 @@ static const char *message_name(uint8_t category, uint8_t type)
 
 static int64_t fields[ASTERIX_FIELDS];
 
-/* One item: its reference, and each field as name=value. */
+/* The length of the first of `names`; the names behind it; and where those of the part that it is in end. */
+static int name_length(const char *names)
+{
+    int length = 0;
+    while (names[length] && names[length] != ' ')
+        length++;
+    return length;
+}
+
+static const char *other_names(const char *names)
+{
+    names += name_length(names);
+    return *names ? names + 1 : names;
+}
+
+static const char *part_end(const char *names)
+{
+    while (*names && *names != '|')
+        names = other_names(names);
+    return names;
+}
+
+/* One item: its reference, and each field as name=value; - for an extent or a subfield that is absent. */
 static void print_item(uint8_t category, const struct item *item, const uint8_t *octets, size_t length)
 {
     struct asterix_item_read read = asterix_read_item(category, item->reference, octets, length, fields);
-    size_t names = 0;
-    while (names < 12 && item->fields[names])
-        names++;
+    const int64_t *at = fields, *end = fields + read.count;
+    const char *part = item->names;
     printf("    I%03u/%03u", category, item->reference);
-    for (size_t i = 0; i < read.count; i++)
-        printf(" %s=%" PRId64, item->fields[i % names], fields[i]);
+    while (at < end) {
+        const char *last = part_end(part);
+        char mark = part[name_length(part) - 1];
+        int64_t times = 1; /* that the part's fields come */
+        if (mark == ':' || mark == '=') {
+            printf(" %.*s", name_length(part) - 1, part);
+            part = other_names(part);
+        }
+        if (*at == ASTERIX_ABSENT) {
+            printf(" -");
+            times = 0;
+            at++;
+        } else if (mark == '=') {
+            times = *at++;
+            printf("=%" PRId64, times);
+        }
+        for (; times > 0; times--)
+            for (const char *name = part; name < last; name = other_names(name))
+                printf(" %.*s=%" PRId64, name_length(name), name, *at++);
+        if (*last)
+            printf(" |");
+        part = *last ? other_names(last) : item->names; /* behind the last one a list goes on */
+    }
     printf("\n");
 }
 
@@ -152,9 +266,8 @@ static void print_item(uint8_t category, const struct item *item, const uint8_t 
 static void print_record(const uint8_t *log, const struct asterix_record_met *record)
 {
     const uint8_t *block = log + record->block; /* from where the map counts */
-    uint8_t category = record->category;
-    const struct item *items = category == 17 ? items_017 : items_018;
-    uint8_t type = block[record->starts[TYPE_FRN - 1]];
+    uint8_t category = record->category, type = type_of(log, record);
+    const struct item *items = category_of(record)->items;
     printf("  %s (%u), %zu octets, %zu items\n", message_name(category, type), type, record->length, record->count);
     for (size_t frn = 1; frn <= ASTERIX_FRNS; frn++) {
         size_t start = record->starts[frn - 1], end = record->end;
@@ -171,17 +284,17 @@ static void print_record(const uint8_t *log, const struct asterix_record_met *re
 
 /* ---- Two logs */
 
-/* The record's I017/140 or I018/002, or - where it has none. That of a GICB_extraction is the end of a request, and
- * does not count. */
+/* The record's I017/140, I018/002 or I061/020, or - where it has none. That of a GICB_extraction is the end of a
+ * request, and does not count. */
 static void print_time(const uint8_t *log, const struct asterix_record_met *record, uint8_t type)
 {
-    bool is_017 = record->category == 17;
-    size_t start = record->starts[(is_017 ? 7 : 15) - 1];
-    if (start == 0 || (!is_017 && type == GICB_EXTRACTION)) {
+    size_t frn = category_of(record)->time_frn, start = record->starts[frn - 1];
+    if (start == 0 || (record->category == 18 && type == GICB_EXTRACTION)) {
         printf("%-12s", "-");
         return;
     }
-    asterix_read_item(record->category, is_017 ? 140 : 2, log + record->block + start, 3, fields);
+    uint16_t reference = category_of(record)->items[frn - 1].reference;
+    asterix_read_item(record->category, reference, log + record->block + start, 3, fields);
     unsigned seconds = (unsigned)fields[0] / 128, thousandths = (unsigned)fields[0] % 128 * 1000 / 128;
     printf("%02u:%02u:%02u.%03u", seconds / 3600, seconds / 60 % 60, seconds % 60, thousandths);
 }
@@ -200,7 +313,7 @@ static int print_merged(const uint8_t *a, size_t a_len, const uint8_t *b, size_t
         for (size_t i = 0; i < next.count; i++) {
             const uint8_t *log = out[i].log ? b : a;
             struct asterix_record_met record = asterix_next_record(log, out[i].log ? b_len : a_len, out[i].at);
-            uint8_t type = log[record.block + record.starts[TYPE_FRN - 1]];
+            uint8_t type = type_of(log, &record);
             printf("%c %5zu  ", out[i].log ? 'B' : 'A', record.start);
             print_time(log, &record, type);
             printf("  %s (%u)\n", message_name(record.category, type), type);

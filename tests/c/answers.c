@@ -65,8 +65,14 @@ static void say_fields(const int64_t *fields, size_t n)
 {
     if (n == 0)
         say("-");
-    for (size_t i = 0; i < n; i++)
-        printf(i ? ",%" PRId64 : "%" PRId64, fields[i]);
+    for (size_t i = 0; i < n; i++) {
+        if (i > 0)
+            say(",");
+        if (fields[i] == ASTERIX_ABSENT)
+            say("x");
+        else
+            printf("%" PRId64, fields[i]);
+    }
 }
 
 /* ---- A line's words: parts of it, with one separator between. A reader answers whether its word is what it reads. */
@@ -190,7 +196,21 @@ static bool take_octets(struct word word, struct octets *octets)
     return word.length > 0 && word.length % 2 == 0;
 }
 
-/* A minus alone, or numbers with commas between. No item has as many as are kept, so that what is answered hangs on
+/* A number perhaps with a minus in front, or `x` for what is absent. One that 64 bits do not hold does not stand for
+ * that, but for another that no field has. */
+static bool take_field(struct word word, int64_t *n)
+{
+    bool absent = is_word(word, "x");
+    if (absent)
+        *n = ASTERIX_ABSENT;
+    if (absent || take_64_bits(word, n))
+        return true;
+    bool taken = take_signed(word, n);
+    *n += *n == ASTERIX_ABSENT;
+    return taken;
+}
+
+/* A minus alone, or fields with commas between. No item has as many as are kept, so that what is answered hangs on
  * none after them. */
 static bool take_list(struct word word, int64_t kept[ASTERIX_FIELDS], size_t *count)
 {
@@ -201,7 +221,7 @@ static bool take_list(struct word word, int64_t kept[ASTERIX_FIELDS], size_t *co
         struct word one;
         int64_t n;
         more = cut_word(&word, ',', &one);
-        if (!take_signed(one, &n))
+        if (!take_field(one, &n))
             return false;
         if (*count < ASTERIX_FIELDS)
             kept[(*count)++] = n;

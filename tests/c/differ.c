@@ -6,9 +6,12 @@
  * it and pages that may not be touched beyond those. What a refused call was lent must be as before.
  *
  * Status 1 where anything differs; where a refusal number was never met, or one that an entry point can give was
- * not met there, or one that it can't give was; where a message type was never accepted, or an item never found,
- * read or written; where two logs were never finished, or one never refused or gone on in; where a field of a sheet
- * was never at fault in a way that it can be, or a mark never found or missed. */
+ * not met there, or one that it can't give was; where a message type was never accepted, or never refused by 14 and by
+ * 15, or an item never found, read or written; where a part of an extended item, or a subfield, was never there or
+ * never absent, read and written, or never at fault in a way that it can be, or fields of a form that they may not have
+ * were never refused; where a recording of one category, or of some together, was never accepted; where two logs were
+ * never finished, or one never refused or gone on in by a record of each category; where a field of a sheet was never at
+ * fault in a way that it can be, or a mark never found or missed. */
 #include <inttypes.h>
 #include <stdbool.h>
 #include <stdio.h>
@@ -57,6 +60,7 @@ static const char *const call_name[CALLS] = { "check_block", "check_recording", 
  * changed sheet the refusals that reading gives are told apart as the old one's. */
 #define IN_BLOCK 0xFFFEu /* 1 to 15 */
 #define NO(n) ((uint64_t)1 << (n))
+#define IN_ITEM (NO(6) | NO(7) | NO(8) | NO(9) | NO(10) | NO(11))
 #define IN_SHEET (NO(30) | NO(31) | NO(32) | NO(33) | NO(34))
 static const uint64_t can_give[CALLS] = {
     NO(0) | IN_BLOCK,
@@ -66,10 +70,10 @@ static const uint64_t can_give[CALLS] = {
     NO(0) | IN_BLOCK,
     NO(0) | IN_BLOCK | NO(22) | NO(23),
     NO(0) | IN_BLOCK | NO(22),
-    NO(0) | NO(9) | NO(10) | NO(11) | NO(18) | NO(21),
+    NO(0) | IN_ITEM | NO(18) | NO(21),
     NO(0) | NO(11) | NO(16) | NO(21),
     (IN_BLOCK & ~NO(4)) | NO(16),
-    NO(0) | NO(7) | NO(8) | NO(9) | NO(10) | NO(11) | NO(12) | NO(13) | NO(14) | NO(15) | NO(16) | NO(17) | NO(18),
+    NO(0) | IN_ITEM | NO(12) | NO(13) | NO(14) | NO(15) | NO(16) | NO(17) | NO(18),
     NO(0) | IN_SHEET,
     NO(0) | NO(16) | NO(33) | NO(34),
     IN_SHEET,
@@ -82,9 +86,41 @@ static const uint64_t can_give[CALLS] = {
 
 enum { NUMBERS = 37 };
 static size_t met[CALLS][NUMBERS];
-static size_t types_accepted[COUNT(messages)], found[COUNT(items)], read[COUNT(items)], written[COUNT(items)];
+static size_t types_accepted[COUNT(messages)], types_refused[COUNT(messages)][2]; /* by 14, 15 */
+static size_t found[COUNT(items)], read[COUNT(items)], written[COUNT(items)];
 static size_t calls, lengths, differences;
 static size_t records_met, ends_met; /* by the walk, whose acceptances are both */
+
+/* Of extended and compound items that are read or written: part by part, there or absent; of those that are refused,
+ * at which part, or in the primary octets. */
+enum part_way { READ_THERE, READ_ABSENT, WRITTEN_THERE, WRITTEN_ABSENT, CUT, BAD, PART_WAYS };
+static const char *const part_name[PART_WAYS] = { "read", "read, absent", "written", "written, absent", "9", "11" };
+enum { MOST_PARTS = 12 };
+static size_t parts_met[COUNT(items)][MOST_PARTS][PART_WAYS];
+enum inside { PAST, NAMELESS, UNPRINTED, PRIMARY_CUT, INSIDES }; /* the first three are 6, 7, 8 */
+static const char *const inside_name[INSIDES] = { "6", "7", "8", "9, primary" };
+static size_t inside_met[COUNT(items)][INSIDES];
+
+/* The same three numbers where an item gave them in a block that was checked, and among new items. */
+static size_t in_blocks[3], in_new_items[3];
+
+/* Of lists of fields that have no such form, or a barred count: those that were refused. */
+enum form { AS_IT_IS, AFTER_ABSENT, NO_SUBFIELD, BARRED_COUNT, OTHER_COUNT, ABSENT_INSIDE, EXCHANGED, FORMS };
+static const char *const form_name[FORMS] = { "",
+                                              "an extension after an absent one",
+                                              "no subfield",
+                                              "a barred count in a subfield",
+                                              "a count not borne out",
+                                              "absent within a part",
+                                              "" };
+static size_t forms_refused[FORMS];
+
+/* Of recordings that are accepted: by the categories that they have, as bits. Of records, by their category: those
+ * that a walk met, that came out of merges as they were begun, and that were added. */
+static size_t recordings_of[1 << COUNT(categories)];
+enum record_way { WALKED, FROM_A, FROM_B, ADDED, RECORD_WAYS };
+static const char *const record_name[RECORD_WAYS] = { "walked", "merged, from A", "merged, from B", "added" };
+static size_t records_of[COUNT(categories)][RECORD_WAYS];
 
 /* Of two logs: by steps, by beginning, and by the next records of whole and of damaged merges. */
 enum merging { OF_A, OF_B, FINISHED, REFUSED_A, REFUSED_B, MERGINGS };
@@ -173,6 +209,20 @@ static void print_octets(const uint8_t *octets, size_t n)
         printf("-");
 }
 
+/* The first of an item's fields, as the vectors have them. */
+static void print_fields(const int64_t *fields, size_t n)
+{
+    printf("  fields ");
+    for (size_t i = 0; i < n && i < 100; i++) {
+        printf("%s", i ? "," : "");
+        if (fields[i] == ASTERIX_ABSENT)
+            printf("x");
+        else
+            printf("%" PRId64, fields[i]);
+    }
+    printf("%s\n", n > 100 ? " .." : "");
+}
+
 /* The question as the vectors have it, and the two answers. */
 static void differs(const char *question, const uint8_t *octets, size_t have, const char *rest)
 {
@@ -204,6 +254,45 @@ static char *answers(char *to, size_t room, struct plain_fault ours, size_t a, s
 
 static char text[400];
 
+static size_t category_row(unsigned category)
+{
+    return (size_t)(find_category(category) - categories);
+}
+
+/* The row of the message type of a record whose items are as they should be; past all where there is none. */
+static size_t message_at(const uint8_t *block, size_t place)
+{
+    const uint8_t *fspec = block + place, *at = fspec;
+    while (*at++ & 1)
+        ;
+    for (unsigned frn = 1; frn < type_frn(block[0]); frn++)
+        if (fspec[0] >> (8 - frn) & 1)
+            at += layout_at(block[0], frn)->parts->octets;
+    size_t row = 0;
+    while (row < COUNT(messages) && (messages[row].category != block[0] || messages[row].type != *at))
+        row++;
+    return row;
+}
+
+/* Where the record starts in which a block is refused. */
+static size_t record_at_fault(const uint8_t *block, size_t have)
+{
+    struct plain_met met = plain_next_record(block, have, (struct plain_cursor){ 0, 0, 0, 0 });
+    while (met.met)
+        met = plain_next_record(block, have, met.next);
+    return met.next.place ? met.next.place : 3;
+}
+
+static void tally_in_block(const uint8_t *block, size_t have, struct plain_fault fault)
+{
+    if (fault.number == 14 || fault.number == 15) {
+        size_t row = message_at(block, fault.place);
+        if (row < COUNT(messages))
+            types_refused[row][fault.number - 14]++;
+    } else if (fault.number >= 6 && fault.number <= 8 && fault.place != record_at_fault(block, have))
+        in_blocks[fault.number - 6]++;
+}
+
 static bool try_block(struct chance *c, const uint8_t *block, size_t have)
 {
     struct plain_block ours = plain_check_block(block, have);
@@ -211,6 +300,7 @@ static bool try_block(struct chance *c, const uint8_t *block, size_t have)
     struct asterix_block_checked theirs = asterix_check_block(lent, have);
     bool kept = unchanged(&input);
     tally(BLOCK, ours.fault.number);
+    tally_in_block(block, have, ours.fault);
     if (!kept || theirs.number != ours.fault.number || theirs.place != ours.fault.place ||
         theirs.records != ours.records)
         differs("block", block, have,
@@ -226,6 +316,12 @@ static void try_recording(struct chance *c, const uint8_t *recording, size_t hav
     struct asterix_recording_checked theirs = asterix_check_recording(lent, have);
     bool kept = unchanged(&input);
     tally(RECORDING, ours.fault.number);
+    if (ours.fault.number == 0) {
+        size_t set = 0;
+        for (size_t at = 0; at < have; at += (size_t)recording[at + 1] * 256 + recording[at + 2])
+            set |= (size_t)1 << category_row(recording[at]);
+        recordings_of[set]++;
+    }
     if (!kept || theirs.number != ours.fault.number || theirs.place != ours.fault.place ||
         theirs.blocks != ours.blocks || theirs.records != ours.records)
         differs("recording", recording, have,
@@ -281,6 +377,8 @@ static struct plain_met try_walk(struct chance *c, const uint8_t *recording, siz
     bool kept = unchanged(&input), same = true;
     tally(WALK, ours.fault.number);
     records_met += ours.met;
+    if (ours.met)
+        records_of[category_row(ours.category)][WALKED]++;
     ends_met += !ours.met && ours.fault.number == 0;
     for (unsigned frn = 1; frn <= ASTERIX_FRNS; frn++)
         same = same && theirs.starts[frn - 1] == ours.starts[frn - 1];
@@ -435,6 +533,8 @@ static size_t try_next(struct chance *c, enum way way, struct logs logs, struct 
                                                  came[i].at.place, came[i].at.end, came[i].at.category };
         memcpy(should + i * MERGED_NUMBERS, numbers, sizeof numbers);
         merged[way][came[i].log ? OF_B : OF_A]++;
+        if (way == BY_NEXT)
+            records_of[category_row(came[i].at.category)][came[i].log ? FROM_B : FROM_A]++;
     }
     merged[way][FINISHED] += count < room;
     lend_logs(c, logs);
@@ -456,23 +556,114 @@ static size_t try_next(struct chance *c, enum way way, struct logs logs, struct 
     return count;
 }
 
+/* ---- The parts of an extended item, and the subfields of a compound one */
+
+static bool has_parts(const struct item *item)
+{
+    return item->layout == EXTENDED || item->layout == COMPOUND;
+}
+
+/* Where the fields of each part start, in a list that has the form of that item; and where they end. */
+static void find_parts(const struct item *item, const int64_t *fields, size_t starts[MOST_PARTS + 1])
+{
+    starts[0] = 0;
+    for (size_t i = 0; i < item->count; i++) {
+        const struct part *part = &item->parts[i];
+        size_t n = fields_of(part);
+        if (fields[starts[i]] == PLAIN_ABSENT)
+            n = 1;
+        else if (item->layout == COMPOUND && is_list(part))
+            n = 1 + (size_t)fields[starts[i]] * n;
+        starts[i + 1] = starts[i] + n;
+    }
+}
+
+static void tally_parts(const struct item *item, const int64_t *fields, enum part_way there)
+{
+    size_t starts[MOST_PARTS + 1];
+    if (!has_parts(item))
+        return;
+    find_parts(item, fields, starts);
+    for (size_t i = 0; i < item->count; i++)
+        parts_met[item - items][i][there + (fields[starts[i]] == PLAIN_ABSENT)]++;
+}
+
+/* The same item with its parts up to the one with this number and no more; its length. 0 where it has none of them. */
+static size_t cut_behind(const struct item *item, size_t last, const uint8_t *octets, size_t have, uint8_t *to)
+{
+    size_t n = 0, primary = octets[0] & 1 ? 2 : 1;
+    uint8_t names[2] = { 0, 0 };
+    if (item->layout == EXTENDED) {
+        for (size_t i = 0; i <= last; i++)
+            n += item->parts[i].octets;
+        memcpy(to, octets, n < have ? n : have);
+        to[n - 1] &= 0xFE;
+        return n < have ? n : have;
+    }
+    for (size_t i = 0; i <= last; i++) {
+        unsigned number = item->parts[i].number - 1;
+        if (number / 7 < primary)
+            names[number / 7] |= octets[number / 7] & 0x80 >> number % 7;
+    }
+    if (!names[0] && !names[1])
+        return 0;
+    to[n++] = names[0] | (names[1] != 0);
+    if (names[1])
+        to[n++] = names[1];
+    memcpy(to + n, octets + primary, have - primary);
+    return n + have - primary;
+}
+
+/* Which part an item is refused for by 9 or 11: the last of the fewest with which it is. */
+static size_t part_at_fault(const struct item *item, const uint8_t *octets, size_t have, unsigned number)
+{
+    static uint8_t some[REGION];
+    static int64_t fields[PLAIN_FIELDS];
+    size_t i = 0;
+    for (; have > 0 && i + 1 < item->count; i++) {
+        size_t n = cut_behind(item, i, octets, have, some);
+        if (n && plain_read_item(item->category, item->reference, some, n, fields).fault.number == number)
+            break;
+    }
+    return i;
+}
+
+static void tally_inside(const struct item *item, const uint8_t *octets, size_t have, unsigned number)
+{
+    size_t row = (size_t)(item - items);
+    if (!has_parts(item) || number == 0 || number > 11)
+        return;
+    if (number < 9)
+        inside_met[row][number - 6]++;
+    else if (item->layout == COMPOUND && (have == 0 || (have == 1 && octets[0] & 1)))
+        inside_met[row][PRIMARY_CUT]++;
+    else
+        parts_met[row][part_at_fault(item, octets, have, number)][number == 9 ? CUT : BAD]++;
+}
+
+/* ---- One item, and adding a record */
+
 /* What `fields` is lent with, and what it should hold: 8,192 numbers that no item has. */
 static int64_t blank[ASTERIX_FIELDS], full[ASTERIX_FIELDS];
 
 static void try_read(struct chance *c, unsigned category, unsigned reference, const uint8_t *item, size_t have)
 {
-    static struct plain_fields ours;
-    ours = plain_read_item(category, reference, item, have);
+    static int64_t told[PLAIN_FIELDS];
+    struct plain_fields ours = plain_read_item(category, reference, item, have, told);
     uint8_t *lent = lend(&input, one_in(c, 2), item, have);
     int64_t *fields = (int64_t *)(void *)lend(&output, one_in(c, 2), blank, sizeof blank);
     struct asterix_item_read theirs = asterix_read_item((uint8_t)category, (uint16_t)reference, lent, have, fields);
-    memcpy(full, ours.field, ours.count * sizeof *full);
+    memcpy(full, told, ours.count * sizeof *full);
     bool kept = unchanged(&input);
     kept = holds(&output, full) && kept;
     memcpy(full, blank, ours.count * sizeof *full);
     tally(READ, ours.fault.number);
-    if (ours.fault.number == 0)
-        read[find_layout(category, reference) - items]++;
+    const struct item *row = find_layout(category, reference);
+    if (ours.fault.number == 0) {
+        read[row - items]++;
+        tally_parts(row, told, READ_THERE);
+    } else if (row)
+        tally_inside(row, item, have, ours.fault.number);
     if (!kept || theirs.number != ours.fault.number || theirs.place != ours.fault.place ||
         theirs.count != ours.count) {
         char question[40];
@@ -483,8 +674,9 @@ static void try_read(struct chance *c, unsigned category, unsigned reference, co
     }
 }
 
-static void try_write(struct chance *c, unsigned category, unsigned reference, const int64_t *fields, size_t count,
-                      const uint8_t *old, size_t room)
+/* Answers the number that the plain implementation gives. */
+static unsigned try_write(struct chance *c, unsigned category, unsigned reference, const int64_t *fields,
+                          size_t count, const uint8_t *old, size_t room)
 {
     static uint8_t should[REGION];
     memcpy(should, old, room);
@@ -496,17 +688,21 @@ static void try_write(struct chance *c, unsigned category, unsigned reference, c
     bool kept = unchanged(&input);
     kept = (ours.fault.number ? unchanged(&output) : holds(&output, should)) && kept;
     tally(WRITE, ours.fault.number);
-    if (ours.fault.number == 0)
+    if (ours.fault.number == 0) {
         written[find_layout(category, reference) - items]++;
+        tally_parts(find_layout(category, reference), fields, WRITTEN_THERE);
+    }
     if (!kept || theirs.number != ours.fault.number || theirs.place != ours.fault.place ||
         theirs.length != ours.length) {
         char question[80];
-        snprintf(question, sizeof question, "write %u %03u %zu, %zu fields from %" PRId64 " on; plain writes",
-                 category, reference, room, count, count ? fields[0] : 0);
+        snprintf(question, sizeof question, "write %u %03u %zu, %zu fields; plain writes", category, reference, room,
+                 count);
         differs(question, should, ours.length,
                 answers(text, sizeof text, ours.fault, ours.length, 0, theirs.number, theirs.place, theirs.length, 0,
                         kept));
+        print_fields(fields, count);
     }
+    return ours.fault.number;
 }
 
 static void try_add(struct chance *c, const uint8_t *old, size_t room, size_t used, uint64_t frns, const uint8_t *new,
@@ -522,6 +718,10 @@ static void try_add(struct chance *c, const uint8_t *old, size_t room, size_t us
     kept = (ours.fault.number ? unchanged(&output) : holds(&output, should)) && kept;
     bool in_new = ours.fault.number && ours.in_new;
     tally(ours.fault.number && !in_new ? ADD_OLD : ADD_NEW, ours.fault.number);
+    if (ours.fault.number == 0)
+        records_of[category_row(should[0])][ADDED]++;
+    if (in_new && ours.fault.number >= 6 && ours.fault.number <= 8 && ours.fault.place > 0)
+        in_new_items[ours.fault.number - 6]++;
     if (!kept || theirs.number != ours.fault.number || theirs.place != ours.fault.place || theirs.in_new != in_new ||
         theirs.length != ours.length) {
         answers(text, sizeof text, ours.fault, ours.length, in_new, theirs.number, theirs.place, theirs.length,
@@ -532,6 +732,8 @@ static void try_add(struct chance *c, const uint8_t *old, size_t room, size_t us
         printf("\n");
     }
 }
+
+/* ---- Sheets */
 
 /* The fault that a number, a place and the sheet's length tell. */
 static void tally_fault(struct plain_fault fault, size_t have)
@@ -705,13 +907,8 @@ static void try_change(struct chance *c, enum call call, const uint8_t *sheet, s
 /* ---- Inputs */
 
 static uint8_t block[REGION], octets[REGION], out[REGION];
-static int64_t fields[PLAIN_FIELDS + 300];
+static int64_t fields[ASTERIX_FIELDS];
 static struct sketch sketch;
-
-static unsigned draw_category(struct chance *c)
-{
-    return 17 + (unsigned)below(c, 2);
-}
 
 /* The category and reference of an item, or, one time in sixteen, of none. */
 static void draw_reference(struct chance *c, unsigned row, unsigned *category, unsigned *reference)
@@ -720,16 +917,26 @@ static void draw_reference(struct chance *c, unsigned row, unsigned *category, u
     *reference = items[row].reference;
     if (one_in(c, 16)) {
         if (one_in(c, 2))
-            *category = one_in(c, 2) ? 35 - *category : (unsigned)below(c, 256);
+            *category = one_in(c, 2) ? any_category(c) : (unsigned)below(c, 256);
         else
             *reference = (unsigned)below(c, one_in(c, 2) ? 400 : 65536);
+    }
+}
+
+/* A message type: one time in twelve one that compound items are sent with. */
+static unsigned draw_type(struct chance *c)
+{
+    for (bool any_type = !one_in(c, 12);;) {
+        unsigned message = (unsigned)below(c, COUNT(messages));
+        if (any_type || is_in(messages[message].may, 130))
+            return message;
     }
 }
 
 static void input_block(struct chance *c)
 {
     bool legal = one_in(c, 3);
-    unsigned message = (unsigned)below(c, COUNT(messages));
+    unsigned message = draw_type(c);
     size_t have, records = 1;
     if (one_in(c, 2)) { /* one record of each message type in turn */
         make_sketch(c, message, !legal, &sketch);
@@ -740,7 +947,7 @@ static void input_block(struct chance *c)
     } else {
         message = COUNT(messages);
         records = one_in(c, 100) ? 40 : between(c, 1, 4);
-        have = make_block(c, draw_category(c), records, !legal, block, 60000);
+        have = make_block(c, any_category(c), records, !legal, block, 60000);
     }
     if (!legal && one_in(c, 2))
         for (size_t n = between(c, 1, 2); n > 0; n--)
@@ -796,7 +1003,7 @@ static struct plain_cursor damage_cursor(struct chance *c, struct plain_cursor a
         at.end = some;
         break;
     case 3:
-        at.category = one_in(c, 2) ? 35 - at.category % 36 : (unsigned)below(c, 256);
+        at.category = one_in(c, 2) ? any_category(c) : (unsigned)below(c, 256);
         break;
     case 4:
         at.place = one_in(c, 2) ? at.place - few : at.place + few;
@@ -811,7 +1018,7 @@ static struct plain_cursor damage_cursor(struct chance *c, struct plain_cursor a
         at.block = at.end - 65534 - few;
         break;
     case 8: /* all of the recording as records */
-        at = (struct plain_cursor){ 0, below(c, have + 1), have, 17 + (unsigned)below(c, 2) };
+        at = (struct plain_cursor){ 0, below(c, have + 1), have, any_category(c) };
         break;
     case 9: /* before a block at any place */
         at = (struct plain_cursor){ some, some, some, (unsigned)below(c, 256) };
@@ -863,7 +1070,7 @@ static size_t draw_recording(struct chance *c, uint8_t *to)
 {
     size_t have = 0;
     for (size_t blocks = below(c, 5); blocks > 0; blocks--) {
-        size_t n = make_block(c, draw_category(c), between(c, 1, 3), one_in(c, 6), block, 16000);
+        size_t n = make_block(c, any_category(c), between(c, 1, 3), one_in(c, 6), block, 16000);
         if (one_in(c, 6))
             damage_block(c, block, &n);
         if (have + n > REGION - GUARD)
@@ -934,7 +1141,7 @@ static size_t draw_log(struct chance *c, uint32_t time, uint8_t *to)
         return draw_recording(c, to);
     case 2: /* its last block, or its only one, damaged; or a packet with a length that is too small */
         have = make_timed(c, below(c, 2), time, to, REGION / 2);
-        n = make_block(c, draw_category(c), 1, one_in(c, 2), to + have, 16000);
+        n = make_block(c, any_category(c), 1, one_in(c, 2), to + have, 16000);
         if (one_in(c, 12))
             memcpy(to + have, packet, n = sizeof packet);
         else
@@ -1048,8 +1255,37 @@ static void damage_merge(struct chance *c, struct plain_merge *merge, const stru
     }
 }
 
+/* One octet of a log changed, mostly in an item that is of no fixed length. */
+static void damage_log(struct chance *c, uint8_t *log, size_t have)
+{
+    size_t at = have ? below(c, have) : 0, seen = 0;
+    struct plain_met met = plain_next_record(log, have, (struct plain_cursor){ 0, 0, 0, 0 });
+    for (; met.met; met = plain_next_record(log, have, met.next))
+        for (unsigned frn = 1; frn <= last_frn(met.category); frn++)
+            if (met.starts[frn - 1] && layout_at(met.category, frn)->layout != FIXED && one_in(c, ++seen))
+                at = met.block + met.starts[frn - 1] + below(c, 5);
+    if (at < have)
+        log[at] = one_in(c, 3) ? log[at] | 1 : one_in(c, 2) ? log[at] ^ (1u << below(c, 8)) : (uint8_t)any(c);
+}
+
+/* Merges of a run, where the logs are no longer those that were checked. */
+static void input_other_logs(struct chance *c, struct logs logs, const struct plain_merge *kept, size_t have)
+{
+    static uint8_t log_a[REGION], log_b[REGION];
+    memcpy(log_a, logs.a, logs.a_len);
+    memcpy(log_b, logs.b, logs.b_len);
+    for (size_t n = 0; n < 2; n++) {
+        struct plain_merge merge = kept[below(c, have)];
+        struct plain_merged came[MOST_MERGED];
+        damage_log(c, log_a, logs.a_len);
+        damage_log(c, log_b, logs.b_len);
+        try_next(c, BY_DAMAGED, (struct logs){ log_a, log_b, logs.a_len, logs.b_len }, &merge, came, MOST_MERGED);
+    }
+}
+
 /* Both logs from their first records to their ends: by the next records of a merge, some at a time, and now and then
- * by steps as well, which must be the same; then damaged merges of that run, and those of the run before. */
+ * by steps as well, which must be the same; then damaged merges of that run, and those of the run before; then merges
+ * of that run with damaged logs. */
 static void input_run(struct chance *c, struct logs logs, int64_t offset)
 {
     enum { KEPT = 16 };
@@ -1087,6 +1323,7 @@ static void input_run(struct chance *c, struct logs logs, int64_t offset)
         for (size_t steps = between(c, 1, 2); steps > 0; steps--)
             try_next(c, BY_DAMAGED, logs, &merge, came, below(c, MOST_MERGED + 1));
     }
+    input_other_logs(c, logs, kept, have);
 }
 
 static void input_merge(struct chance *c)
@@ -1100,14 +1337,26 @@ static void input_merge(struct chance *c)
     input_run(c, logs, draw_offset(c));
 }
 
+/* An item's row: one time in three of an extended or compound one. */
+static unsigned draw_row(struct chance *c)
+{
+    for (bool any_item = !one_in(c, 3);;) {
+        unsigned row = (unsigned)below(c, COUNT(items));
+        if (any_item || has_parts(&items[row]))
+            return row;
+    }
+}
+
 static void input_read(struct chance *c)
 {
-    unsigned row = (unsigned)below(c, COUNT(items)), category, reference;
+    unsigned row = draw_row(c), category, reference;
     draw_reference(c, row, &category, &reference);
     bool barred = one_in(c, 4);
     size_t have = make_item(c, row, barred, octets);
     if (barred && one_in(c, 2)) {
         /* as it is */
+    } else if (has_parts(&items[row]) && one_in(c, 4)) { /* cut anywhere, often near its start */
+        have = below(c, one_in(c, 2) && have > 12 ? 12 : have);
     } else if (one_in(c, 8)) {
         have = below(c, 12);
         for (size_t i = 0; i < have; i++)
@@ -1119,10 +1368,13 @@ static void input_read(struct chance *c)
 
 static int64_t draw_near(struct chance *c, int64_t value)
 {
-    static const int64_t ends[] = { -4194305, -4194304, 4194303,  4194304,  -8388609,  -8388608, 8388607, 8388608,
-                                    11059199, 11059200, 32768,    32769,    -8193,     -8192,    8191,    8192,
-                                    -32769,   -32768,   32767,    65535,    65536,     255,      256,     -1,
-                                    0,        1,        16777215, 16777216, INT64_MIN, INT64_MAX };
+    static const int64_t ends[] = { -4194305, -4194304,  4194303,   4194304,  -8388609, -8388608,  8388607,
+                                    8388608,  11059199,  11059200,  32768,    32769,    -8193,     -8192,
+                                    8191,     8192,      -32769,    -32768,   32767,    65535,     65536,
+                                    255,      256,       -1,        0,        1,        16777215,  16777216,
+                                    16777217, -16777216, -16777217, 33554432, 33554433, -33554432, -33554433,
+                                    -60,      -61,       6000,      6001,     3,        4,         3600,
+                                    3601,     INT64_MIN, INT64_MAX };
     switch (below(c, 5)) {
     case 0:
         return ends[below(c, COUNT(ends))];
@@ -1139,49 +1391,127 @@ static int64_t draw_near(struct chance *c, int64_t value)
     }
 }
 
+/* Other fields in the place of those from `at` to `end`; how many there then are. */
+static size_t put_fields(size_t count, size_t at, size_t end, const int64_t *from, size_t n)
+{
+    memmove(fields + at + n, fields + end, (count - end) * sizeof *fields);
+    memcpy(fields + at, from, n * sizeof *fields);
+    return count - (end - at) + n;
+}
+
+/* A list of 256 parts that is told as such, or a count that is none; how many fields there then are. */
+static size_t bar_count(struct chance *c, const struct part *part, size_t count, size_t at, size_t end)
+{
+    static const int64_t some[] = { 256, -1, 511, INT64_MAX, -255 };
+    static const int64_t zeros[1 + 256 * 8] = { 256 };
+    if (one_in(c, 3) && count + COUNT(zeros) <= COUNT(fields))
+        return put_fields(count, at, end, zeros, 1 + 256 * fields_of(part));
+    fields[at] = some[below(c, COUNT(some))];
+    return count;
+}
+
+/* Brings the fields of an extended or compound item into a form that they may not have, or exchanges a part that is
+ * there for an absent one, or the other way round. What was done, and how many fields there then are. */
+static enum form damage_form(struct chance *c, const struct item *item, size_t *count)
+{
+    static const int64_t zeros[MOST_PARTS + 32];
+    int64_t absent[MOST_PARTS];
+    for (size_t i = 0; i < MOST_PARTS; i++)
+        absent[i] = PLAIN_ABSENT;
+    size_t starts[MOST_PARTS + 1], i = below(c, item->count);
+    find_parts(item, fields, starts);
+    const struct part *part = &item->parts[i];
+    size_t at = starts[i], end = starts[i + 1];
+    bool there = fields[at] != PLAIN_ABSENT, compound = item->layout == COMPOUND, list = compound && is_list(part);
+    size_t inner = at + list + 1, zeroed = list ? 1 : fields_of(part);
+    switch (below(c, 6)) {
+    case 0:
+        if (compound || i < 2)
+            break;
+        if (!there)
+            *count = put_fields(*count, at, end, zeros, zeroed);
+        *count = put_fields(*count, starts[i - 1], at, absent, 1);
+        return AFTER_ABSENT;
+    case 1:
+        if (!compound)
+            break;
+        *count = put_fields(*count, 0, *count, absent, item->count);
+        return NO_SUBFIELD;
+    case 2:
+        if (!list)
+            break;
+        *count = bar_count(c, part, *count, at, end);
+        return BARRED_COUNT;
+    case 3:
+        if (!list || !there)
+            break;
+        fields[at] += one_in(c, 2) ? 1 : -1;
+        return OTHER_COUNT;
+    case 4: /* where no part begins, or where an extended item does */
+        if (!there || inner >= end)
+            break;
+        fields[!compound && i == 0 && one_in(c, 2) ? 0 : between(c, inner, end - 1)] = PLAIN_ABSENT;
+        return ABSENT_INSIDE;
+    }
+    *count = there ? put_fields(*count, at, end, absent, 1) : put_fields(*count, at, end, zeros, zeroed);
+    return EXCHANGED;
+}
+
+/* As many parts as a list may have, or contents as a length octet tells, or as few; or one less or more. */
+static size_t draw_fields_of(struct chance *c, const struct item *item)
+{
+    size_t each = item->layout == LIST ? fields_of(item->parts) : 1;
+    size_t least = item->layout == LIST ? item->parts->least : 2,
+           most = item->layout == LIST ? item->parts->most : 254;
+    size_t parts = (one_in(c, 3) ? least : most) + below(c, 3);
+    return parts == 0 ? 0 : (parts - 1) * each + one_in(c, 6);
+}
+
 static void input_write(struct chance *c)
 {
-    unsigned row = (unsigned)below(c, COUNT(items)), category, reference;
-    static struct plain_fields legal;
+    unsigned row = draw_row(c), category, reference;
+    const struct item *item = &items[row];
     size_t have = make_item(c, row, false, octets);
-    legal = plain_read_item(items[row].category, items[row].reference, octets, have);
-    size_t count = legal.count;
-    memcpy(fields, legal.field, count * sizeof *fields);
+    size_t count = plain_read_item(item->category, item->reference, octets, have, fields).count;
+    enum form form = AS_IT_IS;
     draw_reference(c, row, &category, &reference);
-    if (one_in(c, 3))
+    if (has_parts(item) && one_in(c, 3))
+        form = damage_form(c, item, &count);
+    else if (one_in(c, 3))
         for (size_t n = between(c, 1, 2); n > 0 && count > 0; n--) {
             size_t at = below(c, count);
             fields[at] = draw_near(c, fields[at]);
         }
-    if (one_in(c, 30)) { /* as many as the longest lists and led items have, or a few more */
-        count = (one_in(c, 2) ? 255 : 510) - 3 + below(c, 6);
+    if ((item->layout == LIST || item->layout == LED) && one_in(c, 6)) {
+        count = draw_fields_of(c, item);
         for (size_t i = 0; i < count; i++)
             fields[i] = (int64_t)below(c, 256);
-        have = MOST_ITEM_OCTETS;
+        have = 1 + count * 4;
     }
-    if (one_in(c, 6)) { /* fewer, or more, than the item has */
+    if (form == AS_IT_IS && one_in(c, 6)) { /* fewer, or more, than the item has */
         size_t more = one_in(c, 3) ? between(c, 1, 300) : between(c, 1, 2);
         if (one_in(c, 2))
             count -= count < more ? count : more;
         else
             for (; more > 0 && count < COUNT(fields); more--)
-                fields[count++] = one_in(c, 2) ? 0 : (int64_t)below(c, 256);
+                fields[count++] = one_in(c, 2) ? 0 : one_in(c, 4) ? PLAIN_ABSENT : (int64_t)below(c, 256);
     }
     size_t room = one_in(c, 4) ? below(c, have + 1) : one_in(c, 2) ? have : have + below(c, 20);
     for (size_t i = 0; i < room; i++)
         out[i] = (uint8_t)any(c);
-    try_write(c, category, reference, fields, count, out, room);
+    if (try_write(c, category, reference, fields, count, out, room) == 11)
+        forms_refused[form]++;
 }
 
 static void input_add(struct chance *c)
 {
-    unsigned category = draw_category(c);
-    size_t used = make_block(c, category, one_in(c, 3) ? 0 : between(c, 1, 3), one_in(c, 16), out, 16000);
+    unsigned category = any_category(c);
+    size_t used = make_block(c, category, one_in(c, 3) ? 0 : between(c, 1, 3), one_in(c, 8), out, 16000);
     if (one_in(c, 8))
         damage_block(c, out, &used);
     unsigned message;
     do
-        message = (unsigned)below(c, COUNT(messages));
+        message = draw_type(c);
     while (messages[message].category != category && !one_in(c, 100));
     make_sketch(c, message, one_in(c, 2), &sketch);
     size_t have = sketch.length;
@@ -1207,7 +1537,7 @@ static void input_long_walk(struct chance *c, unsigned category, const uint8_t *
     size_t have = used;
     memcpy(octets, large, used);
     while (have < 65600) {
-        size_t n = make_block(c, draw_category(c), 3, false, block, 4000);
+        size_t n = make_block(c, any_category(c), 3, false, block, 4000);
         memcpy(octets + have, block, n);
         have += n;
     }
@@ -1225,11 +1555,17 @@ static void input_long_walk(struct chance *c, unsigned category, const uint8_t *
 /* Blocks near 65,535 octets, and a record whose length is chosen to end there: the last that fits, and 17. */
 static void input_large(struct chance *c, struct chance *w)
 {
-    unsigned category = draw_category(c);
+    unsigned category = any_category(c);
     size_t used = make_block(c, category, 20000, false, out, between(c, 65200, 65535));
     input_long_walk(w, category, out, used);
     size_t to = 65533 + below(c, 6), n = to > used ? to - used : 0;
-    if (category == 17) { /* New Node: source, destination, type 30, addresses */
+    if (category == 61) { /* Request for Disconnection: SDPS, type, user, time, report */
+        size_t parts = n < 11 ? 1 : n - 10 < 255 ? n - 10 : 255;
+        sketch =
+            (struct sketch){ .frns = (uint64_t)7 << 60 | (uint64_t)1 << 58 | (uint64_t)1 << 51, .length = 8 + parts };
+        sketch.items[2] = 0x12;
+        sketch.items[7] = (uint8_t)parts;
+    } else if (category == 17) { /* New Node: source, destination, type 30, addresses */
         size_t parts = n < 8 ? 0 : (n - 8) / 3 < 255 ? (n - 8) / 3 : 255;
         sketch = (struct sketch){ .frns = (uint64_t)7 << 60 | (uint64_t)1 << 49, .length = 6 + 3 * parts };
         sketch.items[4] = 30;
@@ -1527,10 +1863,123 @@ static void report_sheets(void)
     }
 }
 
+/* Whether a part can be at fault by 11: it has a spare bit, a printed range or a range of counts. */
+static bool can_be_bad(const struct part *part)
+{
+    bool can = is_list(part) && (part->least > 0 || part->most < 255);
+    for (const struct field *f = part->fields; f->high; f++)
+        can = can || f->is == SPARE || f->least < f->most;
+    return can;
+}
+
+static void report_parts(const struct item *item)
+{
+    char row[40];
+    bool compound = item->layout == COMPOUND;
+    for (size_t i = 0; i < item->count; i++) {
+        snprintf(row, sizeof row, compound ? "I%03u/%03u #%u" : "I%03u/%03u, %u", item->category, item->reference,
+                 compound ? item->parts[i].number : (unsigned)i + 1);
+        printf("%-18s", row);
+        for (enum part_way way = 0; way < PART_WAYS; way++) {
+            bool first = !compound && i == 0, absent = way == READ_ABSENT || way == WRITTEN_ABSENT;
+            report_count(parts_met[item - items][i][way],
+                         way == BAD ? can_be_bad(&item->parts[i]) : !(first && absent), part_name[way], row);
+        }
+        printf("\n");
+    }
+}
+
+/* What was met inside of extended and compound items. */
+static void report_items(void)
+{
+    char row[40];
+    printf("%-18s", "parts, subfields");
+    for (enum part_way way = 0; way < PART_WAYS; way++)
+        printf("%16s", part_name[way]);
+    printf("\n");
+    for (size_t i = 0; i < COUNT(items); i++)
+        if (has_parts(&items[i]))
+            report_parts(&items[i]);
+    printf("%-18s", "read_item");
+    for (enum inside in = 0; in < INSIDES; in++)
+        printf("%16s", inside_name[in]);
+    printf("\n");
+    for (size_t i = 0; i < COUNT(items); i++) {
+        if (!has_parts(&items[i]))
+            continue;
+        snprintf(row, sizeof row, "I%03u/%03u", items[i].category, items[i].reference);
+        printf("%-18s", row);
+        for (enum inside in = 0; in < INSIDES; in++)
+            report_count(inside_met[i][in], in == PAST || items[i].layout == COMPOUND, inside_name[in], row);
+        printf("\n");
+    }
+    for (unsigned n = 0; n < 3; n++) {
+        printf("%u of an item: check_block %zu, add (new) %zu\n", n + 6, in_blocks[n], in_new_items[n]);
+        if (!in_blocks[n] || !in_new_items[n])
+            lacks("never met of an item: ", inside_name[n]);
+    }
+    for (enum form form = 0; form < FORMS; form++) {
+        if (!*form_name[form])
+            continue;
+        printf("write_item refused %zu times: %s\n", forms_refused[form], form_name[form]);
+        if (!forms_refused[form])
+            lacks("never refused: ", form_name[form]);
+    }
+}
+
+/* By category: recordings that were accepted, and records. */
+static void report_categories(void)
+{
+    char row[40];
+    for (size_t set = 1; set < COUNT(recordings_of); set++) {
+        size_t n = 0;
+        for (size_t i = 0; i < COUNT(categories); i++)
+            if (set >> i & 1)
+                n += (size_t)snprintf(row + n, sizeof row - n, " %03u", categories[i].number);
+        printf("recordings of%s: %zu\n", row, recordings_of[set]);
+        if (!recordings_of[set])
+            lacks("never accepted: a recording of", row);
+    }
+    printf("%-18s", "records of");
+    for (enum record_way way = 0; way < RECORD_WAYS; way++)
+        printf("%16s", record_name[way]);
+    printf("\n");
+    for (size_t i = 0; i < COUNT(categories); i++) {
+        snprintf(row, sizeof row, "%03u", categories[i].number);
+        printf("%-18s", row);
+        for (enum record_way way = 0; way < RECORD_WAYS; way++)
+            report_count(records_of[i][way], true, record_name[way], row);
+        printf("\n");
+    }
+}
+
+/* The fewest times that a message type was accepted, and refused by 14 and by 15. */
+static void report_types(void)
+{
+    char line[40];
+    size_t fewest[3] = { SIZE_MAX, SIZE_MAX, SIZE_MAX };
+    for (unsigned i = 0; i < COUNT(messages); i++) {
+        const size_t counts[3] = { types_accepted[i], types_refused[i][0], types_refused[i][1] };
+        static const char *const never[3] = { "message type never accepted: ", "message type never refused by 14: ",
+                                              "message type never refused by 15: " };
+        snprintf(line, sizeof line, "%03u of category %03u", messages[i].type, messages[i].category);
+        for (unsigned n = 0; n < 3; n++) {
+            fewest[n] = counts[n] < fewest[n] ? counts[n] : fewest[n];
+            if (!counts[n])
+                lacks(never[n], line);
+        }
+    }
+    printf("each of %zu message types: accepted %zu times or more, refused by 14 %zu or more, by 15 %zu or more\n",
+           COUNT(messages), fewest[0], fewest[1], fewest[2]);
+}
+
 static void report(void)
 {
     char line[200];
     report_calls(0, SHEET_READ);
+    report_types();
+    report_items();
+    report_categories();
     report_calls(SHEET_READ, CALLS);
     report_sheets();
     printf("next_record met %zu records and %zu ends\n", records_met, ends_met);
@@ -1547,11 +1996,6 @@ static void report(void)
                 lacks("never met: ", line);
         }
         printf("\n");
-    }
-    for (unsigned i = 0; i < COUNT(messages); i++) {
-        snprintf(line, sizeof line, "%03u of category %03u", messages[i].type, messages[i].category);
-        if (!types_accepted[i])
-            lacks("message type never accepted: ", line);
     }
     for (unsigned i = 0; i < COUNT(items); i++) {
         snprintf(line, sizeof line, "I%03u/%03u", items[i].category, items[i].reference);

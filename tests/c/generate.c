@@ -30,7 +30,12 @@ bool one_in(struct chance *c, size_t n)
     return below(c, n) == 0;
 }
 
-/* ---- Legal items */
+unsigned any_category(struct chance *c)
+{
+    return categories[below(c, COUNT(categories))].number;
+}
+
+/* ---- Legal items, and barred ones */
 
 /* A value of a field's range, its ends often; `barred`: perhaps the next one outside of a printed range. */
 static int64_t draw_value(struct chance *c, struct field f, bool barred)
@@ -54,60 +59,139 @@ static int64_t draw_value(struct chance *c, struct field f, bool barred)
     }
 }
 
-static void draw_part(struct chance *c, const struct field *fields, unsigned octets, bool barred, uint8_t *to)
+static void draw_part(struct chance *c, const struct part *part, bool barred, uint8_t *to)
 {
-    memset(to, 0, octets);
-    for (; fields->high; fields++) {
-        if (fields->is == SPARE)
+    memset(to, 0, part->octets);
+    for (const struct field *f = part->fields; f->high; f++) {
+        if (f->is == SPARE && !(barred && one_in(c, 4)))
             continue;
-        int64_t value = draw_value(c, *fields, barred);
-        for (unsigned bit = fields->low; bit <= fields->high; bit++)
-            to[octets - 1 - (bit - 1) / 8] |= (uint8_t)((value >> (bit - fields->low) & 1) << (bit - 1) % 8);
+        int64_t value = f->is == SPARE ? (int64_t)1 << below(c, f->high - f->low + 1) : draw_value(c, *f, barred);
+        for (unsigned bit = f->low; bit <= f->high; bit++)
+            to[part->octets - 1 - (bit - 1) / 8] |= (uint8_t)((value >> (bit - f->low) & 1) << (bit - 1) % 8);
     }
 }
 
-size_t make_item(struct chance *c, unsigned row, bool barred, uint8_t *to)
+/* One part, or a list: mostly of a few parts, seldom of as many as it may have. */
+static size_t draw_parts(struct chance *c, const struct part *part, bool barred, uint8_t *to)
 {
-    const struct item *item = &items[row];
-    size_t parts;
-    switch (item->layout) {
-    case FIXED:
-        draw_part(c, item->first, item->octets, barred, to);
-        return item->octets;
-    case LIST:
-    case SOME:
-        parts = one_in(c, 20) ? between(c, 1, 255) : between(c, 1, 12);
-        if (one_in(c, 6) && (barred || item->layout == LIST))
-            parts = 0;
-        to[0] = (uint8_t)parts;
-        for (size_t i = 0; i < parts; i++)
-            draw_part(c, item->first, item->octets, barred, to + 1 + i * item->octets);
-        return 1 + parts * item->octets;
-    case LED:
-        parts = one_in(c, 12) ? between(c, 3, 255) : between(c, 3, 9);
-        to[0] = (uint8_t)parts;
-        for (size_t i = 1; i < parts; i++)
-            to[i] = (uint8_t)any(c);
-        if (barred && one_in(c, 2))
-            to[0] = (uint8_t)below(c, 3);
-        return parts;
-    case EXTENDED:
-        draw_part(c, item->first, 1, barred, to);
-        if (one_in(c, 2))
-            return 1;
-        to[0] |= 1;
-        draw_part(c, item->extent, 1, barred, to + 1);
-        return 2;
+    if (!is_list(part)) {
+        draw_part(c, part, barred, to);
+        return part->octets;
     }
-    return 0;
+    size_t least = part->least > 1 ? part->least : 1;
+    bool large = part->octets > 4 || part->number; /* subfields stand together: fewer parts */
+    size_t parts = one_in(c, large ? 100 : 20) ? between(c, least, part->most) : between(c, least, large ? 5 : 12);
+    if (one_in(c, 6) && part->least == 0)
+        parts = 0;
+    if (barred && one_in(c, 3))
+        parts = part->most < 255 ? part->most + 1 : part->least > 0 ? below(c, part->least) : parts;
+    to[0] = (uint8_t)parts;
+    for (size_t i = 0; i < parts; i++)
+        draw_part(c, part, barred, to + 1 + i * part->octets);
+    return 1 + parts * part->octets;
 }
 
-/* ---- Records */
+/* `barred`: perhaps with FX in the last part that is printed. */
+static size_t draw_extended(struct chance *c, const struct item *item, bool barred, uint8_t *to)
+{
+    bool past = barred && one_in(c, 2);
+    size_t n = 0;
+    for (size_t i = 0; i < item->count; i++) {
+        draw_part(c, &item->parts[i], barred, to + n);
+        n += item->parts[i].octets;
+        if (i + 1 < item->count ? !past && one_in(c, 2) : !past)
+            break;
+        to[n - 1] |= 1;
+    }
+    return n;
+}
 
 static uint64_t frn_bit(unsigned frn)
 {
     return (uint64_t)1 << (63 - frn);
 }
+
+/* The octets of presence bits for a set; how many. */
+static size_t put_presence(uint64_t frns, uint8_t *to)
+{
+    size_t octets = 1;
+    for (unsigned frn = 1; frn < 64; frn++)
+        if (frns & frn_bit(frn))
+            octets = (frn + 6) / 7;
+    for (size_t i = 0; i < octets; i++)
+        to[i] = (uint8_t)(frns << (7 * i + 1) >> 57 << 1 | (i + 1 < octets));
+    return octets;
+}
+
+/* Some subfields, at least one: one alone, all, or each as likely as not. */
+static uint64_t draw_subfields(struct chance *c, const struct item *item)
+{
+    uint64_t set = frn_bit(item->parts[below(c, item->count)].number);
+    size_t which = below(c, 6);
+    for (size_t i = 0; i < item->count; i++)
+        if (which == 1 || (which > 1 && one_in(c, 2)))
+            set |= frn_bit(item->parts[i].number);
+    return set;
+}
+
+/* The bit of a subfield that is not printed. */
+static uint64_t draw_unprinted(struct chance *c, const struct item *item)
+{
+    unsigned last = item->parts[item->count - 1].number;
+    return frn_bit(item->reference == 240 && one_in(c, 2) ? 2 : (unsigned)between(c, last + 1, 14));
+}
+
+/* `barred`: perhaps with FX in its second primary octet, which is the last of each; with a last one that is empty; with
+ * the bit of a subfield that is not printed; or with some of these together. */
+static size_t draw_compound(struct chance *c, const struct item *item, bool barred, uint8_t *to)
+{
+    uint64_t set = draw_subfields(c, item);
+    size_t faults = barred && one_in(c, 2) ? between(c, 1, 7) : 0;
+    if (faults & 1)
+        set |= draw_unprinted(c, item);
+    size_t n = put_presence(set, to);
+    if (faults & 2 && n == 1 && one_in(c, 2))
+        to[0] = 0;
+    else if (faults & 6) {
+        to[0] |= 1;
+        to[1] = n == 1 || faults & 2 ? 0 : to[1];
+        n = 2;
+    }
+    if (faults & 4)
+        to[n - 1] |= 1;
+    for (size_t i = 0; i < item->count; i++)
+        if (set & frn_bit(item->parts[i].number))
+            n += draw_parts(c, &item->parts[i], barred, to + n);
+    return n;
+}
+
+static size_t draw_led(struct chance *c, bool barred, uint8_t *to)
+{
+    size_t octets = one_in(c, 12) ? between(c, 3, 255) : between(c, 3, 9);
+    to[0] = (uint8_t)octets;
+    for (size_t i = 1; i < octets; i++)
+        to[i] = (uint8_t)any(c);
+    if (barred && one_in(c, 2))
+        to[0] = (uint8_t)below(c, 3);
+    return octets;
+}
+
+size_t make_item(struct chance *c, unsigned row, bool barred, uint8_t *to)
+{
+    const struct item *item = &items[row];
+    switch (item->layout) {
+    case LED:
+        return draw_led(c, barred, to);
+    case EXTENDED:
+        return draw_extended(c, item, barred, to);
+    case COMPOUND:
+        return draw_compound(c, item, barred, to);
+    default:
+        return draw_parts(c, item->parts, barred, to);
+    }
+}
+
+/* ---- Records */
 
 static unsigned row_at(unsigned category, unsigned frn)
 {
@@ -116,7 +200,7 @@ static unsigned row_at(unsigned category, unsigned frn)
 
 static int time_reference(unsigned category)
 {
-    return category == 17 ? 140 : 2;
+    return find_category(category)->time;
 }
 
 void make_sketch(struct chance *c, unsigned message, bool twist, struct sketch *to)
@@ -126,7 +210,7 @@ void make_sketch(struct chance *c, unsigned message, bool twist, struct sketch *
     uint64_t frns = 0;
     for (unsigned frn = 1; frn <= last_frn(category); frn++) {
         int reference = reference_at(category, frn);
-        if (frn <= TYPE_FRN || is_in(messages[message].must, reference) ||
+        if (frn <= IN_EVERY || is_in(messages[message].must, reference) ||
             (is_in(messages[message].may, reference) && one_in(c, 2)))
             frns |= frn_bit(frn);
     }
@@ -136,9 +220,9 @@ void make_sketch(struct chance *c, unsigned message, bool twist, struct sketch *
         switch (below(c, 8)) {
         case 0: /* one of its items dropped, or one put in */
         case 1:
-            for (unsigned tries = 0; tries < 20; tries++) {
+            for (unsigned tries = 0, put_in = one_in(c, 2); tries < 40; tries++) {
                 unsigned frn = (unsigned)between(c, 1, last_frn(category));
-                if (reference_at(category, frn) != NONE && ((frns & frn_bit(frn)) != 0) == (tries < 10)) {
+                if (reference_at(category, frn) != NONE && ((frns & frn_bit(frn)) == 0) == put_in) {
                     frns ^= frn_bit(frn);
                     break;
                 }
@@ -172,7 +256,7 @@ void make_sketch(struct chance *c, unsigned message, bool twist, struct sketch *
         if (reference_at(category, frn) == time_reference(category))
             to->time = to->length;
         size_t n = make_item(c, row_at(category, frn), barred, at);
-        if (frn == TYPE_FRN)
+        if (frn == type_frn(category))
             at[0] = type;
         if (fault != NONE && fault-- == 0)
             damage(c, at, &n);
@@ -182,24 +266,23 @@ void make_sketch(struct chance *c, unsigned message, bool twist, struct sketch *
 
 size_t make_record(const struct sketch *from, uint8_t *to)
 {
-    size_t octets = 0;
-    for (unsigned frn = 1; frn <= last_frn(from->category); frn++)
-        if (from->frns & frn_bit(frn))
-            octets = (frn + 6) / 7;
-    if (octets == 0)
-        octets = 1;
-    for (size_t i = 0; i < octets; i++)
-        to[i] = (uint8_t)(from->frns << (7 * i + 1) >> 57 << 1 | (i + 1 < octets));
+    size_t octets = put_presence(from->frns, to);
     memcpy(to + octets, from->items, from->length);
     return octets + from->length;
 }
 
 /* ---- Blocks */
 
+/* Those of 017 and 018 are drawn among each other, whatever other categories there are: so the recordings of both that
+ * bench/ times stay the same. */
 static unsigned draw_message(struct chance *c, unsigned category)
 {
+    size_t of_061 = 0;
+    while (messages[of_061].category != 61)
+        of_061++;
+    size_t from = category == 61 ? of_061 : 0, to = category == 61 ? COUNT(messages) : of_061;
     for (;;) {
-        unsigned message = (unsigned)below(c, COUNT(messages));
+        unsigned message = (unsigned)(from + below(c, to - from));
         if (messages[message].category == category)
             return message;
     }
@@ -253,7 +336,7 @@ size_t make_timed(struct chance *c, size_t records, uint32_t time, uint8_t *to, 
     size_t have = 0;
     while (records > 0) {
         size_t start = have, in_block = between(c, 1, 3);
-        unsigned category = 17 + (unsigned)below(c, 2);
+        unsigned category = any_category(c);
         to[have] = (uint8_t)category;
         have += 3;
         for (; in_block > 0 && records > 0; in_block--, records--) {
@@ -343,7 +426,7 @@ void damage_block(struct chance *c, uint8_t *block, size_t *have)
         break;
     case 1: /* CAT */
         if (*have >= 1)
-            block[0] = one_in(c, 2) ? 35 - block[0] : draw_octet(c, block[0]);
+            block[0] = one_in(c, 2) ? (uint8_t)any_category(c) : draw_octet(c, block[0]);
         break;
     case 2: /* presence bits and FX of the first record */
     case 3:
@@ -372,7 +455,7 @@ void damage_block(struct chance *c, uint8_t *block, size_t *have)
         for (size_t at = 0; at < *have; at++)
             block[at] = (uint8_t)any(c);
         if (*have >= 1 && !one_in(c, 4))
-            block[0] = one_in(c, 2) ? 17 : 18;
+            block[0] = (uint8_t)any_category(c);
         break;
     case 7: /* a head, and octets of any kind */
         *have = between(c, 3, 60);
@@ -389,12 +472,13 @@ void damage_block(struct chance *c, uint8_t *block, size_t *have)
 
 /* ---- Recordings */
 
-size_t make_recording(struct chance *c, uint8_t *to, size_t size)
+size_t make_recording(struct chance *c, unsigned category, uint8_t *to, size_t size)
 {
     static uint8_t block[65536];
     size_t len = 0;
     for (;;) {
-        size_t n = make_block(c, 17 + (unsigned)below(c, 2), between(c, 1, 20), false, block, sizeof block - 1);
+        unsigned of = category ? category : 17 + (unsigned)below(c, 2);
+        size_t n = make_block(c, of, between(c, 1, 20), false, block, sizeof block - 1);
         if (len + n > size)
             return len;
         memcpy(to + len, block, n);

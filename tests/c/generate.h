@@ -1,5 +1,5 @@
-/* Inputs for differ.c and bench/: legal items, records, blocks and recordings of both categories, exercise sheets,
- * and damaged ones. All comes from one seed. */
+/* Inputs for differ.c and bench/: legal items, records, blocks and recordings of the three categories, exercise
+ * sheets, and damaged ones. All comes from one seed. */
 #ifndef GENERATE_H
 #define GENERATE_H
 
@@ -16,19 +16,21 @@ size_t below(struct chance *c, size_t n);             /* 0 to n - 1 */
 size_t between(struct chance *c, size_t a, size_t b); /* a to b */
 bool one_in(struct chance *c, size_t n);
 
-enum { MOST_ITEM_OCTETS = 1 + 255 * 4, MOST_RECORD_OCTETS = 4096 };
+unsigned any_category(struct chance *c); /* 17, 18 or 61 */
+
+enum { MOST_RECORD_OCTETS = 10240 }; /* more than 061's longest has, 6,899 of it I061/130 */
 
 /* A record to be: its message type, its items by FRN, and those items end to end. */
 struct sketch {
     unsigned category, message; /* the row of the table of messages that it was drawn from */
     uint64_t frns;              /* FRN f is bit 63 - f */
     size_t length;
-    size_t time; /* where its I017/140 or I018/002 is, if it has it */
+    size_t time; /* where its I017/140, I018/002 or I061/020 is, if it has it */
     uint8_t items[MOST_RECORD_OCTETS];
 };
 
 /* A legal item of row `item` of the table of items; its length. `barred`: perhaps with a value just outside of a
- * printed range, an empty list, or too small a length octet. */
+ * printed range, a spare bit, a count or too small a length octet that is barred, or presence or FX bits that are. */
 size_t make_item(struct chance *c, unsigned item, bool barred, uint8_t *to);
 
 /* A legal record of row `message` of the table of messages. `twist`: perhaps with an item dropped or put in,
@@ -38,12 +40,12 @@ void make_sketch(struct chance *c, unsigned message, bool twist, struct sketch *
 /* The record of a sketch, FSPEC first; its length. */
 size_t make_record(const struct sketch *from, uint8_t *to);
 
-/* A block of `records` records, of at most `room` octets (16 KB for four records or fewer is enough); its length. */
+/* A block of `records` records, or of those before the first that `room` octets do not hold; its length. */
 size_t make_block(struct chance *c, unsigned category, size_t records, bool twist, uint8_t *to, size_t room);
 
 /* A legal recording of `records` records, one to three in a block, most of a type that has a time or a led item.
- * Times start at `time` and go on by a little, over midnight too. At most `room` octets (4 KB a record is enough);
- * its length. */
+ * Times start at `time` and go on by a little, over midnight too. At most `room` octets, perhaps without its last
+ * blocks; its length. */
 size_t make_timed(struct chance *c, size_t records, uint32_t time, uint8_t *to, size_t room);
 
 /* One change of `*have` octets, which may come to be up to 8 more: a bit, an octet, a cut, octets put in or taken
@@ -55,8 +57,8 @@ void damage(struct chance *c, uint8_t *octets, size_t *have);
 void damage_block(struct chance *c, uint8_t *block, size_t *have);
 
 /* A legal recording of some `size` octets, every message type alike often, one to twenty records a block; its
- * length, at most `size`. */
-size_t make_recording(struct chance *c, uint8_t *to, size_t size);
+ * length, at most `size`. Of one category; or, where that is 0, each block of 017 or 018. */
+size_t make_recording(struct chance *c, unsigned category, uint8_t *to, size_t size);
 
 /* A mark's octets; those of a sheet without marks; the most marks that a sheet may have, and that a length of two
  * octets can tell. */

@@ -1,5 +1,6 @@
-/* The plain implementation: see plain.h. In order: bits, one item, one record, blocks and
- * recordings, walking a recording, two logs, adding a record, lengths, exercise sheets. */
+/* The plain implementation: see plain.h. In order: bits, one part, parts and lists, presence bits, extended and
+ * compound items, one item, one record, blocks and recordings, walking a recording, two logs, adding a record,
+ * lengths, exercise sheets. */
 #include "plain.h"
 #include "tables.h"
 
@@ -14,19 +15,21 @@ static const struct plain_fault fine = { 0, 0 };
 
 /* ---- Bits */
 
-/* Bit `bit` of `octets` octets, by the document's numbers: bit 1 is the last octet's lowest. */
-static unsigned get_bit(const uint8_t *part, unsigned octets, unsigned bit)
+/* A part's octets, at most eight, as one number: bit 1 by the document's numbers is its lowest. */
+static uint64_t get_octets(const uint8_t *part, unsigned octets)
 {
-    return part[octets - 1 - (bit - 1) / 8] >> (bit - 1) % 8 & 1;
+    uint64_t number = 0;
+    for (unsigned i = 0; i < octets; i++)
+        number = number << 8 | part[i];
+    return number;
 }
 
 static int64_t get_field(const uint8_t *part, unsigned octets, struct field f)
 {
-    int64_t value = 0;
-    for (unsigned bit = f.high; bit >= f.low; bit--)
-        value = value * 2 + get_bit(part, octets, bit);
-    if (f.is == SIGNED && get_bit(part, octets, f.high))
-        value -= (int64_t)1 << (f.high - f.low + 1);
+    unsigned bits = f.high - f.low + 1;
+    int64_t value = (int64_t)(get_octets(part, octets) >> (f.low - 1) & (((uint64_t)1 << bits) - 1));
+    if (f.is == SIGNED && value >> (bits - 1))
+        value -= (int64_t)1 << bits;
     return value;
 }
 
@@ -50,178 +53,405 @@ static bool may_hold(struct field f, int64_t value)
 
 /* ---- One part of an item: the fields of some octets */
 
-static bool is_good_part(const struct field *fields, const uint8_t *part, unsigned octets)
+static bool is_good_part(const struct part *part, const uint8_t *at)
 {
-    for (; fields->high; fields++)
-        if (!may_hold(*fields, get_field(part, octets, *fields)))
+    for (const struct field *f = part->fields; f->high; f++)
+        if (!may_hold(*f, get_field(at, part->octets, *f)))
             return false;
     return true;
 }
 
-static size_t get_part(const struct field *fields, const uint8_t *part, unsigned octets, int64_t *to)
+static size_t get_part(const struct part *part, const uint8_t *at, int64_t *to)
 {
     size_t n = 0;
-    for (; fields->high; fields++)
-        if (fields->is != SPARE)
-            to[n++] = get_field(part, octets, *fields);
-    return n;
-}
-
-static size_t fields_of(const struct field *fields)
-{
-    size_t n = 0;
-    for (; fields->high; fields++)
-        n += fields->is != SPARE;
+    for (const struct field *f = part->fields; f->high; f++)
+        if (f->is != SPARE)
+            to[n++] = get_field(at, part->octets, *f);
     return n;
 }
 
 /* Writes a part from its fields, or answers false where one is barred. */
-static bool put_part(const struct field *fields, const int64_t *from, uint8_t *part, unsigned octets)
+static bool put_part(const struct part *part, const int64_t *from, uint8_t *to)
 {
-    for (unsigned i = 0; i < octets; i++)
-        part[i] = 0;
-    for (; fields->high; fields++)
-        if (fields->is != SPARE) {
-            if (!may_hold(*fields, *from))
+    for (unsigned i = 0; i < part->octets; i++)
+        to[i] = 0;
+    for (const struct field *f = part->fields; f->high; f++)
+        if (f->is != SPARE) {
+            if (!may_hold(*f, *from))
                 return false;
-            put_field(part, octets, *fields, *from++);
+            put_field(to, part->octets, *f, *from++);
         }
     return true;
 }
 
-/* ---- One item */
+/* ---- Equal parts: one alone, or a list, which is a count and that many. A fixed item, a list, a subfield. */
 
-enum { FX = 1, LEAST_LED = 3, MOST_PARTS = 255, MOST_LED = 255, MOST_ITEM = 1 + 255 * 4 };
-
-/* The length of the item at the start of `have` octets. Its refusals are 9 and 10, at 0: the item's start. */
-static struct plain_fault measure(const struct item *item, const uint8_t *at, size_t have, size_t *length)
+static size_t count_at(const struct part *part, const uint8_t *at)
 {
-    switch (item->layout) {
-    case FIXED:
-        *length = item->octets;
-        break;
-    case LIST:
-    case SOME:
-        if (have < 1)
-            return refused(9, 0);
-        *length = 1 + (size_t)at[0] * item->octets;
-        break;
-    case LED:
-        if (have < 1)
-            return refused(9, 0);
-        if (at[0] < LEAST_LED)
-            return refused(10, 0);
-        *length = at[0];
-        break;
-    case EXTENDED:
-        if (have < 1)
-            return refused(9, 0);
-        *length = at[0] & FX ? 2 : 1;
-        break;
+    return is_list(part) ? at[0] : 1;
+}
+
+static size_t length_of(const struct part *part, size_t parts)
+{
+    return is_list(part) + parts * part->octets;
+}
+
+/* Their length at the start of `have` octets. Refuses at 0 by 9, then 11. */
+static struct plain_fault check_parts(const struct part *part, const uint8_t *at, size_t have, size_t *length)
+{
+    if (is_list(part) && have < 1)
+        return refused(9, 0);
+    size_t parts = count_at(part, at);
+    *length = length_of(part, parts);
+    if (*length > have)
+        return refused(9, 0);
+    if (is_list(part) && (parts < part->least || parts > part->most))
+        return refused(11, 0);
+    for (size_t i = 0; i < parts; i++)
+        if (!is_good_part(part, at + length_of(part, i)))
+            return refused(11, 0);
+    return fine;
+}
+
+/* Their fields, without the count. */
+static size_t get_parts(const struct part *part, const uint8_t *at, int64_t *to)
+{
+    size_t n = 0;
+    for (size_t i = 0; i < count_at(part, at); i++)
+        n += get_part(part, at + length_of(part, i), to + n);
+    return n;
+}
+
+/* Writes so many and answers their length; 0 where their count or a field is barred. */
+static size_t put_parts(const struct part *part, const int64_t *from, size_t parts, uint8_t *to)
+{
+    if (is_list(part)) {
+        if (parts < part->least || parts > part->most)
+            return 0;
+        to[0] = (uint8_t)parts;
     }
+    for (size_t i = 0; i < parts; i++)
+        if (!put_part(part, from + i * fields_of(part), to + length_of(part, i)))
+            return 0;
+    return length_of(part, parts);
+}
+
+/* ---- Presence bits: an FSPEC, or a compound item's primary octets */
+
+enum { FX = 1, MOST_FRN = 63 };
+
+/* A record's items by FRN, or an item's subfields by number. FRNs above 35 and FRN 0 are in no profile, but a set may
+ * name them. */
+struct set {
+    bool has[MOST_FRN + 1];
+};
+
+static bool is_empty(const struct set *set)
+{
+    for (unsigned frn = 0; frn <= MOST_FRN; frn++)
+        if (set->has[frn])
+            return false;
+    return true;
+}
+
+/* The octets with presence bits at the start of `have`: after each that has FX, another. What they name, and how many
+ * they are. Refuses at 0 octet by octet by `cut`, then by 6 where there would be more than `most`; then by 7. */
+static struct plain_fault get_presence(const uint8_t *at, size_t have, size_t most, unsigned cut, struct set *set,
+                                       size_t *octets)
+{
+    *set = (struct set){ { false } };
+    for (size_t i = 0;; i++) {
+        if (i == have)
+            return refused(cut, 0);
+        for (unsigned bit = 0; bit < 7; bit++)
+            set->has[i * 7 + bit + 1] = at[i] >> (7 - bit) & 1;
+        if (!(at[i] & FX)) {
+            *octets = i + 1;
+            break;
+        }
+        if (i + 1 == most)
+            return refused(6, 0);
+    }
+    if (at[*octets - 1] == 0)
+        return refused(7, 0);
+    return fine;
+}
+
+/* Writes those that name a set, and answers how many they are. */
+static size_t put_presence(const struct set *set, uint8_t *to)
+{
+    unsigned last = 0;
+    for (unsigned frn = 1; frn <= MOST_FRN; frn++)
+        if (set->has[frn])
+            last = frn;
+    size_t octets = (last + 6) / 7;
+    for (size_t i = 0; i < octets; i++) {
+        to[i] = i + 1 < octets ? FX : 0;
+        for (unsigned bit = 0; bit < 7; bit++)
+            if (set->has[i * 7 + bit + 1])
+                to[i] |= (uint8_t)(0x80 >> bit);
+    }
+    return octets;
+}
+
+/* ---- An item that FX bits extend */
+
+/* How many of its parts there are. Refuses at 0 by 9, part by part, and by 6 where more than are printed would be. */
+static struct plain_fault count_extended(const struct item *item, const uint8_t *at, size_t have, size_t *parts,
+                                         size_t *length)
+{
+    *length = 0;
+    for (*parts = 0; *parts < item->count;) {
+        *length += item->parts[(*parts)++].octets;
+        if (have < *length)
+            return refused(9, 0);
+        if (!(at[*length - 1] & FX))
+            return fine;
+    }
+    return refused(6, 0); /* FX in the last that is printed */
+}
+
+/* 9, then 6, then 11 over all parts. */
+static struct plain_fault check_extended(const struct item *item, const uint8_t *at, size_t have, size_t *length)
+{
+    size_t parts = 0, done = 0;
+    struct plain_fault fault = count_extended(item, at, have, &parts, length);
+    for (size_t i = 0; i < parts && !fault.number; i++) {
+        if (!is_good_part(&item->parts[i], at + done))
+            fault = refused(11, 0);
+        done += item->parts[i].octets;
+    }
+    return fault;
+}
+
+static size_t get_extended(const struct item *item, const uint8_t *at, size_t length, int64_t *to)
+{
+    size_t n = 0, done = 0;
+    for (size_t i = 0; i < item->count; i++)
+        if (done < length) {
+            n += get_part(&item->parts[i], at + done, to + n);
+            done += item->parts[i].octets;
+        } else
+            to[n++] = PLAIN_ABSENT;
+    return n;
+}
+
+/* A first part is never absent, and none that is there follows one that isn't. */
+static size_t put_extended(const struct item *item, const int64_t *field, size_t count, uint8_t *to)
+{
+    size_t used = 0, done = 0;
+    bool ended = false;
+    for (size_t i = 0; i < item->count; i++) {
+        const struct part *part = &item->parts[i];
+        if (i > 0 && used < count && field[used] == PLAIN_ABSENT) {
+            ended = true;
+            used++;
+            continue;
+        }
+        if (ended || count - used < fields_of(part) || !put_part(part, field + used, to + done))
+            return 0;
+        if (i > 0)
+            to[done - 1] |= FX;
+        used += fields_of(part);
+        done += part->octets;
+    }
+    return used == count ? done : 0;
+}
+
+/* ---- A compound item */
+
+enum { MOST_ITEM = 2 + 8 + 255 * 27 + 4 }; /* I061/130: its eight lists have 27 octets to a part */
+
+static bool has_subfield(const struct item *item, unsigned number)
+{
+    for (size_t i = 0; i < item->count; i++)
+        if (item->parts[i].number == number)
+            return true;
+    return false;
+}
+
+/* As many are printed as the last subfield's bit needs. */
+static size_t most_primary(const struct item *item)
+{
+    return (item->parts[item->count - 1].number + 6) / 7;
+}
+
+/* The primary octets: which subfields follow. Refuses at 0 by 9, 6, 7, 8. */
+static struct plain_fault get_primary(const struct item *item, const uint8_t *at, size_t have, struct set *set,
+                                      size_t *octets)
+{
+    struct plain_fault fault = get_presence(at, have, most_primary(item), 9, set, octets);
+    for (unsigned number = 1; number <= MOST_FRN && !fault.number; number++)
+        if (set->has[number] && !has_subfield(item, number))
+            fault = refused(8, 0);
+    return fault;
+}
+
+/* The primary octets, and then the subfields one after another, by 9 and 11. */
+static struct plain_fault check_compound(const struct item *item, const uint8_t *at, size_t have, size_t *length)
+{
+    struct set set;
+    size_t done = 0;
+    struct plain_fault fault = get_primary(item, at, have, &set, &done);
+    for (size_t i = 0; i < item->count && !fault.number; i++) {
+        size_t n = 0;
+        if (!set.has[item->parts[i].number])
+            continue;
+        fault = check_parts(&item->parts[i], at + done, have - done, &n);
+        done += n;
+    }
+    *length = done;
+    return refused(fault.number, 0); /* the item's start, wherever in it the fault is */
+}
+
+static size_t get_compound(const struct item *item, const uint8_t *at, size_t length, int64_t *to)
+{
+    struct set set;
+    size_t n = 0, done = 0;
+    get_primary(item, at, length, &set, &done);
+    for (size_t i = 0; i < item->count; i++) {
+        const struct part *part = &item->parts[i];
+        if (!set.has[part->number]) {
+            to[n++] = PLAIN_ABSENT;
+            continue;
+        }
+        if (is_list(part))
+            to[n++] = at[done];
+        n += get_parts(part, at + done, to + n);
+        done += length_of(part, count_at(part, at + done));
+    }
+    return n;
+}
+
+/* Writes a subfield from the first of the fields given, and answers its length and how many those are; 0 where they
+ * are none of its. */
+static size_t put_subfield(const struct part *part, const int64_t *field, size_t count, size_t *used, uint8_t *to)
+{
+    size_t head = is_list(part), parts = 1;
+    if (head) {
+        if (count == 0 || field[0] < 0 || (uint64_t)field[0] > count)
+            return 0;
+        parts = (size_t)field[0];
+    }
+    *used = head + parts * fields_of(part);
+    return *used > count ? 0 : put_parts(part, field + head, parts, to);
+}
+
+static size_t put_compound(const struct item *item, const int64_t *field, size_t count, uint8_t *to)
+{
+    uint8_t body[MOST_ITEM];
+    struct set set = { { false } };
+    size_t used = 0, done = 0;
+    for (size_t i = 0; i < item->count; i++) {
+        size_t took = 1, n = 0;
+        if (used < count && field[used] == PLAIN_ABSENT) {
+            used++;
+            continue;
+        }
+        n = put_subfield(&item->parts[i], field + used, count - used, &took, body + done);
+        if (n == 0)
+            return 0;
+        set.has[item->parts[i].number] = true;
+        used += took;
+        done += n;
+    }
+    if (used < count || is_empty(&set))
+        return 0;
+    size_t octets = put_presence(&set, to);
+    for (size_t i = 0; i < done; i++)
+        to[octets + i] = body[i];
+    return octets + done;
+}
+
+/* ---- An item led by its length */
+
+enum { LEAST_LED = 3, MOST_LED = 255 };
+
+/* 9, 10, 9 for the body. */
+static struct plain_fault check_led(const uint8_t *at, size_t have, size_t *length)
+{
+    if (have < 1)
+        return refused(9, 0);
+    if (at[0] < LEAST_LED)
+        return refused(10, 0);
+    *length = at[0];
     return have < *length ? refused(9, 0) : fine;
 }
 
-/* The item at the start of `have` octets: its length, or 9, 10, 9 for the body, 11. */
+static size_t get_led(const uint8_t *at, size_t length, int64_t *to)
+{
+    for (size_t i = 1; i < length; i++)
+        to[i - 1] = at[i];
+    return length - 1;
+}
+
+static size_t put_led(const int64_t *field, size_t count, uint8_t *to)
+{
+    if (count + 1 < LEAST_LED || count + 1 > MOST_LED)
+        return 0;
+    to[0] = (uint8_t)(count + 1);
+    for (size_t i = 0; i < count; i++) {
+        if (field[i] < 0 || field[i] > 255)
+            return 0;
+        to[1 + i] = (uint8_t)field[i];
+    }
+    return 1 + count;
+}
+
+/* ---- One item */
+
+/* The item at the start of `have` octets: its length, or a refusal at 0, the item's start. */
 static struct plain_fault check_item(const struct item *item, const uint8_t *at, size_t have, size_t *length)
 {
-    struct plain_fault fault = measure(item, at, have, length);
-    if (fault.number)
-        return fault;
-    bool good = true;
     switch (item->layout) {
-    case FIXED:
-        good = is_good_part(item->first, at, item->octets);
-        break;
-    case SOME:
-    case LIST:
-        good = item->layout == LIST || at[0] != 0;
-        for (unsigned i = 0; i < at[0]; i++)
-            good = good && is_good_part(item->first, at + 1 + i * item->octets, item->octets);
-        break;
     case LED:
-        break;
+        return check_led(at, have, length);
     case EXTENDED:
-        good = is_good_part(item->first, at, 1);
-        if (*length == 2)
-            good = good && is_good_part(item->extent, at + 1, 1) && !(at[1] & FX);
-        break;
+        return check_extended(item, at, have, length);
+    case COMPOUND:
+        return check_compound(item, at, have, length);
+    default:
+        return check_parts(item->parts, at, have, length);
     }
-    return good ? fine : refused(11, 0);
 }
 
 /* The fields of an item that was checked. */
 static size_t get_item(const struct item *item, const uint8_t *at, size_t length, int64_t *to)
 {
-    size_t n = 0;
     switch (item->layout) {
-    case FIXED:
-        n = get_part(item->first, at, item->octets, to);
-        break;
-    case SOME:
-    case LIST:
-        for (unsigned i = 0; i < at[0]; i++)
-            n += get_part(item->first, at + 1 + i * item->octets, item->octets, to + n);
-        break;
     case LED:
-        for (size_t i = 1; i < length; i++)
-            to[n++] = at[i];
-        break;
+        return get_led(at, length, to);
     case EXTENDED:
-        n = get_part(item->first, at, 1, to);
-        if (length == 2)
-            n += get_part(item->extent, at + 1, 1, to + n);
-        break;
+        return get_extended(item, at, length, to);
+    case COMPOUND:
+        return get_compound(item, at, length, to);
+    default:
+        return get_parts(item->parts, at, to);
     }
-    return n;
 }
 
 /* Writes an item, at most MOST_ITEM octets, and answers its length; 0 where no legal item has these fields. */
 static size_t put_item(const struct item *item, const int64_t *field, size_t count, uint8_t *to)
 {
-    size_t in_first = fields_of(item->first), in_extent = fields_of(item->extent);
+    size_t each = fields_of(item->parts);
     switch (item->layout) {
-    case FIXED:
-        if (count != in_first || !put_part(item->first, field, to, item->octets))
-            return 0;
-        return item->octets;
-    case SOME:
-    case LIST:
-        if (count % in_first != 0 || count / in_first > MOST_PARTS || (item->layout == SOME && count == 0))
-            return 0;
-        to[0] = (uint8_t)(count / in_first);
-        for (size_t i = 0; i < count / in_first; i++)
-            if (!put_part(item->first, field + i * in_first, to + 1 + i * item->octets, item->octets))
-                return 0;
-        return 1 + count / in_first * item->octets;
     case LED:
-        if (count + 1 < LEAST_LED || count + 1 > MOST_LED)
-            return 0;
-        to[0] = (uint8_t)(count + 1);
-        for (size_t i = 0; i < count; i++) {
-            if (field[i] < 0 || field[i] > 255)
-                return 0;
-            to[1 + i] = (uint8_t)field[i];
-        }
-        return 1 + count;
+        return put_led(field, count, to);
     case EXTENDED:
-        if (count != in_first && count != in_first + in_extent)
-            return 0;
-        if (!put_part(item->first, field, to, 1))
-            return 0;
-        if (count == in_first)
-            return 1;
-        if (!put_part(item->extent, field + in_first, to + 1, 1))
-            return 0;
-        to[0] |= FX;
-        return 2;
+        return put_extended(item, field, count, to);
+    case COMPOUND:
+        return put_compound(item, field, count, to);
+    case LIST:
+        return count % each ? 0 : put_parts(item->parts, field, count / each, to);
+    default:
+        return count != each ? 0 : put_parts(item->parts, field, 1, to);
     }
-    return 0;
 }
 
-struct plain_fields plain_read_item(unsigned category, unsigned reference, const uint8_t *item, size_t have)
+struct plain_fields plain_read_item(unsigned category, unsigned reference, const uint8_t *item, size_t have,
+                                    int64_t field[PLAIN_FIELDS])
 {
-    struct plain_fields answer = { fine, 0, { 0 } };
+    struct plain_fields answer = { fine, 0 };
     const struct item *layout = find_layout(category, reference);
     size_t length = 0;
     if (!layout) {
@@ -235,7 +465,7 @@ struct plain_fields plain_read_item(unsigned category, unsigned reference, const
         answer.fault = refused(18, length);
         return answer;
     }
-    answer.count = get_item(layout, item, length, answer.field);
+    answer.count = get_item(layout, item, length, field);
     return answer;
 }
 
@@ -264,21 +494,6 @@ struct plain_length plain_write_item(unsigned category, unsigned reference, cons
 
 /* ---- One record */
 
-enum { MOST_FRN = 63 };
-
-/* A record's items by FRN. FRNs above 35 and FRN 0 are in no profile, but a set may name them. */
-struct set {
-    bool has[MOST_FRN + 1];
-};
-
-static bool is_empty(const struct set *set)
-{
-    for (unsigned frn = 0; frn <= MOST_FRN; frn++)
-        if (set->has[frn])
-            return false;
-    return true;
-}
-
 static bool has_unusable(unsigned category, const struct set *set)
 {
     for (unsigned frn = 0; frn <= MOST_FRN; frn++)
@@ -291,27 +506,14 @@ static bool has_unusable(unsigned category, const struct set *set)
 static struct plain_fault get_fspec(unsigned category, const uint8_t *at, size_t have, struct set *set,
                                     size_t *octets)
 {
-    size_t most = last_frn(category) / 7;
-    *set = (struct set){ { false } };
-    for (size_t i = 0;; i++) {
-        if (i == have)
-            return refused(5, 0);
-        for (unsigned bit = 0; bit < 7; bit++)
-            set->has[i * 7 + bit + 1] = at[i] >> (7 - bit) & 1;
-        if (!(at[i] & FX)) {
-            *octets = i + 1;
-            break;
-        }
-        if (i + 1 == most)
-            return refused(6, 0);
-    }
-    if (at[*octets - 1] == 0)
-        return refused(7, 0);
+    struct plain_fault fault = get_presence(at, have, last_frn(category) / 7, 5, set, octets);
+    if (fault.number)
+        return fault;
     return has_unusable(category, set) ? refused(8, 0) : fine;
 }
 
 /* The items of a set, end to end at the start of `have` octets: where each starts, and their whole length. A
- * refusal, 9 to 11, is at the item's start. */
+ * refusal, 6 to 11, is at the item's start. */
 static struct plain_fault check_items(unsigned category, const struct set *set, const uint8_t *at, size_t have,
                                       size_t *starts, size_t *length)
 {
@@ -322,7 +524,7 @@ static struct plain_fault check_items(unsigned category, const struct set *set, 
         size_t n = 0;
         struct plain_fault fault = check_item(layout_at(category, frn), at + done, have - done, &n);
         if (fault.number)
-            return refused(fault.number, done);
+            return refused(fault.number, done + fault.place);
         starts[frn - 1] = done;
         done += n;
     }
@@ -330,29 +532,33 @@ static struct plain_fault check_items(unsigned category, const struct set *set, 
     return fine;
 }
 
+static bool must_have(const struct message *message, unsigned frn)
+{
+    return frn <= IN_EVERY || is_in(message->must, reference_at(message->category, frn));
+}
+
+static bool may_have(const struct message *message, unsigned frn)
+{
+    return must_have(message, frn) || is_in(message->may, reference_at(message->category, frn));
+}
+
 /* 12 to 15, at 0: the record's start. `type` is looked at only where the set has the message type item. */
 static struct plain_fault check_type(unsigned category, const struct set *set, const uint8_t *type)
 {
     const struct message *message = NULL;
-    if (!set->has[TYPE_FRN])
+    if (!set->has[type_frn(category)])
         return refused(12, 0);
     for (size_t i = 0; i < COUNT(messages); i++)
         if (messages[i].category == category && messages[i].type == *type)
             message = &messages[i];
     if (!message)
         return refused(13, 0);
-    for (unsigned frn = 1; frn <= last_frn(category); frn++) {
-        int reference = reference_at(category, frn);
-        bool must = frn <= TYPE_FRN || (reference != NONE && is_in(message->must, reference));
-        if (must && !set->has[frn])
+    for (unsigned frn = 1; frn <= last_frn(category); frn++)
+        if (!set->has[frn] && must_have(message, frn))
             return refused(14, 0);
-    }
-    for (unsigned frn = 1; frn <= last_frn(category); frn++) {
-        int reference = reference_at(category, frn);
-        bool sent = frn <= TYPE_FRN || is_in(message->must, reference) || is_in(message->may, reference);
-        if (set->has[frn] && !sent)
+    for (unsigned frn = 1; frn <= last_frn(category); frn++)
+        if (set->has[frn] && !may_have(message, frn))
             return refused(15, 0);
-    }
     return fine;
 }
 
@@ -374,7 +580,7 @@ static struct plain_record check_record(unsigned category, const uint8_t *block,
         record.fault = refused(fault.number, at + octets + fault.place);
         return record;
     }
-    fault = check_type(category, &set, block + at + octets + starts[TYPE_FRN - 1]);
+    fault = check_type(category, &set, block + at + octets + starts[type_frn(category) - 1]);
     if (fault.number) {
         record.fault = refused(fault.number, at);
         return record;
@@ -583,11 +789,11 @@ static bool is_untimed(unsigned category, unsigned type)
     return category == 18 && type == GICB_EXTRACTION;
 }
 
-/* The FRN of I017/140 or I018/002. */
+/* The FRN of I017/140, I018/002 or I061/020. */
 static unsigned time_frn(unsigned category)
 {
     unsigned frn = 1;
-    while (reference_at(category, frn) != (category == 17 ? 140 : 2))
+    while (reference_at(category, frn) != find_category(category)->time)
         frn++;
     return frn;
 }
@@ -612,7 +818,7 @@ static bool stand_at(const uint8_t *log, size_t have, size_t place, struct plain
         return place == have;
     size_t time = met.starts[time_frn(met.category) - 1];
     head->length = met.length;
-    head->timed = time && !is_untimed(met.category, log[met.block + met.starts[TYPE_FRN - 1]]);
+    head->timed = time && !is_untimed(met.category, log[met.block + met.starts[type_frn(met.category) - 1]]);
     head->time = head->timed ? time_at(log + met.block + time) : 0;
     struct plain_met next = plain_next_record(log, have, met.next);
     *after = next.met ? next.start : have;
@@ -666,22 +872,27 @@ struct plain_stepped plain_merge_step(const uint8_t *a, size_t a_len, const uint
 
 /* ---- Two logs: one record after another, each measured and no more */
 
-/* How long the item at `at` is by what its first octet says, which is taken as 0 past the end. */
+/* The octet at a place of a log, which is taken as 0 past the end. */
+static unsigned octet_at(const uint8_t *log, size_t at, size_t end)
+{
+    return at < end ? log[at] : 0;
+}
+
+/* How long the item at `at` is. Where its first octet tells, by that, and no more asked of it; else (it is compound, or FX may ask for
+   more than one part more, or stands in no first octet) by its check, and 0 where that refuses it. */
 static size_t span(const struct item *item, const uint8_t *log, size_t at, size_t end)
 {
-    unsigned first = at < end ? log[at] : 0;
-    switch (item->layout) {
-    case FIXED:
-        return item->octets;
-    case LIST:
-    case SOME:
-        return 1 + (size_t)first * item->octets;
-    case LED:
-        return first;
-    case EXTENDED:
-        return first & FX ? 2 : 1;
-    }
-    return 0;
+    const struct part *first = &item->parts[0];
+    bool one_octet = first->octets == 1 && item->count == 2;
+    if (item->layout == LED)
+        return octet_at(log, at, end);
+    if (item->layout == EXTENDED && one_octet)
+        return 1 + (octet_at(log, at, end) & FX);
+    if (item->layout != EXTENDED && item->layout != COMPOUND)
+        return length_of(first, is_list(first) ? octet_at(log, at, end) : 1);
+    size_t length = 0;
+    struct plain_fault fault = at < end ? check_item(item, log + at, end - at, &length) : (struct plain_fault){ 9, 0 };
+    return fault.number ? 0 : length;
 }
 
 /* The length and the time of the record at a head's cursor. False where there is none in its block. */
@@ -695,7 +906,7 @@ static bool measure_record(const uint8_t *log, struct plain_head *head)
     size_t at = start + octets;
     unsigned of_time = time_frn(category);
     for (unsigned frn = 1; frn <= last_frn(category); frn++) {
-        if (frn == TYPE_FRN)
+        if (frn == type_frn(category))
             type = at;
         if (!set.has[frn])
             continue;
@@ -810,15 +1021,11 @@ struct plain_length plain_add_record(uint8_t *out, size_t room, size_t used, uin
         answer.fault = refused(18, length);
         return answer;
     }
-    answer.fault = check_type(category, &set, lent + starts[TYPE_FRN - 1]);
+    answer.fault = check_type(category, &set, lent + starts[type_frn(category) - 1]);
     if (answer.fault.number)
         return answer;
-    unsigned last = 0;
-    for (unsigned frn = 1; frn <= PLAIN_FRNS; frn++)
-        if (set.has[frn])
-            last = frn;
-    size_t octets = (last + 6) / 7;
-    size_t len = used + octets + length;
+    uint8_t fspec[MOST_FRN / 7];
+    size_t octets = put_presence(&set, fspec), len = used + octets + length;
     if (len > MOST_LEN)
         answer.fault = refused(17, 0);
     else if (len > room)
@@ -827,12 +1034,8 @@ struct plain_length plain_add_record(uint8_t *out, size_t room, size_t used, uin
         return answer;
 
     /* FSPEC, items, LEN */
-    for (size_t i = 0; i < octets; i++) {
-        out[used + i] = i + 1 < octets ? FX : 0;
-        for (unsigned bit = 0; bit < 7; bit++)
-            if (set.has[i * 7 + bit + 1])
-                out[used + i] |= (uint8_t)(0x80 >> bit);
-    }
+    for (size_t i = 0; i < octets; i++)
+        out[used + i] = fspec[i];
     for (size_t i = 0; i < length; i++)
         out[used + octets + i] = lent[i];
     out[1] = (uint8_t)(len / 256);
@@ -852,7 +1055,7 @@ size_t plain_least_length(unsigned category, size_t place, unsigned octet)
     for (unsigned bit = 0; bit < 7; bit++) {
         const struct item *item = layout_at(category, (unsigned)place * 7 + bit + 1);
         if (octet >> (7 - bit) & 1 && item)
-            sum += item->layout == FIXED ? item->octets : 1;
+            sum += item->layout == FIXED || item->layout == EXTENDED ? item->parts->octets : 1;
     }
     return sum;
 }

@@ -1,8 +1,8 @@
-/* Checking, reading, merging and writing blocks of ASTERIX categories 017 and 018, and exercise sheets: a
+/* Checking, reading, merging and writing blocks of ASTERIX categories 017, 018 and 061, and exercise sheets: a
  * second, plain implementation, for comparison with the proved one.
  *
- * Written from the documents: category 017 edition 1.3, category 018 edition 1.6, the scope
- * paper, W-201 and W-203 of the later requests, and docs/DECISIONS.md. It shares nothing with the proved
+ * Written from the documents: category 017 edition 1.3, category 018 edition 1.6, category 061 edition 1.2, the scope
+ * paper, W-201, W-203 and W-205 of the later requests, and docs/DECISIONS.md. It shares nothing with the proved
  * code, and was made to be read and not to be fast. Nothing is proved of it. */
 #ifndef PLAIN_H
 #define PLAIN_H
@@ -12,10 +12,13 @@
 #include <stdint.h>
 
 enum {
-    PLAIN_FRNS = 35,    /* the longest profile's last field reference number */
-    PLAIN_FIELDS = 510, /* most fields of one item: a list of 255 parts with two each */
-    PLAIN_MARKS = 200   /* most marks of one sheet */
+    PLAIN_FRNS = 35,     /* the longest profile's last field reference number */
+    PLAIN_FIELDS = 7421, /* most fields of one item: I061/130, with 8 counts, 255 times 29 in lists, and 18 more */
+    PLAIN_MARKS = 200    /* most marks of one sheet */
 };
+
+/* Among an item's fields, in the place of an extension or a subfield: it is absent. No field has this value. */
+#define PLAIN_ABSENT INT64_MIN
 
 /* A refusal: its number, 1 to 23 or 30 to 36, and its place. Number 0 is no refusal. */
 struct plain_fault {
@@ -104,7 +107,6 @@ struct plain_merged {
 struct plain_fields {
     struct plain_fault fault;
     size_t count;
-    int64_t field[PLAIN_FIELDS];
 };
 
 struct plain_length {
@@ -161,8 +163,13 @@ struct plain_begun plain_begin_merge(const uint8_t *a, size_t a_len, const uint8
 size_t plain_next_merged(const uint8_t *a, size_t a_len, const uint8_t *b, size_t b_len, struct plain_merge *merge,
                          struct plain_merged *out, size_t room);
 
-/* One item alone, and nothing after it. */
-struct plain_fields plain_read_item(unsigned category, unsigned reference, const uint8_t *item, size_t have);
+/* One item alone, and nothing after it: its fields, as many as are counted, at the start of `field`.
+ *
+ * A list has its parts' fields, a led item its contents. An extended item has, part by part, the part's fields or one
+ * PLAIN_ABSENT; a compound item the same for each subfield that is printed, and before the parts of one that is a list
+ * their count. */
+struct plain_fields plain_read_item(unsigned category, unsigned reference, const uint8_t *item, size_t have,
+                                    int64_t field[PLAIN_FIELDS]);
 
 /* The item at the start of `out`, which has `room` octets. A refusal leaves `out` as it was. */
 struct plain_length plain_write_item(unsigned category, unsigned reference, const int64_t *field, size_t count,
@@ -173,8 +180,8 @@ struct plain_length plain_write_item(unsigned category, unsigned reference, cons
 struct plain_length plain_add_record(uint8_t *out, size_t room, size_t used, uint64_t set, const uint8_t *items,
                                      size_t have);
 
-/* The fixed lengths, summed, of the items that an FSPEC octet names (`place` from 0): a list or a led item counts
- * 1, an item extended by FX its first part. 0 where the category or the octet is not there. */
+/* The fixed lengths, summed, of the items that an FSPEC octet names (`place` from 0): a list, a led or a compound item
+ * counts 1, an item extended by FX its first part. 0 where the category or the octet is not there. */
 size_t plain_least_length(unsigned category, size_t place, unsigned octet);
 
 /* A sheet, and nothing after it. */

@@ -112,9 +112,10 @@ struct asterix_merge_next asterix_next_merged_words(const uint8_t *a, size_t a_l
 struct asterix_item_read asterix_read_item(uint8_t category, uint16_t reference, const uint8_t *item, size_t have,
                                            int64_t fields[ASTERIX_FIELDS])
 {
-    struct plain_fields answer = plain_read_item(category, reference, item, have);
+    static int64_t field[PLAIN_FIELDS];
+    struct plain_fields answer = plain_read_item(category, reference, item, have, field);
     for (size_t i = 0; i < answer.count; i++)
-        fields[i] = answer.field[i];
+        fields[i] = field[i];
     return (struct asterix_item_read){ (uint8_t)answer.fault.number, answer.fault.place, answer.count };
 }
 

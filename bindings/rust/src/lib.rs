@@ -1,6 +1,7 @@
-//! ASTERIX categories 017 (Mode S Surveillance Coordination Function Messages, edition 1.3) and 018
-//! (Mode S Datalink Function Messages, edition 1.6): checking, finding, walking a log, merging two
-//! logs, reading and writing; and exercise sheets.
+//! ASTERIX categories 017 (Mode S Surveillance Coordination Function Messages, edition 1.3), 018
+//! (Mode S Datalink Function Messages, edition 1.6) and 061 (SDPS Session and Service Control
+//! Messages, edition 1.2): checking, finding, walking a log, merging two logs, reading and writing;
+//! and exercise sheets.
 //!
 //! The work is done by the proved library, the archive that `rt staticlib asterix` writes; this
 //! crate gives it safe functions on slices. Any bytes may be given to any function. Each either
@@ -92,7 +93,7 @@ pub use sheet::{
 pub enum Refusal {
     /// 1: fewer than three bytes where a block should start. Its place is the block's.
     HeadCut = 1,
-    /// 2: CAT is neither 17 nor 18. Its place is the block's.
+    /// 2: CAT is not 17, 18 or 61. Its place is the block's.
     Category = 2,
     /// 3: LEN is under 3, or not the length lent (in a recording: more than is left). Its place is
     /// the block's.
@@ -101,18 +102,22 @@ pub enum Refusal {
     NoRecord = 4,
     /// 5: the FSPEC is cut by the block's end. Its place is the record's.
     FspecCut = 5,
-    /// 6: FX is set in the last FSPEC octet that the profile allows. Its place is the record's.
+    /// 6: FX is set in the last FSPEC octet that the profile allows; then its place is the record's.
+    /// Or in the last printed part or primary octet of an item; then it is the item's.
     FspecLong = 6,
-    /// 7: the last FSPEC octet has no presence bit. Its place is the record's.
+    /// 7: the last FSPEC octet has no presence bit; then its place is the record's. Or the last
+    /// primary octet of a compound item has none; then it is the item's.
     FspecEmpty = 7,
-    /// 8: a presence bit for an FRN that has no item. Its place is the record's.
+    /// 8: a presence bit for an FRN that has no item; then its place is the record's. Or one in a
+    /// primary octet, where no subfield is printed; then it is the item's.
     FrnUnusable = 8,
-    /// 9: an item, its count or its length octet is cut by the end. Its place is the item's.
+    /// 9: an item is cut by the end, its count, length and primary octets included. Its place is the
+    /// item's.
     ItemCut = 9,
     /// 10: a length octet under the least that its item allows. Its place is the item's.
     LengthOctet = 10,
-    /// 11: a field outside its range, a spare bit set, or a list empty that may not be. Its place
-    /// is the item's.
+    /// 11: a field outside its range, a spare bit set, or a list of too few or too many parts. Its
+    /// place is the item's.
     Field = 11,
     /// 12: the record has no message type item. Its place is the record's.
     TypeAbsent = 12,
@@ -214,13 +219,13 @@ impl fmt::Display for Refusal {
     fn fmt(&self, f: &mut fmt::Formatter<'_>) -> fmt::Result {
         f.write_str(match self {
             Refusal::HeadCut => "fewer than three bytes where a block should start",
-            Refusal::Category => "CAT is neither 17 nor 18",
+            Refusal::Category => "CAT is not 17, 18 or 61",
             Refusal::Len => "LEN is not the block's length",
             Refusal::NoRecord => "the block has no record",
             Refusal::FspecCut => "the FSPEC is cut",
-            Refusal::FspecLong => "FX is set in the last FSPEC octet allowed",
-            Refusal::FspecEmpty => "the last FSPEC octet has no presence bit",
-            Refusal::FrnUnusable => "a presence bit for an FRN without an item",
+            Refusal::FspecLong => "FX is set in the last octet or part allowed",
+            Refusal::FspecEmpty => "the last FSPEC or primary octet has no presence bit",
+            Refusal::FrnUnusable => "a presence bit for no item or subfield",
             Refusal::ItemCut => "an item is cut",
             Refusal::LengthOctet => "a length octet is too small",
             Refusal::Field => "a field or spare bit is outside its rule",
@@ -326,7 +331,7 @@ pub fn check_recording(recording: &[u8]) -> Result<Counts, Refused> {
 pub struct Record<'a> {
     /// The record's octets, its FSPEC first: a part of the block.
     pub octets: &'a [u8],
-    /// The category of its block, 17 or 18.
+    /// The category of its block, 17, 18 or 61.
     pub category: u8,
     /// Where its block starts, counted from the start of the bytes lent: 0 of a single block.
     pub block: usize,
@@ -340,12 +345,15 @@ pub struct Record<'a> {
 /// How many places a record map has: the last field reference number (FRN) of the longest profile.
 pub const FRNS: usize = 35;
 
-// The items of each category by FRN, FRN 1 first: their references (5.3.1 of the documents). The
-// tests hold them to `find_item`.
+// The items of each category by FRN, FRN 1 first: their references (5.3.1 of the documents, 5.3 of
+// that of 061). The tests hold them to `find_item`.
 const ITEMS_017: [u16; 15] = [10, 12, 0, 350, 220, 221, 140, 45, 70, 50, 200, 230, 240, 210, 360];
 const ITEMS_018: [u16; FRNS] = [
     36, 37, 0, 1, 5, 16, 17, 18, 19, 28, 30, 25, 27, 29, 2, 6, 7, 8, 9, 10, 11, 14, 15, 20, 21, 22, 23, 4, 31, 32, 33,
     34, 35, 12, 13,
+];
+const ITEMS_061: [u16; 22] = [
+    10, 0, 12, 15, 20, 30, 45, 50, 60, 70, 80, 100, 130, 210, 220, 230, 240, 330, 350, 360, 370, 380,
 ];
 
 impl<'a> Record<'a> {
@@ -378,7 +386,11 @@ impl<'a> Record<'a> {
     /// # Ok::<(), asterix::Refused>(())
     /// ```
     pub fn item(&self, reference: u16) -> Option<&'a [u8]> {
-        let items: &[u16] = if self.category == 17 { &ITEMS_017 } else { &ITEMS_018 };
+        let items: &[u16] = match self.category {
+            17 => &ITEMS_017,
+            18 => &ITEMS_018,
+            _ => &ITEMS_061,
+        };
         self.item_at(1 + items.iter().position(|&r| r == reference)?)
     }
 
@@ -519,7 +531,7 @@ impl<'a> Log<'a> {
 pub struct Block<'a> {
     /// The block's octets, CAT first.
     pub octets: &'a [u8],
-    /// Its category, 17 or 18.
+    /// Its category, 17, 18 or 61.
     pub category: u8,
     /// Where it starts, counted from the log's start.
     pub start: usize,
@@ -700,9 +712,9 @@ pub struct Part<'a> {
 /// length.
 ///
 /// A's goes first where B's time plus the offset, less A's time, modulo 11,059,200 (a day), is at
-/// most half of that, and else B's. Times are I017/140 and I018/002, in 1/128 s. A record without
-/// one goes at once, A's before B's, and a GICB_extraction counts as one; a log at its end yields
-/// to the other.
+/// most half of that, and else B's. Times are I017/140, I018/002 and I061/020, in 1/128 s. A record
+/// without one goes at once, A's before B's, and a GICB_extraction counts as one; a log at its end
+/// yields to the other.
 ///
 /// Both whole logs are checked at every call: to go through two logs, see [`Merge`]. Refuses by 1
 /// to 15 of log A, by 1 to 15 of log B, by 22 where the offset is past [`OFFSET`], then by 23.
@@ -827,18 +839,37 @@ impl FusedIterator for Merge<'_> {}
 
 // ---- One item
 
-/// How many numbers are lent for the fields of one item. No item of these categories has more than
-/// 510.
+/// How many numbers are lent for the fields of one item. I061/130 has the most, 7,421.
 pub const FIELDS: usize = 8192;
+
+/// What an absent extent or subfield has in place of its fields: once, where it would begin.
+/// Anywhere else it is a value like any other, outside every range.
+///
+/// ```
+/// use asterix::{read_item, ABSENT, FIELDS};
+/// let mut fields = [0; FIELDS];
+/// // I018/008 without its extent, and with one that is zero.
+/// assert_eq!(read_item(18, 8, &[0x80], &mut fields)?, &[1, 0, 0, 0, 0, ABSENT]);
+/// assert_eq!(read_item(18, 8, &[0x81, 0x00], &mut fields)?, &[1, 0, 0, 0, 0, 0]);
+/// # Ok::<(), asterix::Refused>(())
+/// ```
+pub const ABSENT: i64 = i64::MIN;
 
 /// Reads the fields of one item, which is all of `item`, into the start of `fields`, and answers
 /// that part of it.
 ///
 /// Fields are whole numbers from the item's highest bit down, signed ones with their sign. Spare
-/// bits, FX, a list's count and a led item's length octet are not among them.
+/// bits, FX, primary octets, a list's count and a led item's length octet are not among them.
 ///
-/// Refuses by 21 (also where the category is neither 17 nor 18), 9, 10, 9 for the body, 11, then
-/// 18. The numbers after the item's, and on refusal all, stay as they were.
+/// An item that FX extends has for each printed part, in order, its fields, or one [`ABSENT`] where
+/// the part is absent; the first part never is. A compound item has for each printed subfield, in
+/// order, its fields, those of a list behind their count, or one [`ABSENT`] where the subfield is
+/// absent.
+///
+/// Refuses by 21 (also where the category is not 17, 18 or 61). Then by 9, 10, 9 for the body, 11;
+/// in an extended item by 9 part by part, then 6, then 11; in a compound one by 9 and 6 primary octet
+/// by primary octet, then 7, 8, and subfield by subfield. Last by 18. The numbers after the item's,
+/// and on refusal all, stay as they were.
 ///
 /// ```
 /// use asterix::{read_item, Refusal, FIELDS};
@@ -849,6 +880,9 @@ pub const FIELDS: usize = 8192;
 /// // I017/230: CA 4, and a transponder that is not SI capable. The four bits below are spare.
 /// assert_eq!(read_item(17, 230, &[0x90], &mut fields)?, &[4, 1]);
 /// assert_eq!(read_item(17, 230, &[0x88], &mut fields).unwrap_err().why, Refusal::Field);
+/// // I061/130, a compound item: two track numbers, and no other of its nine subfields.
+/// let tracks = read_item(61, 130, &[0x80, 2, 0x00, 0x05, 0x7F, 0xFF], &mut fields)?;
+/// assert_eq!((&tracks[..3], &tracks[3..]), (&[2, 5, 32_767][..], &[asterix::ABSENT; 8][..]));
 /// # Ok::<(), asterix::Refused>(())
 /// ```
 pub fn read_item<'f>(
@@ -864,9 +898,10 @@ pub fn read_item<'f>(
 
 /// Writes one item from its fields at the start of `out`, and answers how many octets it has.
 ///
-/// Refuses by 21, then 11 (a value outside its range, or a number of fields that no legal item
-/// has), then 16, all at place 0. The octets after the item's, and on refusal all, stay as they
-/// were.
+/// Fields are given as [`read_item`] has them. Refuses by 21, then 11 (a value outside its range;
+/// too few or too many numbers, or a count that those behind it do not bear out; an extent behind an
+/// absent one; a compound item without a subfield), then 16, all at place 0. The octets after the
+/// item's, and on refusal all, stay as they were.
 ///
 /// ```
 /// use asterix::{write_item, Refusal};
@@ -945,7 +980,7 @@ impl error::Error for AddRefused {}
 ///
 /// In the old block: 16 where `used` is more than `out` has; then the octets in use are checked as
 /// a single block, but a LEN of 3 is allowed. In the new record: 7 for an empty set, 8 for an FRN
-/// without an item, 9 to 11 of the items, 18, 12 to 15, then 17, then 16. On refusal `out` stays as
+/// without an item, 6 to 11 of the items, 18, 12 to 15, then 17, then 16. On refusal `out` stays as
 /// it was.
 ///
 /// ```
@@ -975,17 +1010,17 @@ pub fn add_record(out: &mut [u8], used: usize, set: ItemSet, items: &[u8]) -> Re
 
 // ---- Lengths
 
-/// The sum of the least lengths of the items that one FSPEC octet names: a fixed item its length, a
-/// list, a led or an extended item 1.
+/// The sum of the least lengths of the items that one FSPEC octet names: a fixed item its length, an
+/// extended one that of its first part, a list, a led or a compound one 1.
 ///
 /// `place` is the octet's, the first is 0. FX and FRNs without an item add nothing. 0 where the
-/// category has no such octet, or is neither 17 nor 18.
+/// category has no such octet, or is not 17, 18 or 61.
 ///
 /// ```
 /// use asterix::least_length;
 /// // I017/010, I017/012, I017/000 and the address I017/220.
 /// assert_eq!(least_length(17, 0, 0xE8), 8);
-/// assert_eq!(least_length(61, 0, 0xE8), 0);
+/// assert_eq!(least_length(62, 0, 0xE8), 0);
 /// ```
 pub fn least_length(category: u8, place: usize, octet: u8) -> usize {
     raw::least_length(category, place, octet)

@@ -11,6 +11,8 @@ fn at(time: u32) -> Vec<u8> {
     block
 }
 
+// Request for Connection of category 061 at 08:00:00.
+const REQUEST: [u8; 11] = [0x3D, 0x00, 0x0B, 0xE8, 0x01, 0x02, 0x11, 0x09, 0x38, 0x40, 0x00];
 const KEEP_ALIVE: [u8; 9] = [18, 0, 9, 0xE0, 25, 9, 25, 29, 5];
 const DAY: u32 = 24 * 60 * 60 * 128;
 
@@ -30,6 +32,25 @@ fn goes_by_time() {
     assert_eq!(order(&at(0), &at(DAY - 1), 0), "BA");
     assert_eq!(order(&at(0), &at(DAY / 2), 0), "AB");
     assert_eq!(order(&at(0), &at(DAY / 2 + 1), 0), "BA");
+}
+
+// I061/020 is a time like the others.
+#[test]
+fn goes_by_time_of_message() {
+    let step = |offset| merge_step(&REQUEST, &REQUEST, 3, 3, offset).expect("a step");
+    let (zero, less) = (step(0), step(-1));
+    let part = |step: &asterix::Stepped| step.next.map(|p| (p.log, p.start, p.octets.len()));
+    assert_eq!(part(&zero), Some((Which::A, 3, 8)));
+    assert_eq!((zero.place_a, zero.place_b), (11, 3));
+    assert_eq!(part(&less), Some((Which::B, 3, 8)));
+    assert_eq!((less.place_a, less.place_b), (3, 11));
+    assert_eq!(order(&REQUEST, &REQUEST, 0), "AB");
+    assert_eq!(order(&REQUEST, &REQUEST, -1), "BA");
+    let eight = 8 * 60 * 60 * 128;
+    assert_eq!(order(&at(eight), &REQUEST, 0), "AB");
+    assert_eq!(order(&at(eight + 1), &REQUEST, 0), "BA");
+    assert_eq!(order(&REQUEST, &at(eight - 1), 0), "BA");
+    assert_eq!(order(&REQUEST, &KEEP_ALIVE, 0), "BA");
 }
 
 #[test]
@@ -99,7 +120,7 @@ fn refusals_in_order() {
 #[test]
 fn refusals_say_the_log() {
     let refused = Merge::new(&KEEP_ALIVE, &[0x13, 0, 3], 0).expect_err("a refusal");
-    assert_eq!(refused.to_string(), "log B: refused 2 at 0: CAT is neither 17 nor 18");
+    assert_eq!(refused.to_string(), "log B: refused 2 at 0: CAT is not 17, 18 or 61");
     let refused = Merge::new(&[], &[], 46_081).expect_err("a refusal");
     assert_eq!(refused.to_string(), "refused 22 at 0: the clock offset is out of range");
 }

@@ -4,39 +4,27 @@
 use asterix::{
     add_mark, add_record, check_block, check_recording, empty_sheet, find_item, find_record, least_length, merge_step,
     read_item, read_sheet, remove_mark, write_item, write_sheet, AddRefused, ItemSet, Mark, Merge, MergeRefused,
-    Refusal, Refused, Sheet, Stepped, FIELDS, FRNS,
+    Refusal, Refused, Sheet, Stepped, ABSENT, FIELDS, FRNS,
 };
 use std::{fs, path::Path};
 
-// The references of both profiles by FRN; `None` where there is no item.
-const PROFILE_017: [Option<u16>; 15] = [
-    Some(10),
-    Some(12),
-    Some(0),
-    Some(350),
-    Some(220),
-    Some(221),
-    Some(140),
-    Some(45),
-    Some(70),
-    Some(50),
-    Some(200),
-    Some(230),
-    Some(240),
-    Some(210),
-    Some(360),
-];
+// The references of the profiles by FRN, as far as they have items.
+const PROFILE_017: [u16; 15] = [10, 12, 0, 350, 220, 221, 140, 45, 70, 50, 200, 230, 240, 210, 360];
 const PROFILE_018: [u16; FRNS] = [
     36, 37, 0, 1, 5, 16, 17, 18, 19, 28, 30, 25, 27, 29, 2, 6, 7, 8, 9, 10, 11, 14, 15, 20, 21, 22, 23, 4, 31, 32, 33,
     34, 35, 12, 13,
 ];
+const PROFILE_061: [u16; 22] = [
+    10, 0, 12, 15, 20, 30, 45, 50, 60, 70, 80, 100, 130, 210, 220, 230, 240, 330, 350, 360, 370, 380,
+];
 
 fn reference(category: u8, frn: usize) -> Option<u16> {
-    if category == 17 {
-        PROFILE_017.get(frn - 1).copied().flatten()
-    } else {
-        PROFILE_018.get(frn - 1).copied()
-    }
+    let profile: &[u16] = match category {
+        17 => &PROFILE_017,
+        18 => &PROFILE_018,
+        _ => &PROFILE_061,
+    };
+    profile.get(frn - 1).copied()
 }
 
 fn octets(word: &str) -> Option<Vec<u8>> {
@@ -53,8 +41,8 @@ fn octets(word: &str) -> Option<Vec<u8>> {
 }
 
 // A number of any size, which may be larger than what a call can be given: the largest of those
-// then. No category has an item 65535 or an FRN 63, no field has 63 bits, and no item or block
-// needs more than ROOM.
+// then. No category has an item 65535 or an FRN 63, no field has 63 bits, no list so many parts, and
+// no item or block needs more than ROOM.
 fn number(word: &str, most: u64) -> Option<u64> {
     if word.is_empty() || !word.bytes().all(|c| c.is_ascii_digit()) {
         return None;
@@ -76,12 +64,17 @@ fn size(word: &str, most: u64) -> Option<usize> {
     number(word, most)?.try_into().ok()
 }
 
-fn signed(word: &str) -> Option<i64> {
+// A field: `x` and the least number are ABSENT, and no other is, however small it is.
+fn field(word: &str) -> Option<i64> {
+    if word == "x" {
+        return Some(ABSENT);
+    }
     let (digits, sign) = match word.strip_prefix('-') {
         Some(digits) => (digits, -1),
         None => (word, 1),
     };
-    Some(sign * i64::try_from(number(digits, i64::MAX as u64)?).ok()?)
+    let most = sign * i64::try_from(number(digits, i64::MAX as u64)?).ok()?;
+    Some(word.parse().unwrap_or(most))
 }
 
 // About sheets a number that a call can't be given makes a bad line.
@@ -121,7 +114,8 @@ fn commas(fields: &[i64]) -> String {
     if fields.is_empty() {
         return "-".into();
     }
-    fields.iter().map(i64::to_string).collect::<Vec<_>>().join(",")
+    let text = |&f: &i64| if f == ABSENT { "x".into() } else { f.to_string() };
+    fields.iter().map(text).collect::<Vec<_>>().join(",")
 }
 
 fn said(answer: Result<String, Refused>) -> String {
@@ -261,7 +255,7 @@ fn answer(question: &str, fields: &mut [i64; FIELDS]) -> Option<String> {
         }
         ["write", category, reference, room, values] => {
             let mut out = vec![0; size(room, ROOM)?];
-            let written = write_item(small(category)?, item(reference)?, &list(values, signed)?, &mut out);
+            let written = write_item(small(category)?, item(reference)?, &list(values, field)?, &mut out);
             said(written.map(|length| format!("{length} {}", hex(&out[..length]))))
         }
         ["add", old, room, frns, items] => {

@@ -13,7 +13,7 @@ use lib.Seq.{paste, paste-zero, paste-suc, length-paste, take-paste, drop-paste,
 use lib.Dec.{eqb, le→leb, eqb→eq}
 use borrow.Author.Tests.{lt-leb}
 use Rattle.rules.specs.Answer.{Answer, ok, refused, _>>=_}
-use Rattle.rules.specs.Layout.{octets}
+use Rattle.rules.specs.Chain.{octets}
 use Rattle.rules.specs.Catalogue.{categories}
 use Rattle.rules.specs.Entry.{over, newRecord, joinRecord, added, refusedOld, refusedNew, inNew, inOld, Added, addRecord, leavesAdded}
 use Rattle.rules.proofs.AnswerLaws.{refused-ok, ok-inj, bind-in, bind-out, bind-elim, need-in, need-out, Octets}
@@ -21,7 +21,7 @@ use Rattle.rules.proofs.EntryLaws.{over-is}
 use Rattle.blocks.specs.Read.{Opening, openFrom}
 use Rattle.blocks.proofs.HeadLaws.{headed, len-few, old-none, old-is}
 use Rattle.blocks.proofs.LoopLaws.{made-refused}
-use Rattle.rules.proofs.LayoutLaws.{octets-take}
+use Rattle.rules.proofs.ChainLaws.{octets-take}
 use Rattle.sets.specs.Sets.{categoryAt, frnsOf, fspecAt}
 use Rattle.records.specs.Answers.{newAt}
 use Rattle.records.proofs.NewLaws.{new-octets}

@@ -12,13 +12,13 @@ use lib.Dec.{T, eqb, leb→le, ltb→lt, lt→ltb, eqb→eq}
 use lib.ListN.{length, take, drop, length-append, length-drop}
 use lib.Seq.{length-take-le, take-all, take-at, drop-at}
 use Rattle.rules.specs.Answer.{Answer, ok, refused, _>>=_, octetsOf}
-use Rattle.rules.specs.Layout.{octets, writeNum}
+use Rattle.rules.specs.Chain.{octets, writeNum}
 use Rattle.rules.specs.Presence.{writePresence, writePlaces, setFlags}
 use Rattle.rules.specs.Record.{Category, Record, judge, writeRecord, readRecord}
 use Rattle.rules.specs.Block.{Block, categoryOf, writeAll, readUpTo, readAll, writeBlock, readBody}
 use Rattle.rules.specs.Entry.{checkBlock, oldBlock, newRecord, joinRecord, Added, added, refusedOld, refusedNew, inNew, inOld, addRecord, leavesAdded}
 use Rattle.rules.proofs.AnswerLaws.{ok-inj, bind-in, bind-elim, need-in, need-elim, expect-in, later-inv, nil-of-length, octetsOf-ok, Octets}
-use Rattle.rules.proofs.LayoutLaws.{octets-take, num-length}
+use Rattle.rules.proofs.ChainLaws.{octets-take, num-length}
 use Rattle.rules.proofs.PresenceLaws.{rows-forth}
 use Rattle.rules.proofs.RecordLaws.{place-laws, judge-same, record-laws, record-starts}
 use Rattle.rules.proofs.BlockLaws.{all-back, all-forth, all-snoc, HeadCame, head-forth, single-back}

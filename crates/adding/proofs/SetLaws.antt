@@ -1,7 +1,7 @@
 -- The FSPEC of a set of FRNs that a profile has: it can always be written, and so a new record is what the writing rule makes of a record.
 --
 -- In order: numbers of the set; rows; the house rule; the octets; a new record. Assumes nothing.
-use Prim.Native.Nat.{ℕ, zero, suc, _+_, _-_, _*_, _^_, _≤_, _<_}
+use Prim.Native.Nat.{ℕ, zero, suc, _+_, _*_, _^_, _≤_, _<_}
 use mathlib.Core.Path.{_≡_, refl, sym, ap, _∙_, subst}
 use mathlib.Core.Logic.{_⊎_, inl, inr, ⊎-elim}
 use mathlib.Core.Bool.{Bool, true, false, _||_, false≢true}
@@ -9,13 +9,13 @@ use mathlib.Core.Option.{Option, none, some}
 use mathlib.Core.List.{List, [], _∷_, _++_, map}
 use native.Mathlib.Omega.{arith}
 use native.Mathlib.Nat.{add-zero, lt-of-lt-of-le}
-use lib.Dec.{leb, ltb, eqb, lt→ltb}
+use lib.Dec.{leb, eqb, lt→ltb}
 use borrow.Author.Tests.{eq-eqb, eqb-true, lt-ltb, leb-true}
 use lib.Pow.{pow-pos, pow-mono}
 use lib.ListN.{length, getD, length-append, length-map, List·getD-append}
 use lib.Seq.{getD-append-add}
 use Rattle.rules.specs.Answer.{ok}
-use Rattle.rules.specs.Layout.{flatten, octets, writeNum, writeChain}
+use Rattle.rules.specs.Chain.{flatten, octets, writeNum, writeChain}
 use Rattle.rules.specs.Presence.{present, number, usable, house, numbers, writePresence, has, placeAt, allUsable, rowFlags, anySet, keepRow, setFlags}
 use Rattle.rules.specs.Record.{Place}
 use Rattle.rules.proofs.AnswerLaws.{bind-in, need-in, T-true, both-left, both-right, or-right, or-cases, below-or}

@@ -1,7 +1,7 @@
 -- Every refusal of the rules has a number from 1 to 21, whatever octets are lent: so a struct's `number` is 0 exactly where the work was done.
 --
--- In order: answers; fields; an item; an FSPEC; a record; blocks; finding; walking a log; one item; adding a record; the structs. Assumes nothing.
-use Prim.Native.Nat.{ℕ, zero, suc, _-_, _≤_}
+-- In order: answers; items, and an FSPEC and the items that it names; a record; blocks; finding; walking a log; one item; adding a record; the structs. Assumes nothing.
+use Prim.Native.Nat.{ℕ, zero, suc, _+_, _-_, _*_, _≤_}
 use mathlib.Core.Path.{_≡_, refl, sym, ap, _∙_, subst}
 use mathlib.Core.Bool.{Bool, true, false, _&&_}
 use mathlib.Core.Option.{Option, none, some}
@@ -12,17 +12,18 @@ use lib.Dec.{T, leb, eqb, leb→le}
 use lib.IntN.{ℤ, pos, negsuc}
 use lib.ListN.{length, take}
 use Rattle.rules.specs.Answer.{Answer, ok, refused, _>>=_, need_or_then_, if_then_else_, expect_or_, later, Read, Write}
-use Rattle.rules.specs.Field.{Kind, unsigned, signed, Field, spare, value, put, pack, get, unpack}
-use Rattle.rules.specs.Layout.{Layout, fixed, repeated, led, extended, Values, writeNum, readNum, writeMany, readMany, writeChain, readChain, writeParts, readParts, packAll, unpackAll, writeItem, readItem, partsFrom, writeFields, readFields}
-use Rattle.rules.specs.Presence.{flagRows, readPresence, readRow, readRows, readPlaces}
-use Rattle.rules.specs.Record.{Place, Message, Category, Record, items, places, valueOf, typeOf, messageOf, judge, readPlace, readRecord}
+use Rattle.rules.specs.Chain.{flatten, readNum}
+use Rattle.rules.specs.Layout.{Values, inParts, inSubfields}
+use Rattle.rules.specs.Presence.{readRows, readPlaces}
+use Rattle.rules.specs.Record.{Place, Message, Category, Record, items, places, valueOf, spelled, typeOf, messageOf, judge, readPlace, readRecord}
 use Rattle.rules.specs.Block.{categoryOf, readUpTo, readAll, Head, readHead, readBody, readBlock}
 use Rattle.rules.specs.Recording.{readRecording}
 use Rattle.rules.specs.Catalogue.{categories}
 use Rattle.rules.specs.Entry.{checkBlock, checkRecording, openBlock, numbered, findRecord, findItem, layoutAs, layoutOf, readOne, writeOne, Added, added, refusedOld, refusedNew, oldBlock, newRecord, joinRecord, inNew, inOld, addRecord}
-use Rattle.rules.proofs.AnswerLaws.{refused-ok, Octets, Split, Laws, Starts, after}
+use Rattle.rules.proofs.AnswerLaws.{Only, refused-ok, Octets, Split, Laws, Starts, after}
 use Rattle.rules.proofs.AnswerLaws.{ok-inj, bind-elim, later-inv}
-use Rattle.rules.proofs.LayoutLaws.{octets-take}
+use Rattle.rules.proofs.Refusals.{Reads, num-read, rows-read, places-read, item-read, fields-read, fields-written}
+use Rattle.rules.proofs.ChainLaws.{octets-take}
 use Rattle.rules.proofs.RecordLaws.{record-laws, record-starts}
 use Rattle.rules.proofs.BlockLaws.{HeadCame, head-forth, block-laws, block-starts}
 use Rattle.blocks.proofs.LoopLaws.{Taken, taken}
@@ -30,7 +31,7 @@ use Rattle.asterix.proofs.Numbered as numbered
 use Rattle.walking.specs.declared.Cursor as walking-cursor
 use Rattle.walking.specs.declared.Met.the-variants as met
 use Rattle.walking.specs.declared.Walked.{Walked}
-use Rattle.walking.specs.Walk.{part, more, stays, passed, answered, openIn, openAt, blockAt, recordIn, recordAt, nextRecord}
+use Rattle.walking.specs.Walk.{more, stays, answered, openIn, openAt, blockAt, recordIn, recordAt, nextRecord}
 use Rattle.asterix.specs.declared.RecordMet.{RecordMet}
 use Rattle.asterix.specs.Answers.{recordMet}
 use Rattle.asterix.specs.Answers.{blockChecked, recordingChecked, recordFound, itemFound, itemRead, itemWritten, recordAdded}
@@ -68,142 +69,43 @@ step m f h i = numbered.step 1 21 m f h i
 on : {A : Type 0} (k : ℕ) (m : Answer A) → Numbered m → Numbered (later k m)
 on k m h = numbered.on 1 21 k m h
 
--- ---- fields
+-- ---- items, and an FSPEC and the items that it names
 
-puts : (w : ℕ) (k : Kind) (v : ℤ) → Numbered (put w k v)
-unfolding put
-puts w (unsigned lo hi) (pos n) = test _ 11 _ tt (test _ 11 _ tt (done _))
-puts w (unsigned lo hi) (negsuc n) = refusal 11 0 tt
-puts w (signed lo hi) (pos n) = test _ 11 _ tt (test _ 11 _ tt (done _))
-puts w (signed lo hi) (negsuc n) = test _ 11 _ tt (test _ 11 _ tt (done _))
+abbrev OfNumber : ℕ → ℕ → Type 0
+OfNumber n p = Number n
 
-packs : (fs : List Field) (vs : List ℤ) → Numbered (pack fs vs)
-unfolding pack
-packs [] [] = done _
-packs [] (v ∷ vs) = refusal 11 0 tt
-packs (spare w ∷ fs) vs = packs fs vs
-packs (value w k ∷ fs) [] = refusal 11 0 tt
-packs (value w k ∷ fs) (v ∷ vs) = step _ _ (puts w k v) (λ c e. test _ 11 _ tt (step _ _ (packs fs vs) (λ n f. done _)))
+from-only : {A : Type 0} (m : Answer A) → Only OfNumber m → Numbered m
+from-only m h n p e = subst (Only OfNumber) e h
 
-gets : (w : ℕ) (k : Kind) (c : ℕ) → Numbered (get w k c)
-unfolding get
-gets w (unsigned lo hi) c = test _ 11 _ tt (test _ 11 _ tt (done _))
-gets w (signed lo hi) c = either _ _ _ (test _ 11 _ tt (done _)) (test _ 11 _ tt (test _ 11 _ tt (done _)))
-
-unpacks : (fs : List Field) (n : ℕ) → Numbered (unpack fs n)
-unfolding unpack
-unpacks [] n = test _ 11 _ tt (done _)
-unpacks (spare w ∷ fs) n = test _ 11 _ tt (unpacks fs _)
-unpacks (value w k ∷ fs) n = step _ _ (gets w k _) (λ v e. test _ 11 _ tt (step _ _ (unpacks fs _) (λ vs f. done _)))
-
--- ---- an item
-
-number-written : (k n : ℕ) → Numbered (writeNum k n)
-unfolding writeNum
-number-written k n = test _ 11 _ tt (done _)
+reads : Reads OfNumber
+reads = record { six = tt; seven = tt; eight = tt; nine = tt; ten = tt; eleven = tt }
 
 number-read : (cut k : ℕ) (bs : List ℕ) → Number cut → Numbered (readNum cut k bs)
-unfolding readNum
-number-read cut k bs h = test _ cut _ h (done _)
+number-read cut k bs h = from-only _ (num-read OfNumber cut k bs h)
 
-many-written : (k : ℕ) (ns : List ℕ) → Numbered (writeMany k ns)
-unfolding writeMany
-many-written k [] = done _
-many-written k (n ∷ ns) = step _ _ (number-written k n) (λ b e. step _ _ (many-written k ns) (λ bs f. done _))
+place-read : (p : Place) (bs : List ℕ) → Only OfNumber (readPlace p bs)
+unfolding readPlace
+place-read p bs = item-read OfNumber reads (p .layout) bs
 
-many-read : (k c : ℕ) (bs : List ℕ) → Numbered (readMany k c bs)
-unfolding readMany
-many-read k zero bs = done _
-many-read k (suc c) bs = step _ _ (number-read 9 k bs tt) (λ x e. step _ _ (many-read k c (x .1)) (λ y f. done _))
+rows-numbered : (ps : List (List (Option Place))) (ts : List (List Bool)) (bs : List ℕ) → Numbered (readRows readPlace ps ts bs)
+rows-numbered ps ts bs = from-only _ (rows-read readPlace OfNumber (λ k n p h. h) tt tt place-read ps ts bs)
 
-chain-written : (ks ns : List ℕ) → Numbered (writeChain ks ns)
-unfolding writeChain
-chain-written [] ns = refusal 11 0 tt
-chain-written (k ∷ ks) [] = refusal 11 0 tt
-chain-written (k ∷ ks) (n ∷ []) = number-written k _
-chain-written (k ∷ ks) (n ∷ (m ∷ ns)) = step _ _ (number-written k _) (λ b e. step _ _ (chain-written ks (m ∷ ns)) (λ bs f. done _))
-
-chain-read : (cut past : ℕ) (ks bs : List ℕ) → Number cut → Number past → Numbered (readChain cut past ks bs)
-unfolding readChain
-chain-read cut past [] bs h i = refusal past 0 i
-chain-read cut past (k ∷ ks) bs h i =
-    step _ _ (number-read cut k bs h) (λ x e. either _ _ _ (done _) (step _ _ (chain-read cut past ks (x .1) h i) (λ y f. done _)))
-
-parts-written : (l : Layout) (ns : List ℕ) → Numbered (writeParts l ns)
-unfolding writeParts
-parts-written (fixed g) ns = test _ 11 _ tt (many-written (g .size) ns)
-parts-written (repeated lo hi g) ns = step _ _ (number-written 1 _) (λ c e. step _ _ (many-written (g .size) ns) (λ bs f. done _))
-parts-written (led lo) ns = test _ 11 _ tt (step _ _ (number-written 1 _) (λ c e. step _ _ (many-written 1 ns) (λ bs f. done _)))
-parts-written (extended gs) ns = chain-written _ ns
-
-parts-read : (l : Layout) (bs : List ℕ) → Numbered (readParts l bs)
-unfolding readParts
-parts-read (fixed g) bs = many-read (g .size) 1 bs
-parts-read (repeated lo hi g) bs = step _ _ (number-read 9 1 bs tt) (λ x e. many-read (g .size) (x .0) (x .1))
-parts-read (led lo) bs = step _ _ (number-read 9 1 bs tt) (λ x e. test _ 10 _ tt (many-read 1 _ (x .1)))
-parts-read (extended gs) bs = chain-read 9 11 _ bs tt tt
-
-all-packed : (gs : List (List Field)) (vs : Values) → Numbered (packAll gs vs)
-unfolding packAll
-all-packed gs [] = done _
-all-packed [] (v ∷ vs) = refusal 11 0 tt
-all-packed (g ∷ gs) (v ∷ vs) = step _ _ (packs g v) (λ n e. step _ _ (all-packed gs vs) (λ ns f. done _))
-
-all-unpacked : (gs : List (List Field)) (ns : List ℕ) → Numbered (unpackAll gs ns)
-unfolding unpackAll
-all-unpacked gs [] = done _
-all-unpacked [] (n ∷ ns) = refusal 11 0 tt
-all-unpacked (g ∷ gs) (n ∷ ns) = step _ _ (unpacks g n) (λ v e. step _ _ (all-unpacked gs ns) (λ vs f. done _))
-
-item-written : (l : Layout) (vs : Values) → Numbered (writeItem l vs)
-unfolding writeItem
-item-written l vs = step _ _ (test _ 11 _ tt (all-packed _ vs)) (λ ns e. parts-written l ns)
-
-item-read : (l : Layout) (bs : List ℕ) → Numbered (readItem l bs)
-unfolding readItem
-item-read l bs = step _ _ (parts-read l bs) (λ x e. step _ _ (test _ 11 _ tt (all-unpacked _ (x .0))) (λ vs f. done _))
-
-parts-cut : (gs : List (List Field)) (vs : List ℤ) → Numbered (partsFrom gs vs)
-unfolding partsFrom
-parts-cut [] vs = test _ 11 _ tt (done _)
-parts-cut (g ∷ gs) vs = either _ _ _ (done _) (test _ 11 _ tt (step _ _ (parts-cut gs _) (λ ps e. done _)))
-
--- ---- an FSPEC
-
-rows-flagged : (ps : List (List (Option Place))) (ns : List ℕ) → Numbered (flagRows ps ns)
-unfolding flagRows
-rows-flagged ps [] = done _
-rows-flagged [] (n ∷ ns) = refusal 8 0 tt
-rows-flagged (p ∷ ps) (n ∷ ns) = test _ 8 _ tt (test _ 8 _ tt (step _ _ (rows-flagged ps ns) (λ ts e. done _)))
-
-presence-read : (ps : List (List (Option Place))) (bs : List ℕ) → Numbered (readPresence 5 ps bs)
-unfolding readPresence
-presence-read ps bs = step _ _ (chain-read 5 6 _ bs tt tt) (λ x e. step _ _ (test _ 7 _ tt (rows-flagged ps (x .0))) (λ ts f. done _))
-
-row-read : (ps : List (Option Place)) (ts : List Bool) (bs : List ℕ) → Numbered (readRow readPlace ps ts bs)
-unfolding readRow readPlace
-row-read [] [] bs = done _
-row-read [] (t ∷ ts) bs = refusal 8 0 tt
-row-read (p ∷ ps) [] bs = refusal 8 0 tt
-row-read (p ∷ ps) (false ∷ ts) bs = step _ _ (row-read ps ts bs) (λ x e. done _)
-row-read (none ∷ ps) (true ∷ ts) bs = refusal 8 0 tt
-row-read (some p ∷ ps) (true ∷ ts) bs = step _ _ (item-read (p .layout) bs) (λ x e. step _ _ (on _ _ (row-read ps ts (x .1))) (λ y f. done _))
-
-rows-read : (ps : List (List (Option Place))) (ts : List (List Bool)) (bs : List ℕ) → Numbered (readRows readPlace ps ts bs)
-unfolding readRows
-rows-read ps [] bs = done _
-rows-read [] (t ∷ ts) bs = refusal 8 0 tt
-rows-read (p ∷ ps) (t ∷ ts) bs = step _ _ (row-read p t bs) (λ x e. step _ _ (on _ _ (rows-read ps ts (x .1))) (λ y f. done _))
+places-numbered : (ps : List (List (Option Place))) (bs : List ℕ) → Numbered (readPlaces readPlace 5 ps bs)
+places-numbered ps bs = from-only _ (places-read readPlace OfNumber (λ k n p h. h) tt tt place-read 5 ps bs tt tt)
 
 -- ---- a record
+
+type-spelled : (t : ℕ) (vs : List ℤ) → Numbered (spelled t vs)
+unfolding spelled
+type-spelled t [] = done _
+type-spelled t (pos n ∷ vs) = type-spelled (t * 16 + n) vs
+type-spelled t (negsuc n ∷ vs) = refusal 13 0 tt
 
 type-read : (x : Option Values) → Numbered (typeOf x)
 unfolding typeOf
 type-read none = refusal 12 0 tt
-type-read (some []) = refusal 13 0 tt
-type-read (some ([] ∷ ps)) = refusal 13 0 tt
-type-read (some ((pos n ∷ vs) ∷ ps)) = done _
-type-read (some ((negsuc n ∷ vs) ∷ ps)) = refusal 13 0 tt
+type-read (some (inParts vs)) = type-spelled 0 (flatten vs)
+type-read (some (inSubfields rs)) = refusal 13 0 tt
 
 message-found : (t : ℕ) (ms : List Message) → Numbered (messageOf t ms)
 unfolding messageOf
@@ -215,9 +117,8 @@ unfolding judge
 judged c r = step _ _ (type-read (valueOf 0 (items c r))) (λ t e. step _ _ (message-found t (c .messages)) (λ m f. test _ 14 _ tt (test _ 15 _ tt (done _))))
 
 record-read : (c : Category) (bs : List ℕ) → Numbered (readRecord c bs)
-unfolding readRecord readPlaces
-record-read c bs =
-    step _ _ (step _ _ (presence-read (c .profile) bs) (λ x e. on _ _ (rows-read (c .profile) (x .0) (x .1)))) (λ x e. step _ _ (judged c (x .0)) (λ s f. done _))
+unfolding readRecord
+record-read c bs = step _ _ (places-numbered (c .profile) bs) (λ x e. step _ _ (judged c (x .0)) (λ s f. done _))
 
 -- ---- blocks
 
@@ -338,14 +239,14 @@ unfolding layoutOf
 layout-found cs cat ref = step _ _ (lookup (categoryOf cat cs) 21 tt) (λ c e. lookup (layoutAs ref (places c)) 21 tt)
 
 one-read : (cs : List Category) (cat ref : ℕ) (bs : List ℕ) → Numbered (readOne cs cat ref bs)
-unfolding readOne readFields
+unfolding readOne
 one-read cs cat ref bs =
-    step _ _ (layout-found cs cat ref) (λ l e. step _ _ (step _ _ (item-read l bs) (λ x f. done _)) (λ x f. on _ _ (test _ 18 _ tt (done _))))
+    step _ _ (layout-found cs cat ref) (λ l e. step _ _ (from-only _ (fields-read OfNumber reads l bs)) (λ x f. on _ _ (test _ 18 _ tt (done _))))
 
 one-written : (cs : List Category) (cat ref : ℕ) (fs : List ℤ) (room : ℕ) → Numbered (writeOne cs cat ref fs room)
-unfolding writeOne writeFields
+unfolding writeOne
 one-written cs cat ref fs room =
-    step _ _ (layout-found cs cat ref) (λ l e. step _ _ (step _ _ (parts-cut _ fs) (λ vs f. item-written l vs)) (λ bs f. test _ 16 _ tt (done _)))
+    step _ _ (layout-found cs cat ref) (λ l e. step _ _ (from-only _ (fields-written OfNumber tt l fs)) (λ bs f. test _ 16 _ tt (done _)))
 
 -- ---- adding a record
 
@@ -362,7 +263,7 @@ unfolding newRecord
 new-read c fs bs =
     test _ 7 _ tt
     (test _ 8 _ tt
-    (step _ _ (rows-read (c .profile) _ bs) (λ x e. step _ _ (on _ _ (test _ 18 _ tt (done _))) (λ r f. step _ _ (judged c r) (λ t g. done _)))))
+    (step _ _ (rows-numbered (c .profile) _ bs) (λ x e. step _ _ (on _ _ (test _ 18 _ tt (done _))) (λ r f. step _ _ (judged c r) (λ t g. done _)))))
 
 record-joined : (room : ℕ) (old new : List ℕ) → Numbered (joinRecord room old new)
 unfolding joinRecord

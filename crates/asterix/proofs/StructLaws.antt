@@ -9,9 +9,9 @@ use lib.IntN.{ℤ}
 use Rattle.rules.specs.Answer.{Answer, ok, refused, _>>=_}
 use Rattle.rules.specs.Entry.{Counts, RecordMap, Laid, Added, added, refusedOld, refusedNew}
 use Rattle.items.specs.Answers.{readOf, countOf}
-use Rattle.items.specs.Write.{writtenAs}
+use Rattle.writing.specs.Item.{writtenAs}
 use Rattle.items.specs.declared.ItemRead as items-read
-use Rattle.items.specs.declared.write.ItemWritten as items-written
+use Rattle.writing.specs.declared.write.ItemWritten as writing-written
 use Rattle.records.specs.Answers.{mapIn}
 use Rattle.records.specs.declared.RecordMap as records
 use Rattle.blocks.specs.Answers.{checkedOf}
@@ -92,7 +92,7 @@ unfolding itemWritten countOf _>>=_
 written-by (ok bs) = refl
 written-by (refused n p) = refl
 
-pub item-written : {r y : items-written.ItemWritten} (a : Answer (List ℕ)) → writtenAs r ≡ countOf a → r ≡ y → writtenBy (writtenAs y) ≡ itemWritten a
+pub item-written : {r y : writing-written.ItemWritten} (a : Answer (List ℕ)) → writtenAs r ≡ countOf a → r ≡ y → writtenBy (writtenAs y) ≡ itemWritten a
 item-written a h e = in-case (λ x. writtenBy (writtenAs x)) (ap writtenBy h ∙ written-by a) e
 
 -- ---- adding a record

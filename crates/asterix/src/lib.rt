@@ -551,13 +551,13 @@ pub extern "C" fn asterix_write_item(
     ensures answer { λ r. ⌜ r ≡ itemWritten (writeOne categories category reference (now (fields .entry)) (length (now (out .entry)))) ⌝ }
     ensures left { λ _. ⌜ now (out .exit) ≡ leaves (writeOne categories category reference (now (fields .entry)) (length (now (out .entry)))) (now (out .entry)) ⌝ }
 {
-    match items::write_item(category, reference, fields, out) {
-        items::ItemWritten::Length(length) => ItemWritten {
+    match writing::write_item(category, reference, fields, out) {
+        writing::ItemWritten::Length(length) => ItemWritten {
             number: 0,
             place: 0,
             length,
         },
-        items::ItemWritten::Refused { number, place } => ItemWritten {
+        writing::ItemWritten::Refused { number, place } => ItemWritten {
             number,
             place,
             length: 0,

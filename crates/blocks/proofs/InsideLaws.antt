@@ -1,33 +1,39 @@
 -- A refusal's place lies in the octets that were read, or at their end.
 --
 -- In order: answers; an FSPEC; items; a record; things end to end; a block. Assumes nothing.
-use Prim.Native.Nat.{ℕ, zero, suc, _+_, _-_, _≤_}
-use mathlib.Core.Path.{_≡_, refl, sym, ap, _∙_}
+use Prim.Native.Nat.{ℕ, zero, suc, _+_, _-_, _*_, _≤_}
+use mathlib.Core.Path.{_≡_, refl, sym, ap, _∙_, subst}
 use mathlib.Core.Bool.{Bool, true, false}
 use mathlib.Core.Option.{Option, none, some}
 use mathlib.Core.List.{List, [], _∷_}
 use native.Mathlib.Omega.{arith}
 use lib.Dec.{leb}
-use lib.IntN.{pos, negsuc}
+use lib.IntN.{ℤ, pos, negsuc}
 use lib.ListN.{length, take, length-append, length-take}
 use Rattle.rules.specs.Answer.{Answer, ok, refused, _>>=_, need_or_then_, if_then_else_, expect_or_, later, Read, Write}
-use Rattle.rules.specs.Layout.{Values, readNum, readChain}
+use Rattle.rules.specs.Chain.{flatten, readNum}
+use Rattle.rules.specs.Layout.{Values, inParts, inSubfields}
 use Rattle.rules.specs.Presence.{flagRows, writePresence, readPresence, writeRow, readRow, readRows, readPlaces}
-use Rattle.rules.specs.Record.{Place, Message, Category, Record, items, valueOf, typeOf, messageOf, judge, writePlace, readPlace, readRecord}
+use Rattle.rules.specs.Record.{Place, Message, Category, Record, items, valueOf, spelled, typeOf, messageOf, judge, writePlace, readPlace, readRecord}
 use Rattle.rules.specs.Block.{categoryOf, readUpTo, readAll, readHead, readBody, readBlock}
 use Rattle.rules.specs.Catalogue.{categories}
-use Rattle.rules.proofs.AnswerLaws.{refused-ok, Octets, Split, Laws, after}
-use Rattle.rules.proofs.LayoutLaws.{octets-take}
+use Rattle.rules.proofs.AnswerLaws.{Only, refused-ok, Octets, Split, Laws, after}
+use Rattle.rules.proofs.Refusals.{num-read, chain-read}
+use Rattle.rules.proofs.ChainLaws.{octets-take}
 use Rattle.rules.proofs.PresenceLaws.{presence-laws, row-forth}
 use Rattle.rules.proofs.RecordLaws.{place-laws, record-laws}
 use Rattle.rules.proofs.BlockLaws.{HeadCame, head-forth}
-use Rattle.records.proofs.PlaceLaws.{item-start}
+use Rattle.records.proofs.PlaceLaws.{AtStart, item-start}
 use Rattle.blocks.specs.Read.{checkFront}
 
 -- ---- answers
 
 abbrev pub Inside : {A : Type 0} → ℕ → Answer A → Type 0
 Inside k m = (n p : ℕ) → m ≡ refused n p → p ≤ k
+
+-- a refusal at the start
+start-inside : {A : Type 0} (k : ℕ) (m : Answer A) → Only AtStart m → Inside k m
+start-inside k m h n p e = let z : p ≡ 0 = subst (Only AtStart) e h in omega arith
 
 pub ok-inside : {A : Type 0} (k : ℕ) (a : A) → Inside k (ok a)
 ok-inside k a n p e = refused-ok (sym e)
@@ -64,14 +70,7 @@ on-inside bs rest m f l h i =
 -- ---- an FSPEC
 
 num-inside : (k cut c : ℕ) (bs : List ℕ) → Inside k (readNum cut c bs)
-unfolding readNum
-num-inside k cut c bs = need-inside k _ _ _ (ok-inside k _)
-
-chain-inside : (k cut past : ℕ) (ks bs : List ℕ) → Inside k (readChain cut past ks bs)
-unfolding readChain
-chain-inside k cut past [] bs = no-inside k past
-chain-inside k cut past (c ∷ ks) bs =
-    bind-inside k _ _ (num-inside k cut c bs) (λ x e. if-inside k _ _ _ (ok-inside k _) (bind-inside k _ _ (chain-inside k cut past ks (x .1)) (λ y f. ok-inside k _)))
+num-inside k cut c bs = start-inside k _ (num-read AtStart cut c bs refl)
 
 flags-inside : (k : ℕ) (ps : List (List (Option Place))) (ns : List ℕ) → Inside k (flagRows ps ns)
 unfolding flagRows
@@ -82,7 +81,7 @@ flags-inside k (p ∷ ps) (n ∷ ns) = need-inside k _ _ _ (need-inside k _ _ _ 
 presence-inside : (k cut : ℕ) (ps : List (List (Option Place))) (bs : List ℕ) → Inside k (readPresence cut ps bs)
 unfolding readPresence
 presence-inside k cut ps bs =
-    bind-inside k _ _ (chain-inside k cut 6 _ bs) (λ x e. bind-inside k _ _ (need-inside k _ _ _ (flags-inside k ps (x .0))) (λ ts f. ok-inside k _))
+    bind-inside k _ _ (start-inside k _ (chain-read AtStart cut 6 _ bs refl refl)) (λ x e. bind-inside k _ _ (need-inside k _ _ _ (flags-inside k ps (x .0))) (λ ts f. ok-inside k _))
 
 -- ---- items
 
@@ -116,13 +115,17 @@ rows-inside (p ∷ ps) (t ∷ ts) bs o =
 
 -- ---- a record
 
+spelled-inside : (k t : ℕ) (vs : List ℤ) → Inside k (spelled t vs)
+unfolding spelled
+spelled-inside k t [] = ok-inside k t
+spelled-inside k t (pos n ∷ vs) = spelled-inside k (t * 16 + n) vs
+spelled-inside k t (negsuc n ∷ vs) = no-inside k 13
+
 type-inside : (k : ℕ) (x : Option Values) → Inside k (typeOf x)
 unfolding typeOf
 type-inside k none = no-inside k 12
-type-inside k (some []) = no-inside k 13
-type-inside k (some ([] ∷ ps)) = no-inside k 13
-type-inside k (some ((pos n ∷ vs) ∷ ps)) = ok-inside k n
-type-inside k (some ((negsuc n ∷ vs) ∷ ps)) = no-inside k 13
+type-inside k (some (inParts vs)) = spelled-inside k 0 (flatten vs)
+type-inside k (some (inSubfields rs)) = no-inside k 13
 
 message-inside : (k t : ℕ) (ms : List Message) → Inside k (messageOf t ms)
 unfolding messageOf

@@ -7,13 +7,13 @@ use mathlib.Core.Path.{_≡_, refl, sym, ap, _∙_, subst}
 use mathlib.Core.List.{List, [], _∷_}
 use native.Mathlib.Omega.{arith}
 use native.Mathlib.Nat.{add-assoc, zero-add, le-refl}
-use lib.ListN.{length, take, drop, getD, length-append, length-drop, take-append-drop}
-use lib.Seq.{take-all, drop-at}
+use lib.ListN.{length, drop, getD, length-append}
+use lib.Seq.{drop-at}
 use mir.Syntax.{w8}
 use mir.Val.{Fits}
 use Rattle.rules.specs.Answer.{Answer, ok, refused, _>>=_, later, Read, Write}
 use Rattle.rules.specs.Block.{readUpTo, readAll}
-use Rattle.rules.proofs.AnswerLaws.{refused-ok, ok-inj, bind-in, bind-elim, later-inv, Octets, octets-right, Split, Laws, Starts, after}
+use Rattle.rules.proofs.AnswerLaws.{refused-ok, ok-inj, bind-in, bind-elim, later-inv, Octets, Split, Laws, Starts, after}
 
 -- ---- answers further on
 
@@ -57,16 +57,6 @@ pub octets-at : (bs : List ℕ) (i : ℕ) → Octets bs → getD bs i 0 < 256
 octets-at [] i o = omega arith
 octets-at (b ∷ bs) zero o = o .0
 octets-at (b ∷ bs) (suc i) o = octets-at bs i (o .1)
-
-pub octets-drop : (k : ℕ) (bs : List ℕ) → Octets bs → Octets (drop k bs)
-octets-drop k bs o = octets-right (take k bs) (drop k bs) (subst Octets (sym (take-append-drop k bs)) o)
-
--- the part from a place on, as the rule for `&s[a..]` has it
-pub to-end : (bs : List ℕ) (a : ℕ) → take (length bs - a) (drop a bs) ≡ drop a bs
-to-end bs a = take-all (length bs - a) (drop a bs) (rw length-drop (omega arith))
-
-pub octets-to-end : (bs : List ℕ) (a : ℕ) → Octets bs → Octets (take (length bs - a) (drop a bs))
-octets-to-end bs a o = subst Octets (sym (to-end bs a)) (octets-drop a bs o)
 
 -- ---- what one thing takes: some octets, and what is left is the list from there on
 

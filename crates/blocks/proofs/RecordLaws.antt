@@ -11,7 +11,7 @@ use Rattle.rules.specs.Answer.{Answer, ok, refused, _>>=_, later, octetsOf}
 use Rattle.rules.specs.Record.{Category, Record, readRecord, writeRecord}
 use Rattle.rules.specs.Block.{readAll}
 use Rattle.rules.specs.Entry.{RecordMap, mapOf}
-use Rattle.rules.proofs.AnswerLaws.{refused-ok, ok-inj, bind-in, bind-elim, bind-cong, later-inv, later-in, octetsOf-ok, Octets, Split}
+use Rattle.rules.proofs.AnswerLaws.{refused-ok, ok-inj, bind-in, bind-elim, bind-cong, later-inv, later-in, octetsOf-ok, Octets, Split, octets-drop}
 use Rattle.rules.proofs.RecordLaws.{record-laws, record-starts}
 use Rattle.sets.specs.Sets.{categoryAt}
 use Rattle.records.specs.declared.RecordChecked.the-variants as recordChecked
@@ -19,7 +19,7 @@ use Rattle.records.specs.declared.RecordChecked.{RecordChecked}
 use Rattle.records.specs.Answers.{endOf, recordAt}
 use Rattle.quick_records.specs.Record.{endAt}
 use Rattle.blocks.specs.Read.{countFrom, Records}
-use Rattle.blocks.proofs.LoopLaws.{Taken, taken-out, all-end, all-stop, all-turn, octets-drop}
+use Rattle.blocks.proofs.LoopLaws.{Taken, taken-out, all-end, all-stop, all-turn}
 
 -- ---- one record
 

@@ -1,5 +1,5 @@
-// One block of categories 017 and 018: checking it, alone or at the front of a recording (document 01, "Block, record, item" and "Refusal numbers and
-// their order"). Profile 0 is category 017, edition 1.3; profile 1 is category 018, edition 1.6.
+// One block: checking it, alone or at the front of a recording (document 01, "Block, record, item" and "Refusal numbers and their order"). A profile is a
+// category by its index, as `sets` has them.
 mod check;
 mod head;
 

@@ -14,7 +14,8 @@ use lib.Dec.{T, ltb, eqb}
 use lib.ListN.{length, drop, getD, getElem?, length-append, List·getD-eq-default}
 use lib.Seq.{drop-at}
 use Rattle.rules.specs.Answer.{Answer, ok, refused, octetsOf}
-use Rattle.rules.specs.Layout.{Layout, Values, flatten, readItem, writeItem}
+use Rattle.rules.specs.Chain.{flatten}
+use Rattle.rules.specs.Layout.{Layout, Values, readItem, writeItem}
 use Rattle.rules.specs.Presence.{placeAt}
 use Rattle.rules.specs.Record.{Place, Category, Record, places, items, valueOf, writeRecord}
 use Rattle.rules.specs.Block.{writeAll}

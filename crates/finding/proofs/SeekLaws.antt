@@ -10,13 +10,12 @@ use Rattle.rules.specs.Answer.{Answer, ok, refused, _>>=_}
 use Rattle.rules.specs.Record.{Category}
 use Rattle.rules.specs.Block.{readUpTo, readAll}
 use Rattle.rules.specs.Entry.{RecordMap, mapOf, numbered}
-use Rattle.rules.proofs.AnswerLaws.{bind-in, Octets}
+use Rattle.rules.proofs.AnswerLaws.{bind-in, Octets, octets-drop}
 use Rattle.sets.specs.Sets.{categoryAt}
 use Rattle.records.specs.declared.RecordMap.{RecordMap as RecordMap′}
 use Rattle.records.specs.declared.RecordWalked.{RecordWalked}
 use Rattle.records.specs.Answers.{mapIn, Walked, recordAt}
 use Rattle.blocks.specs.Read.{Records}
-use Rattle.blocks.proofs.LoopLaws.{octets-drop}
 use Rattle.blocks.proofs.RecordLaws.{record-is, Accepted, records-turn}
 use Rattle.finding.specs.declared.find.RecordPlace.the-variants.{At}
 use Rattle.finding.specs.Found.{seekAt, recordSpan, Located}

@@ -1,91 +1,54 @@
 -- The check of an item is its rule: how many octets it takes.
 --
 -- In order: how many octets an item takes; an item with one part; the place of an item. Assumes nothing.
-use Prim.Native.Nat.{ℕ, zero, suc, _+_, _-_, _*_, _<_, _≤_}
+use Prim.Native.Nat.{ℕ, _+_, _-_, _*_, _<_, _≤_}
 use mathlib.Core.Path.{_≡_, refl, sym, ap, _∙_, subst}
 use mathlib.Core.Bool.{Bool, true, false, cond, _&&_}
 use mathlib.Core.Logic.{⊎-elim}
 use mathlib.Core.Option.{Option, none, some}
-use mathlib.Core.List.{List, [], map}
+use mathlib.Core.List.{List, []}
 use native.Mathlib.Omega.{arith}
 use native.Mathlib.Nat.{add-zero}
 use lib.Dec.{eqb, lit<}
-use lib.ListN.{length, getD, drop, length-drop, List·getD-map}
-use lib.Seq.{slice}
+use lib.ListN.{length, getD, drop, List·getD-map}
 use borrow.Author.Tests.{le-leb, lt-leb, lt-ltb, eqb-true}
-use Rattle.rules.specs.Answer.{Answer, ok, refused, _>>=_, need_or_then_, expect_or_}
-use Rattle.rules.specs.Layout.{Layout, Values}
+use Rattle.rules.specs.Answer.{ok, refused, _>>=_, need_or_then_, expect_or_}
+use Rattle.rules.specs.Layout.{Layout, readItem}
 use Rattle.rules.specs.Presence.{placeAt}
 use Rattle.rules.specs.Catalogue.{categories}
 use Rattle.rules.specs.Entry.{profileAt}
-use Rattle.rules.proofs.AnswerLaws.{Octets, none-some}
+use Rattle.rules.proofs.AnswerLaws.{Octets, bind-in, bind-assoc, bind-cong}
 use Rattle.tables.specs.declared.tables.LayoutRow.{LayoutRow}
 use Rattle.tables.specs.declared.tables.PlaceRow.{PlaceRow}
-use Rattle.tables.specs.Tables.{groupCount, profileCount, frnCount, groups, groupIs, groupRows, groupAt, layoutBy, layoutIs, layoutAt, nowhere, profileRows, placeRowAt, placeIs}
+use Rattle.tables.specs.Tables.{groupCount, layoutCount, profileCount, frnCount, groupAt, layoutIs, layoutAt, nowhere, profileRows, placeRowAt, placeIs}
 use Rattle.tables.specs.FieldRules.{singleOf, singles}
 use Rattle.tables.proofs.TableLaws.{place-is, place-row, place-none}
-use Rattle.layouts.specs.Read.{rowsAt, partAt, legal, span, partSound, partsSound, partsLegal, faultAt, need_or_further_then_, Shaped, headOf, stepOf, shapeBy, shapeOf, wholeOf, wholeSize, readBy, rowSound, singleSize}
+use Rattle.layouts.specs.Read.{rowsAt, partAt, legal, span, partSound, partsSound, partsLegal, faultAt, need_or_further_then_, Shaped, stepOf, shapeBy, shapeOf, wholeOf, wholeSize, rowSound, singleSize}
 use Rattle.layouts.proofs.PartLaws.{First, first-part}
-use Rattle.layouts.proofs.ReadLaws.{fitting, reads, le-or-lt}
-use Rattle.layouts.proofs.ShapeLaws.{Rowed, rowed, fixed-one, fixed-group, fixed-cut, fixed-there}
+use Rattle.layouts.proofs.ReadLaws.{le-or-lt}
+use Rattle.layouts.proofs.ShapeLaws.{Rowed, rowed, fixed-one, fixed-short, fixed-cut, fixed-there}
 use Rattle.layouts.proofs.SoundLaws.{layout-sound}
 use Rattle.layouts.proofs.WholeLaws.{whole-stopped, equal-free}
+use Rattle.compounds.specs.Compound.{Told, itemSize, itemSound}
+use Rattle.compounds.proofs.ItemLaws.{item-told, no-row, row-item}
+use Rattle.compounds.proofs.SizeLaws.{whole-item, no-whole}
 use Rattle.items.specs.Answers.{sizeOf, checkAt}
 
 -- ---- how many octets an item takes
 
--- what is left says how many octets were taken
-size-legal : (t : Bool) (p : ℕ) (vs : Values) (c long : ℕ) (bs : List ℕ) → long ≤ length bs
-    → _>>=_ {A = Values × List ℕ} (need t or 11 further p then ok (vs, drop long bs)) (λ x. ok (length bs - length (x .1))) ≡ (_>>=_ {A = Shaped} (need t or 11 further p then ok (c, long)) (λ s. ok (s .1)))
-unfolding need_or_further_then_ _>>=_
-size-legal true p vs c long bs h = ap ok (omega (arith, length-drop long bs))
-size-legal false p vs c long bs h = refl
+size-is : (l : LayoutRow) (i : Layout) (bs : List ℕ) → rowSound l ≡ true → itemSound l ≡ true → layoutIs l ≡ some i → Octets bs → sizeOf i bs ≡ itemSize l bs
+unfolding sizeOf itemSize
+size-is l i bs r s h o =
+    sym (bind-assoc (readItem i bs) _ _ ∙ bind-cong _ _ _ (λ x. bind-in _ refl refl)) ∙ ap (λ m. m >>= (λ (x : Told). ok (x .1))) (item-told l i bs r s h o)
 
-size-read : (l : LayoutRow) (bs : List ℕ) → rowSound l ≡ true → Octets bs → (readBy l bs >>= (λ x. ok (length bs - length (x .1)))) ≡ wholeSize l bs
-unfolding readBy wholeSize wholeOf shapeOf _>>=_
-size-read l bs s o = go (shapeOf l bs) refl
+pub check-is : (r : PlaceRow) (profile frn : ℕ) (bs : List ℕ) → placeIs r ≡ placeAt (profileAt categories profile) frn → r .layout < layoutCount → Octets bs
+    → checkAt profile frn bs ≡ itemSize (layoutAt (r .layout)) bs
+unfolding placeIs checkAt itemSize expect_or_ _>>=_
+check-is r profile frn bs h k o = go (layoutIs (layoutAt (r .layout))) refl
   where
-    go : (m : Answer Shaped) → shapeOf l bs ≡ m → (readBy l bs >>= (λ x. ok (length bs - length (x .1)))) ≡ wholeSize l bs
-    go (ok x) e = rw e (size-legal (partsLegal (stepOf (l .kind)) (l .first) (x .0) (drop (headOf (l .kind)) bs)) _ _ (x .0) (x .1) bs (fitting l bs x s o e .there))
-    go (refused n p) e = rw e
-
-size-is : (l : LayoutRow) (i : Layout) (bs : List ℕ) → rowSound l ≡ true → layoutIs l ≡ some i → Octets bs → sizeOf i bs ≡ wholeSize l bs
-unfolding sizeOf
-size-is l i bs s h o = ap (λ m. m >>= (λ x. ok (length bs - length (x .1)))) (reads l i bs s h o) ∙ size-read l bs s o
-
--- a row that is no item's
-pub no-item : (l : LayoutRow) (bs : List ℕ) → layoutIs l ≡ none → wholeOf l bs ≡ refused 21 0
-unfolding layoutIs layoutBy wholeOf shapeOf shapeBy _>>=_
-no-item l bs h = go (l .kind) refl
-  where
-    by : (k : ℕ) → l .kind ≡ k → layoutBy k (l .least) (l .most) (groupIs (groupAt (l .first))) (slice (l .first) (l .end) (map groupIs (groupRows 0 groups))) ≡ none
-    by k e = subst (λ x. layoutBy x (l .least) (l .most) (groupIs (groupAt (l .first))) (slice (l .first) (l .end) (map groupIs (groupRows 0 groups))) ≡ none) e h
-
-    go : (k : ℕ) → l .kind ≡ k → wholeOf l bs ≡ refused 21 0
-    go zero e = rw e
-    go (suc zero) e = none-some (sym (by 1 e))
-    go (suc (suc zero)) e = none-some (sym (by 2 e))
-    go (suc (suc (suc zero))) e = none-some (sym (by 3 e))
-    go (suc (suc (suc (suc k)))) e = none-some (sym (by (suc (suc (suc (suc k)))) e))
-
-pub check-is : (r : PlaceRow) (profile frn : ℕ) (bs : List ℕ) → placeIs r ≡ placeAt (profileAt categories profile) frn → rowSound (layoutAt (r .layout)) ≡ true → Octets bs
-    → checkAt profile frn bs ≡ wholeSize (layoutAt (r .layout)) bs
-unfolding placeIs checkAt wholeSize expect_or_ _>>=_
-check-is r profile frn bs h s o = go (layoutIs (layoutAt (r .layout))) refl
-  where
-    go : (x : Option Layout) → layoutIs (layoutAt (r .layout)) ≡ x → checkAt profile frn bs ≡ wholeSize (layoutAt (r .layout)) bs
-    go none e = rw (← h, e, no-item (layoutAt (r .layout)) bs e)
-    go (some i) e = rw (← h, e) (size-is (layoutAt (r .layout)) i bs s e o)
-
--- the two answers
-module _ (l : LayoutRow) (bs : List ℕ) where
-  pub check-whole : (c long : ℕ) → ok (c, long) ≡ wholeOf l bs → ok long ≡ wholeSize l bs
-  unfolding wholeSize _>>=_
-  check-whole c long e = rw (← e)
-
-  pub check-refused : (n p : ℕ) → refused n p ≡ wholeOf l bs → refused n p ≡ wholeSize l bs
-  unfolding wholeSize _>>=_
-  check-refused n p e = rw (← e)
+    go : (x : Option Layout) → layoutIs (layoutAt (r .layout)) ≡ x → checkAt profile frn bs ≡ itemSize (layoutAt (r .layout)) bs
+    go none e = rw (← h, e, no-row (layoutAt (r .layout)) bs e)
+    go (some i) e = rw (← h, e) (size-is (layoutAt (r .layout)) i bs (layout-sound (r .layout) k) (row-item (r .layout) k) e o)
 
 -- ---- an item with one part
 
@@ -111,7 +74,7 @@ single-of l n s e h = go (eqb (l .kind) 1) refl (groupAt (l .first) .free) e
     go : (t : Bool) → eqb (l .kind) 1 ≡ t → (u : Bool) → n ≡ cond t (cond u (groupAt (l .first) .octets) (8 + l .first)) 0 → Single l (n - 8)
     go true q true r =
         let k : l .kind ≡ 1 = eqb-true (l .kind) 1 q in
-        absurd (omega (arith, fixed-group l (rowed l s) k .sound .short))
+        absurd (omega (arith, fixed-short l (rowed l s) k))
     go true q false r = record { kind = eqb-true (l .kind) 1 q; group = omega arith }
     go false q u r = absurd (omega arith)
 
@@ -122,6 +85,15 @@ free-of l n e h k = go (eqb (l .kind) 1) refl (groupAt (l .first) .free) refl e
     go true q true f r = record { kind = eqb-true (l .kind) 1 q; free = f; size = sym r }
     go true q false f r = absurd (omega arith)
     go false q u f r = absurd (omega arith)
+
+-- how many octets, by what was told of its parts
+pub check-whole : (l : LayoutRow) (bs : List ℕ) (c long : ℕ) → ok (c, long) ≡ wholeOf l bs → ok long ≡ wholeSize l bs
+unfolding wholeSize _>>=_
+check-whole l bs c long e = rw (← e)
+
+-- an item with one part is not compound
+pub one-part : (l : LayoutRow) (bs : List ℕ) → l .kind ≡ 1 → wholeSize l bs ≡ itemSize l bs
+one-part l bs h = whole-item l bs (λ e. absurd (omega (arith, h, e)))
 
 -- it needs no look
 module _ (l : LayoutRow) (n : ℕ) (bs : List ℕ) (s : rowSound l ≡ true) (o : Octets bs) (f : Free l n) where
@@ -175,9 +147,18 @@ module _ (g : ℕ) (bs : List ℕ) {m : ℕ} (em : m ≡ groupAt g .octets) wher
 
 -- ---- the place of an item
 
-pub check-place : (profile frn : ℕ) (bs : List ℕ) → profile < profileCount → frn < frnCount → Octets bs → wholeSize (layoutAt (placeRowAt (profile * frnCount + frn) .layout)) bs ≡ checkAt profile frn bs
-check-place profile frn bs h k o =
-    sym (check-is (placeRowAt (profile * frnCount + frn)) profile frn bs (place-is profile frn h k) (layout-sound (placeRowAt (profile * frnCount + frn) .layout) (place-row (profile * frnCount + frn))) o)
+pub check-place : (profile frn : ℕ) (bs : List ℕ) → profile < profileCount → frn < frnCount → Octets bs → itemSize (layoutAt (placeRowAt (profile * frnCount + frn) .layout)) bs ≡ checkAt profile frn bs
+check-place profile frn bs h k o = sym (check-is (placeRowAt (profile * frnCount + frn)) profile frn bs (place-is profile frn h k) (place-row (profile * frnCount + frn)) o)
+
+-- the same by its parts, where it has parts of its own
+pub whole-check : (profile frn : ℕ) (bs : List ℕ) (n : ℕ) → profile < profileCount → frn < frnCount → Octets bs → wholeSize (layoutAt (placeRowAt (profile * frnCount + frn) .layout)) bs ≡ ok n → checkAt profile frn bs ≡ ok n
+whole-check profile frn bs n h k o e =
+    let l : LayoutRow = layoutAt (placeRowAt (profile * frnCount + frn) .layout) in
+    sym (check-place profile frn bs h k o) ∙ sym (whole-item l bs (no-whole l bs n e)) ∙ e
+
+pub plain-check : (profile frn : ℕ) (bs : List ℕ) → profile < profileCount → frn < frnCount → Octets bs → ¬ (layoutAt (placeRowAt (profile * frnCount + frn) .layout) .kind ≡ 5)
+    → wholeSize (layoutAt (placeRowAt (profile * frnCount + frn) .layout)) bs ≡ checkAt profile frn bs
+plain-check profile frn bs h k o z = whole-item (layoutAt (placeRowAt (profile * frnCount + frn) .layout)) bs z ∙ check-place profile frn bs h k o
 
 pub no-place : (profile frn : ℕ) (bs : List ℕ) → placeIs nowhere ≡ placeAt (profileAt categories profile) frn → refused 21 0 ≡ checkAt profile frn bs
 unfolding checkAt expect_or_ _>>=_

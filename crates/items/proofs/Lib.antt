@@ -1,14 +1,4 @@
-pub mod WriteRefusals
-pub mod WriteSound
-pub mod WriteFields
-pub mod WriteLaid
-pub mod WriteTables
-pub mod WriteParts
-pub mod WriteCode
-pub mod WriteTurns
-pub mod WriteItem
 pub mod PlaceLaws
 pub mod CheckLaws
-pub mod WriteTrip
 pub mod OneLaws
 pub mod Unique

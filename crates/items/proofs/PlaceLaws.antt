@@ -1,19 +1,20 @@
 -- The item that a profile has at an FRN, by the row of its place: whether there is one, its reference, and the search for a reference.
 --
 -- In order: the item of a place's row; the search for a reference; the search and the rules' own. Assumes nothing.
-use Prim.Native.Nat.{ℕ, zero, suc, _+_, _-_, _*_, _≤_, _<_}
+use Prim.Native.Nat.{ℕ, zero, suc, _+_, _-_, _≤_, _<_}
 use mathlib.Core.Path.{_≡_, refl, sym, ap, _∙_}
 use mathlib.Core.Bool.{Bool, true, false, _&&_, not, false≢true}
 use mathlib.Core.Logic.{⊎-elim}
 use mathlib.Core.Option.{Option, none, some}
 use mathlib.Core.List.{List, [], _∷_}
 use native.Mathlib.Omega.{arith}
-use native.Mathlib.Nat.{le-of-suc-le-suc, not-suc-le-zero}
+use native.Mathlib.Nat.{not-suc-le-zero}
 use lib.Dec.{eqb, lit≤}
 use lib.ListN.{length, getD, drop, drop-of-length-le}
 use borrow.Author.Tests.{ne-eqb}
 use Rattle.rules.specs.Answer.{if_then_else_}
-use Rattle.rules.specs.Layout.{Layout, flatten}
+use Rattle.rules.specs.Chain.{flatten}
+use Rattle.rules.specs.Layout.{Layout}
 use Rattle.rules.proofs.AnswerLaws.{if-inv, if-true, if-false, some-inj, none-some}
 use Rattle.rules.specs.Presence.{present, placeAt}
 use Rattle.rules.specs.Record.{Place}

@@ -1,15 +1,16 @@
 -- For each function that another crate can call, no two distinct results meet its statement: what an answer means says which answer it is. Assumes
 -- nothing.
-use Prim.Native.Nat.{ℕ}
+use Prim.Native.Nat.{ℕ, _<_}
 use mathlib.Core.Path.{_≡_, sym, _∙_}
 use mathlib.Core.List.{List}
 use native.Mathlib.Omega.{arith}
 use lib.IntN.{ℤ}
-use lib.ListN.{length}
-use Rattle.rules.specs.Layout.{flatten}
+use Rattle.rules.specs.Answer.{expect_or_}
+use Rattle.rules.specs.Chain.{flatten}
 use Rattle.rules.specs.Presence.{placeAt}
 use Rattle.rules.specs.Catalogue.{categories}
-use Rattle.rules.specs.Entry.{profileAt, readOne, writeOne, leaves}
+use Rattle.rules.specs.Entry.{profileAt, layoutOf, readOne, leaves}
+use Rattle.tables.specs.Tables.{layoutCount, layoutIs, layoutAt}
 use Rattle.tables.specs.Places.{frnAs}
 use Rattle.items.specs.declared.FrnFound.{FrnFound}
 use Rattle.items.specs.declared.FrnFound.the-variants.{Frn, NoItem}
@@ -17,10 +18,7 @@ use Rattle.items.specs.declared.ItemCheck.{ItemCheck}
 use Rattle.items.specs.declared.ItemCheck.the-variants as check
 use Rattle.items.specs.declared.ItemRead.{ItemRead}
 use Rattle.items.specs.declared.ItemRead.the-variants as read
-use Rattle.items.specs.declared.write.ItemWritten.{ItemWritten}
-use Rattle.items.specs.declared.write.ItemWritten.the-variants as written
-use Rattle.items.specs.Answers.{referenceIn, frnOf, checkedOf, checkAt, readOf, countOf}
-use Rattle.items.specs.Write.{writtenAs}
+use Rattle.items.specs.Answers.{referenceIn, frnOf, rowNamed, checkedOf, checkAt, readOf, countOf}
 
 same-frn : (a b : FrnFound) → frnOf a ≡ frnOf b → a ≡ b
 same-frn (Frn m) (Frn n) e = cc
@@ -40,12 +38,6 @@ same-read (read.Fields m) (read.Refused n p) e = let z : _≡_ {A = ℕ} 0 1 = c
 same-read (read.Refused m p) (read.Fields n) e = let z : _≡_ {A = ℕ} 0 1 = cc in absurd (omega arith)
 same-read (read.Refused m p) (read.Refused n q) e = cc
 
-same-written : (a b : ItemWritten) → writtenAs a ≡ writtenAs b → a ≡ b
-same-written (written.Length m) (written.Length n) e = cc
-same-written (written.Length m) (written.Refused n p) e = let z : _≡_ {A = ℕ} 0 1 = cc in absurd (omega arith)
-same-written (written.Refused m p) (written.Length n) e = let z : _≡_ {A = ℕ} 0 1 = cc in absurd (omega arith)
-same-written (written.Refused m p) (written.Refused n q) e = cc
-
 pub one-reference-of : (profile frn a b : ℕ)
     → a ≡ referenceIn (placeAt (profileAt categories profile) frn) → b ≡ referenceIn (placeAt (profileAt categories profile) frn) → a ≡ b
 one-reference-of profile frn a b p q = p ∙ sym q
@@ -59,14 +51,15 @@ pub one-check-item : (profile frn : ℕ) (part : List ℕ) (a b : ItemCheck)
     → checkedOf a ≡ checkAt profile frn part → checkedOf b ≡ checkAt profile frn part → a ≡ b
 one-check-item profile frn part a b p q = same-check a b (p ∙ sym q)
 
+-- the last part says which it is
+pub one-layout-of : (category reference a b : ℕ)
+    → (a < layoutCount) × ((expect layoutIs (layoutAt a) or 21) ≡ layoutOf categories category reference) × (a ≡ rowNamed category reference)
+    → (b < layoutCount) × ((expect layoutIs (layoutAt b) or 21) ≡ layoutOf categories category reference) × (b ≡ rowNamed category reference)
+    → a ≡ b
+one-layout-of category reference a b p q = p .2 ∙ sym (q .2)
+
 -- the answer, and what the output then holds
 pub one-read-item : (category reference : ℕ) (item : List ℕ) (fields : List ℤ) (a b : ItemRead) (left right : List ℤ)
     → readOf a ≡ countOf (readOne categories category reference item) → left ≡ leaves (readOne categories category reference item) fields
     → readOf b ≡ countOf (readOne categories category reference item) → right ≡ leaves (readOne categories category reference item) fields → (a ≡ b) × (left ≡ right)
 one-read-item category reference item fields a b left right p l q r = (same-read a b (p ∙ sym q), l ∙ sym r)
-
-pub one-write-item : (category reference : ℕ) (fields : List ℤ) (out : List ℕ) (a b : ItemWritten) (left right : List ℕ)
-    → writtenAs a ≡ countOf (writeOne categories category reference fields (length out)) → left ≡ leaves (writeOne categories category reference fields (length out)) out
-    → writtenAs b ≡ countOf (writeOne categories category reference fields (length out)) → right ≡ leaves (writeOne categories category reference fields (length out)) out
-    → (a ≡ b) × (left ≡ right)
-one-write-item category reference fields out a b left right p l q r = (same-written a b (p ∙ sym q), l ∙ sym r)

@@ -1,15 +1,21 @@
 -- What each function of this crate answers, in the words of the rules. Assumes nothing.
-use Prim.Native.Nat.{ℕ, _-_}
+use Prim.Native.Nat.{ℕ, _+_, _-_, _*_}
+use mathlib.Core.Bool.{cond, _&&_}
 use mathlib.Core.Option.{Option, none, some}
 use mathlib.Core.List.{List}
+use lib.Dec.{ltb}
 use lib.ListN.{length}
 use Rattle.rules.specs.Answer.{Answer, ok, refused, expect_or_, _>>=_}
+use Rattle.rules.specs.Chain.{flatten}
 use Rattle.rules.specs.Layout.{Layout, readItem}
 use Rattle.rules.specs.Presence.{placeAt}
 use Rattle.rules.specs.Record.{Place}
 use Rattle.rules.specs.Catalogue.{categories}
 use Rattle.rules.specs.Entry.{profileAt}
 unfoldable pub use Rattle.tables.specs.Profiles.{profileIn}
+use Rattle.tables.specs.declared.tables.PlaceRow.{PlaceRow}
+use Rattle.tables.specs.Tables.{profileCount, frnCount, nowhere, placeRowAt}
+use Rattle.tables.specs.Places.{frnAs}
 use Rattle.items.specs.declared.FrnFound.{FrnFound}
 use Rattle.items.specs.declared.FrnFound.the-variants.{Frn, NoItem}
 use Rattle.items.specs.declared.ItemCheck.{ItemCheck}
@@ -27,6 +33,18 @@ referenceIn (some p) = p .reference
 abbrev pub frnOf : FrnFound → Option ℕ
 frnOf (Frn f) = some f
 frnOf NoItem = none
+
+-- the row of the tables for a place of a profile
+abbrev pub placeRow : ℕ → ℕ → PlaceRow
+placeRow profile frn = cond (ltb profile profileCount && ltb frn frnCount) (placeRowAt (profile * frnCount + frn)) nowhere
+
+-- the place of the layout of an item, that of no item where there is none
+abbrev pub rowFound : ℕ → Option ℕ → ℕ
+rowFound profile none = 0
+rowFound profile (some frn) = placeRow profile frn .layout
+
+abbrev pub rowNamed : ℕ → ℕ → ℕ
+rowNamed category reference = rowFound (profileIn category categories) (frnAs reference 1 (flatten (profileAt categories (profileIn category categories))))
 
 -- ---- the check of an item
 

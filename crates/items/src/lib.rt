@@ -1,11 +1,9 @@
-// One item of categories 017 and 018, over its layout: where a profile has it, its check, and its fields read and written.
-mod write;
-
+// One item of categories 017, 018 and 061, over its layout: where a profile has it, its check, and its fields read.
+use compounds::item_fields;
+use compounds::item_of;
 use layouts::Shape;
 use layouts::fault_at;
-use layouts::item_store;
 use layouts::part_legal;
-use layouts::whole_of;
 use tables::FRNS;
 use tables::PROFILES;
 use tables::PlaceRow;
@@ -15,26 +13,25 @@ use tables::place_at;
 use tables::profile_of;
 use tables::single_at;
 use tables::size_at;
-pub use write::ItemWritten;
-pub use write::write_item;
 ghost use mathlib.Core.Path.{_≡_};
 ghost use mathlib.Core.Bool.{true};
 ghost use Prim.Native.Nat.{_<_, _+_};
-ghost use Rattle.rules.specs.Layout.{flatten};
+ghost use Rattle.rules.specs.Chain.{flatten};
 ghost use Rattle.rules.specs.Presence.{placeAt};
 ghost use Rattle.rules.specs.Answer.{expect_or_};
 ghost use Rattle.rules.specs.Catalogue.{categories};
 ghost use Rattle.rules.specs.Entry.{profileAt, layoutOf, readOne, leaves};
 ghost use Rattle.tables.specs.Tables.{groupCount, layoutCount, placeCount, placeIs, layoutIs, layoutAt, groupAt, placeRowAt};
 ghost use Rattle.tables.specs.Places.{isNamed, frnAs};
-ghost use Rattle.layouts.specs.Read.{partSound, wholeSize, singleSize};
-ghost use Rattle.items.specs.Answers.{referenceIn, frnOf, checkedOf, checkAt, readOf, countOf};
+ghost use Rattle.layouts.specs.Read.{partSound, singleSize};
+ghost use Rattle.compounds.specs.Compound.{itemSize};
+ghost use Rattle.items.specs.Answers.{referenceIn, frnOf, placeRow, rowNamed, checkedOf, checkAt, readOf, countOf};
 
 // ---- where an item stands
 
 // What a profile has at an FRN.
 fn place_of(profile: usize, frn: usize) -> PlaceRow
-    ensures { λ r. ⌜ (placeIs r ≡ placeAt (profileAt categories profile) frn) × (r .layout < layoutCount) ⌝ }
+    ensures { λ r. ⌜ (placeIs r ≡ placeAt (profileAt categories profile) frn) × (r .layout < layoutCount) × (r ≡ placeRow profile frn) ⌝ }
 {
     if profile < PROFILES {
         if frn < FRNS {
@@ -124,7 +121,7 @@ fn check_single(group: usize, part: &[u8]) -> ItemCheck
 // How many octets the item at a place of the tables takes: most items have one part, and most of these are free.
 fn check_at(place: usize, part: &[u8]) -> ItemCheck
     requires { ⌜ place < placeCount ⌝ }
-    ensures { λ r. ⌜ checkedOf r ≡ wholeSize (layoutAt (placeRowAt place .layout)) (now (part .entry)) ⌝ }
+    ensures { λ r. ⌜ checkedOf r ≡ itemSize (layoutAt (placeRowAt place .layout)) (now (part .entry)) ⌝ }
 {
     let single = single_at(place);
     if 8 <= single {
@@ -139,13 +136,14 @@ fn check_at(place: usize, part: &[u8]) -> ItemCheck
         }
         return ItemCheck::Whole(single);
     }
-    match whole_of(layout_at(layout_row(place)), part) {
+    match item_of(layout_at(layout_row(place)), part) {
         Shape::Parts { count: _, long } => ItemCheck::Whole(long),
         Shape::Refused { number, place } => ItemCheck::Refused { number, place },
     }
 }
 
-// How many octets the item of a profile at an FRN takes, which starts the part: 21 where the profile has none there; 9, 10, 9 of the body, 11.
+// How many octets the item of a profile at an FRN takes, which starts the part: 21 where the profile has none there; 9, 10, 9 of the body, 6, 11; of a compound
+// item 9, 6, 7, 8, then the first refusal of its subfields.
 pub fn check_item(profile: usize, frn: usize, part: &[u8]) -> ItemCheck
     ensures { λ r. ⌜ checkedOf r ≡ checkAt profile frn (now (part .entry)) ⌝ }
 {
@@ -163,8 +161,8 @@ pub fn check_item(profile: usize, frn: usize, part: &[u8]) -> ItemCheck
 // ---- reading an item
 
 // The place of the layout of an item, by its category and reference: that of no item where there is none.
-fn layout_of(category: u8, reference: u16) -> usize
-    ensures { λ r. ⌜ (r < layoutCount) × ((expect layoutIs (layoutAt r) or 21) ≡ layoutOf categories category reference) ⌝ }
+pub fn layout_of(category: u8, reference: u16) -> usize
+    ensures { λ r. ⌜ (r < layoutCount) × ((expect layoutIs (layoutAt r) or 21) ≡ layoutOf categories category reference) × (r ≡ rowNamed category reference) ⌝ }
 {
     let profile = profile_of(category);
     match frn_of(profile, reference) {
@@ -185,13 +183,13 @@ pub enum ItemRead {
 }
 
 // The fields of an item that is all of the octets lent, from its highest bit down, at the start of the output: 21 for a reference that is no
-// item of the category, and for any other category; 9, 10, 9 of the body, 11; 18 where octets follow. A refusal changes nothing.
+// item of the category, and for any other category; then those of its check; 18 where octets follow. A refusal changes nothing.
 pub fn read_item(category: u8, reference: u16, item: &[u8], fields: &mut [i64; 8192]) -> ItemRead
     ensures answer { λ r. ⌜ readOf r ≡ countOf (readOne categories category reference (now (item .entry))) ⌝ }
     ensures left { λ r. ⌜ now (fields .exit) ≡ leaves (readOne categories category reference (now (item .entry))) (now (fields .entry)) ⌝ }
 {
     let l = layout_at(layout_of(category, reference));
-    match whole_of(l, item) {
+    match item_of(l, item) {
         Shape::Refused { number, place } => ItemRead::Refused { number, place },
         Shape::Parts { count, long } => {
             if long < item.len() {
@@ -201,7 +199,7 @@ pub fn read_item(category: u8, reference: u16, item: &[u8], fields: &mut [i64; 8
                 };
             }
             ItemRead::Fields {
-                count: item_store(l, item, count, fields),
+                count: item_fields(l, item, count, fields),
             }
         }
     }

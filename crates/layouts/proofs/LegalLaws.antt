@@ -1,7 +1,7 @@
 -- The rules of fields as the check asks them are the rules' own: a number obeys the rules of a group where its fields are legal.
 --
 -- In order: one field; the fields of a group; the groups of the tables; a part that starts at a place. Assumes nothing.
-use Prim.Native.Nat.{ℕ, zero, suc, _+_, _-_, _*_, _/_, _%_, _<_, _≤_, _^_}
+use Prim.Native.Nat.{ℕ, zero, suc, _+_, _-_, _/_, _%_, _<_, _≤_, _^_}
 use mathlib.Core.Path.{_≡_, refl, sym, ap, _∙_, subst}
 use mathlib.Core.Bool.{Bool, true, false, cond, _&&_, false≢true}
 use mathlib.Core.List.{List, [], _∷_, map}
@@ -13,18 +13,18 @@ use lib.Dec.{leb, ltb, eqb, leb·suc-zero, eqb·suc-zero}
 use lib.IntN.{pos, negsuc}
 use lib.ListN.{length, take, drop, length-drop}
 use lib.Seq.{slice}
-use lib.Pow.{pow-pos, pow-mono, shr-le, field, mod-mod-pow}
+use lib.Pow.{pow-pos, field, mod-mod-pow}
 use borrow.Author.Tests.{le-leb, lt-leb, lt-ltb, le-ltb, leb-true, ltb-true, eqb-true}
 use Rattle.rules.specs.Field.{Field, spare, value, unsigned, signed, bits, half}
-use Rattle.rules.specs.Layout.{joined}
-use Rattle.rules.proofs.AnswerLaws.{Octets, both-left, both-right}
-use Rattle.tables.specs.Tables.{groupCount, fieldRow, minus, isFree, groupAt}
+use Rattle.rules.specs.Chain.{joined}
+use Rattle.rules.proofs.AnswerLaws.{Octets, both-left, both-right, octets-drop}
+use Rattle.tables.specs.Tables.{groupCount, fieldRow, isFree, groupAt}
 use Rattle.tables.specs.FieldRules.{ruleOf, rulesOf, obeys, allObeyed, rules, firstRule}
 use Rattle.tables.proofs.TableLaws.{every, fieldsAt}
 use Rattle.tables.proofs.RuleLaws.{no-rules, sane, group-rules, group-sane, first-few}
 use Rattle.layouts.specs.Read.{rowsAt, partAt, valueOf, within, width, legal, partSound}
 use Rattle.layouts.proofs.FieldCodes.{and-last, width-bits, low-minus, low-neg, spare-is, twice, value-low, value-high}
-use Rattle.layouts.proofs.ReadLaws.{rows-map, part-small, octets-drop, le-or-lt, same-leb}
+use Rattle.layouts.proofs.ReadLaws.{rows-map, part-small, le-or-lt, same-leb}
 use Rattle.layouts.proofs.PartLaws.{part-sound}
 use Rattle.layouts.proofs.WholeLaws.{free-unsigned, free-signed}
 
@@ -138,12 +138,6 @@ group-none g n h k l =
 
 pub size-few : (step g : ℕ) → partSound step (groupAt g) ≡ true → {m : ℕ} → m ≡ groupAt g .octets → m ≤ 8
 size-few step g p em = omega (arith, part-sound step (groupAt g) p .short)
-
-pub part-below : (step g : ℕ) → partSound step (groupAt g) ≡ true → (m n : ℕ) → m ≡ groupAt g .octets → n < 2 ^ (8 * m) → n / 2 ^ step < 2 ^ 56
-part-below step g p m n em k =
-    let d : n / 2 ^ step ≤ n = shr-le n step in
-    let q : 8 * m ≤ 56 = omega (arith, part-sound step (groupAt g) p .short) in
-    omega (arith, pow-mono q)
 
 module _ (step g at : ℕ) (s : List ℕ) (o : Octets s) (h : g < groupCount) (p : partSound step (groupAt g) ≡ true) (l : at + groupAt g .octets ≤ length s) where
   part-fits : partAt step g (drop at s) < 2 ^ width (rowsAt g)

@@ -12,7 +12,7 @@ use lib.Dec.{lit<}
 use lib.ListN.{length, getD, take, drop, length-append, length-drop}
 use lib.Seq.{take-suc, getD-drop}
 use lib.Pow.{pow-pos, pow-add, pow-mono}
-use Rattle.rules.specs.Layout.{joined}
+use Rattle.rules.specs.Chain.{joined}
 use Rattle.rules.proofs.AnswerLaws.{Octets}
 
 -- ---- octets of a slice

@@ -23,14 +23,14 @@ use Rattle.layouts.specs.Read.{rows, rowsAt, partAt, width, legal, span,
 pub record PartSound (step : ℕ) (r : GroupRow) : Type 0 where
   pub inside : r .end ≤ fieldCount
   pub some : 1 ≤ r .octets
-  pub short : r .octets ≤ 7
+  pub short : r .octets ≤ 8
   pub whole : width (rows (r .first) (r .end)) + step ≡ 8 * r .octets
 
 pub part-sound : (step : ℕ) (r : GroupRow) → partSound step r ≡ true → PartSound step r
 part-sound step r e =
     let a = leb (r .end) fieldCount in
     let b = leb 1 (r .octets) in
-    let c = leb (r .octets) 7 in
+    let c = leb (r .octets) 8 in
     let d = eqb (width (rows (r .first) (r .end)) + step) (8 * r .octets) in
     let u : a && b && c ≡ true = both-left (a && b && c) d e in
     let v : a && b ≡ true = both-left (a && b) c u in
@@ -45,7 +45,7 @@ part-sound step r e =
 
 pub record OnePart (step : ℕ) (r : GroupRow) (n : ℕ) : Type 0 where
   pub wide : 8 * r .octets - step ≡ width (rows (r .first) (r .end))
-  pub few : 8 * r .octets - step ≤ 56
+  pub few : 8 * r .octets - step ≤ 64
   pub small : n / 2 ^ step < 2 ^ (8 * r .octets - step)
 
 pub one-part : (step : ℕ) (r : GroupRow) (n : ℕ) → PartSound step r → n < 2 ^ (8 * r .octets) → OnePart step r n

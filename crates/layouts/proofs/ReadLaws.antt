@@ -19,19 +19,20 @@ use lib.Pow.{shr-lt}
 use borrow.Author.Tests.{le-leb, lt-leb, lt-ltb, le-ltb, leb-true, leb-false, eqb-true}
 use Rattle.rules.specs.Answer.{Answer, ok, refused, _>>=_, need_or_then_, if_then_else_}
 use Rattle.rules.specs.Field.{Field, Kind, spare, value, unsigned, signed, any, bits, half, get, unpack}
-use Rattle.rules.specs.Layout.{Group, Layout, fixed, repeated, led, extended, joined, readNum, readMany, readChain, readParts, groups, least, unpackAll, readItem}
-use Rattle.rules.proofs.AnswerLaws.{Octets, both-left, both-right, need-bind, ok-inj, refused-ok, need-elim, bind-elim, if-inv, some-inj, none-some}
-use Rattle.rules.proofs.LayoutLaws.{octets-take}
+use Rattle.rules.specs.Chain.{joined, readNum, readMany, readChain}
+use Rattle.rules.specs.Format.{Group, Format, fixed, repeated, led, extended, readParts, groups, least, unpackAll, readPlain}
+use Rattle.rules.proofs.AnswerLaws.{Octets, both-left, both-right, need-bind, ok-inj, refused-ok, need-elim, bind-elim, if-inv, some-inj, none-some, octets-drop}
+use Rattle.rules.proofs.ChainLaws.{octets-take}
 use Rattle.rules.specs.Catalogue.{categories}
 use Rattle.tables.specs.declared.tables.LayoutRow.{LayoutRow}
 use Rattle.tables.specs.Tables as t
-use Rattle.tables.specs.Tables.{groupCount, fields, fieldRow, groupIs, groupRows, noGroupRow, groupAt, layoutIs, layoutBy}
+use Rattle.tables.specs.Tables.{groupCount, fields, fieldRow, groupIs, groupRows, noGroupRow, groupAt, formatIs, formatBy}
 use Rattle.tables.proofs.TableLaws.{fieldsAt, groups-long}
 use Rattle.layouts.specs.Read.{rows, rowsAt, partAt, width, legal, values, span, holds, partSound, partsSound, partsLegal, faultAt, need_or_further_then_, partValues, Shaped, chain, headOf, stepOf, listShape, shapeBy, shapeOf, readKind, readBy, isOctet, rowSound}
 use Rattle.layouts.proofs.FieldCodes.{Wide, width-bits, unpack-is}
 use Rattle.layouts.proofs.OctetLaws.{joined-lt}
 use Rattle.layouts.proofs.PartLaws.{PartSound, part-sound}
-use Rattle.layouts.proofs.ShapeLaws.{Rowed, rowed, fixed-one, led-many, led-size, led-octet, chain-ends, chain-inside, few-kinds}
+use Rattle.layouts.proofs.ShapeLaws.{Rowed, rowed, fixed-one, led-many, led-size, led-octet, chain-ends, chain-inside}
 
 -- ---- the fields of a group
 
@@ -111,11 +112,6 @@ Grouping : ℕ → ℕ → ℕ → List (List Field) → Type 0
 Grouping step g zero gs = Unit {0}
 Grouping step g (suc c) [] = ⊥
 Grouping step g (suc c) (fs ∷ gs) = (fs ≡ fieldsAt g) × Grouping step (g + step) c gs
-
-pub octets-drop : (k : ℕ) (bs : List ℕ) → Octets bs → Octets (drop k bs)
-octets-drop zero bs h = h
-octets-drop (suc k) [] h = tt
-octets-drop (suc k) (b ∷ bs) h = octets-drop k bs (h .1)
 
 need-cons : (s t : Bool) (v : List ℤ) (vs : List (List ℤ))
     → ((need s or 11 then ok v) >>= (λ a. (need t or 11 then ok vs) >>= (λ as′. ok (a ∷ as′)))) ≡ (need (s && t) or 11 then ok (v ∷ vs))
@@ -248,22 +244,22 @@ unfolding need_or_further_then_
 further-elim true n p x h k = k refl h
 further-elim false n p x h k = refused-ok h
 
-module _ (l : Layout) (bs : List ℕ) where
-  stopped : (n p : ℕ) → readParts l bs ≡ refused n p → readItem l bs ≡ refused n p
-  unfolding readItem _>>=_
+module _ (l : Format) (bs : List ℕ) where
+  stopped : (n p : ℕ) → readParts l bs ≡ refused n p → readPlain l bs ≡ refused n p
+  unfolding readPlain _>>=_
   stopped n p e = rw e
 
-  too-few : (ns rest : List ℕ) → readParts l bs ≡ ok (ns, rest) → length ns < least l → readItem l bs ≡ refused 11 0
-  unfolding readItem _>>=_ need_or_then_
+  too-few : (ns rest : List ℕ) → readParts l bs ≡ ok (ns, rest) → length ns < least l → readPlain l bs ≡ refused 11 0
+  unfolding readPlain _>>=_ need_or_then_
   too-few ns rest e h = rw (e, lt-leb (least l) (length ns) h)
 
-  past-groups : (ns rest : List ℕ) → readParts l bs ≡ ok (ns, rest) → least l ≤ length ns → length (groups l) < length ns → readItem l bs ≡ refused 11 0
-  unfolding readItem _>>=_ need_or_then_
+  past-groups : (ns rest : List ℕ) → readParts l bs ≡ ok (ns, rest) → least l ≤ length ns → length (groups l) < length ns → readPlain l bs ≡ refused 11 0
+  unfolding readPlain _>>=_ need_or_then_
   past-groups ns rest e h k = rw (e, le-leb (least l) (length ns) h, too-many (groups l) ns k)
 
   all-there : (step g c at : ℕ) (ds rest : List ℕ) → readParts l bs ≡ ok (partNumbers step g c ds, rest) → least l ≤ c → Octets ds → partsSound step g c ≡ true → span step g c ≤ length ds
-      → Grouping step g c (groups l) → readItem l bs ≡ (need partsLegal step g c ds or 11 further faultAt step g c at bs then ok (partValues step g c ds, rest))
-  unfolding readItem _>>=_ need_or_then_
+      → Grouping step g c (groups l) → readPlain l bs ≡ (need partsLegal step g c ds or 11 further faultAt step g c at bs then ok (partValues step g c ds, rest))
+  unfolding readPlain _>>=_ need_or_then_
   all-there step g c at ds rest e h o s k u =
       rw (e, le-leb (least l) (length (partNumbers step g c ds)) (subst (λ x. least l ≤ x) (sym (length-numbers step g c ds)) h), unpacked step g c (groups l) ds o s k u)
       (need-with (partsLegal step g c ds) (partValues step g c ds) rest (fault-start step g c at bs))
@@ -333,7 +329,7 @@ chain-next g bs (ok s) =
     rw (add-one (s .0), drop-drop (s .1) (groupAt g .octets) bs, c)
 chain-next g bs (refused n p) = refl
 
-chain-is : (n g e : ℕ) (bs : List ℕ) → g + n ≡ e → e ≤ groupCount → readChain 9 11 (map (λ x. x .size) (slice g e allGroups)) bs ≡ (chain g n bs >>= chainParts g bs)
+chain-is : (n g e : ℕ) (bs : List ℕ) → g + n ≡ e → e ≤ groupCount → readChain 9 6 (map (λ x. x .size) (slice g e allGroups)) bs ≡ (chain g n bs >>= chainParts g bs)
 unfolding chain readChain readNum chainParts partNumbers _>>=_ need_or_then_ if_then_else_
 chain-is zero g e bs h k =
     let j : g ≡ e = omega arith in
@@ -347,9 +343,9 @@ chain-is (suc n) g e bs h k =
     (λ (l : length bs < j). rw (lt-leb j (length bs) l))
     (le-or-lt j (length bs)))
   where
-    go : (t : Bool) → readChain 9 11 (map (λ x. x .size) (slice (g + 1) e allGroups)) (drop (groupAt g .octets) bs) ≡ (chain (g + 1) n (drop (groupAt g .octets) bs) >>= chainParts (g + 1) (drop (groupAt g .octets) bs))
+    go : (t : Bool) → readChain 9 6 (map (λ x. x .size) (slice (g + 1) e allGroups)) (drop (groupAt g .octets) bs) ≡ (chain (g + 1) n (drop (groupAt g .octets) bs) >>= chainParts (g + 1) (drop (groupAt g .octets) bs))
         → (if t then ok (partAt 1 g bs ∷ [], drop (groupAt g .octets) bs)
-        else _>>=_ {B = List ℕ × List ℕ} (readChain 9 11 (map (λ x. x .size) (slice (g + 1) e allGroups)) (drop (groupAt g .octets) bs)) (λ x. ok (partAt 1 g bs ∷ x .0, x .1)))
+        else _>>=_ {B = List ℕ × List ℕ} (readChain 9 6 (map (λ x. x .size) (slice (g + 1) e allGroups)) (drop (groupAt g .octets) bs)) (λ x. ok (partAt 1 g bs ∷ x .0, x .1)))
         ≡ ((if t then ok (1, groupAt g .octets) else _>>=_ {B = Shaped} (chain (g + 1) n (drop (groupAt g .octets) bs)) (λ s. ok (s .0 + 1, s .1 + groupAt g .octets))) >>= chainParts g bs)
     go true r = refl
     go false r = rw r (chain-next g bs (chain (g + 1) n (drop (groupAt g .octets) bs)))
@@ -394,7 +390,7 @@ grouping-chain (suc c) g e h k = rw (groups-cons g e (omega arith) k) (refl, gro
 
 module _ (lo hi a e : ℕ) (bs : List ℕ) (o : Octets bs) where
   -- one part
-  fixed-reads : partsSound 0 a 1 ≡ true → readItem (fixed (groupIs (groupAt a))) bs ≡ readKind 1 lo hi a e bs
+  fixed-reads : partsSound 0 a 1 ≡ true → readPlain (fixed (groupIs (groupAt a))) bs ≡ readKind 1 lo hi a e bs
   unfolding shapeBy readParts Grouping need_or_then_ _>>=_
   fixed-reads s =
       let k = groupAt a .octets in
@@ -410,7 +406,7 @@ module _ (lo hi a e : ℕ) (bs : List ℕ) (o : Octets bs) where
       (le-or-lt k (length bs))
 
   -- a count octet and parts
-  list-reads : partsSound 0 a hi ≡ true → readItem (repeated lo hi (groupIs (groupAt a))) bs ≡ readKind 2 lo hi a e bs
+  list-reads : partsSound 0 a hi ≡ true → readPlain (repeated lo hi (groupIs (groupAt a))) bs ≡ readKind 2 lo hi a e bs
   unfolding shapeBy listShape readParts need_or_then_ _>>=_
   list-reads s =
       let l = repeated lo hi (groupIs (groupAt a)) in
@@ -446,7 +442,7 @@ module _ (lo hi a e : ℕ) (bs : List ℕ) (o : Octets bs) where
       (le-or-lt 1 (length bs))
 
   -- a length octet and contents
-  led-reads : partsSound 0 a 254 ≡ true → groupAt a .octets ≡ 1 → isOctet (fieldsAt a) ≡ true → readItem (led lo) bs ≡ readKind 3 lo hi a e bs
+  led-reads : partsSound 0 a 254 ≡ true → groupAt a .octets ≡ 1 → isOctet (fieldsAt a) ≡ true → readPlain (led lo) bs ≡ readKind 3 lo hi a e bs
   unfolding shapeBy readParts need_or_then_ _>>=_
   led-reads s one oct =
       let l = led lo in
@@ -479,17 +475,17 @@ module _ (lo hi a e : ℕ) (bs : List ℕ) (o : Octets bs) where
       (le-or-lt 1 (length bs))
 
   -- parts as far as the FX bits say
-  chain-reads : partsSound 1 a hi ≡ true → a + hi ≡ e → e ≤ groupCount → readItem (extended (slice a e allGroups)) bs ≡ readKind 4 lo hi a e bs
+  chain-reads : partsSound 1 a hi ≡ true → a + hi ≡ e → e ≤ groupCount → readPlain (extended (slice a e allGroups)) bs ≡ readKind 4 lo hi a e bs
   unfolding shapeBy readParts chainParts _>>=_
   chain-reads s h k = go (chain a (e - a) bs) refl
     where
-      l : Layout
+      l : Format
       l = extended (slice a e allGroups)
 
       parts-are : readParts l bs ≡ (chain a (e - a) bs >>= chainParts a bs)
       parts-are = chain-is (e - a) a e bs (omega arith) k
 
-      go : (m : Answer Shaped) → chain a (e - a) bs ≡ m → readItem l bs ≡ readKind 4 lo hi a e bs
+      go : (m : Answer Shaped) → chain a (e - a) bs ≡ m → readPlain l bs ≡ readKind 4 lo hi a e bs
       go (ok x) q =
           let d : Chained a (e - a) (x .0) (x .1) bs = chained (e - a) a bs x q in
           all-there l bs 1 a (x .0) 0 bs (drop (x .1) bs) (parts-are ∙ rw q) (d .some) o (parts-fewer 1 a (x .0) hi (omega (arith, d .few)) s) (omega (arith, d .spans, d .there))
@@ -499,43 +495,44 @@ module _ (lo hi a e : ℕ) (bs : List ℕ) (o : Octets bs) where
 
 -- ---- an item by its row is the rules' item
 
-pub reads : (l : LayoutRow) (i : Layout) (bs : List ℕ) → rowSound l ≡ true → layoutIs l ≡ some i → Octets bs → readItem i bs ≡ readBy l bs
-unfolding layoutIs layoutBy readBy
+pub reads : (l : LayoutRow) (i : Format) (bs : List ℕ) → rowSound l ≡ true → formatIs l ≡ some i → Octets bs → readPlain i bs ≡ readBy l bs
+unfolding formatIs formatBy readBy
 reads l i bs s h o = go (l .kind) refl
   where
     r : Rowed l
     r = rowed l s
 
-    by : (k : ℕ) → l .kind ≡ k → layoutBy k (l .least) (l .most) (groupIs (groupAt (l .first))) (slice (l .first) (l .end) allGroups) ≡ some i
-    by k e = subst (λ x. layoutBy x (l .least) (l .most) (groupIs (groupAt (l .first))) (slice (l .first) (l .end) allGroups) ≡ some i) e h
+    by : (k : ℕ) → l .kind ≡ k → formatBy k (l .least) (l .most) (groupIs (groupAt (l .first))) (slice (l .first) (l .end) allGroups) ≡ some i
+    by k e = subst (λ x. formatBy x (l .least) (l .most) (groupIs (groupAt (l .first))) (slice (l .first) (l .end) allGroups) ≡ some i) e h
 
-    at-kind : (k : ℕ) (j : Layout) → l .kind ≡ k → some j ≡ some i → readItem j bs ≡ readKind k (l .least) (l .most) (l .first) (l .end) bs → readItem i bs ≡ readKind (l .kind) (l .least) (l .most) (l .first) (l .end) bs
-    at-kind k j e f g = ap (λ x. readItem x bs) (sym (some-inj f)) ∙ g ∙ ap (λ x. readKind x (l .least) (l .most) (l .first) (l .end) bs) (sym e)
+    at-kind : (k : ℕ) (j : Format) → l .kind ≡ k → some j ≡ some i → readPlain j bs ≡ readKind k (l .least) (l .most) (l .first) (l .end) bs → readPlain i bs ≡ readKind (l .kind) (l .least) (l .most) (l .first) (l .end) bs
+    at-kind k j e f g = ap (λ x. readPlain x bs) (sym (some-inj f)) ∙ g ∙ ap (λ x. readKind x (l .least) (l .most) (l .first) (l .end) bs) (sym e)
 
     sound : (k n : ℕ) → l .kind ≡ k → l .most ≡ n → partsSound (stepOf k) (l .first) n ≡ true
     sound k n e f = subst (λ x. partsSound (stepOf k) (l .first) x ≡ true) f (subst (λ x. partsSound (stepOf x) (l .first) (l .most) ≡ true) e (r .parts))
 
-    go : (k : ℕ) → l .kind ≡ k → readItem i bs ≡ readKind (l .kind) (l .least) (l .most) (l .first) (l .end) bs
+    go : (k : ℕ) → l .kind ≡ k → readPlain i bs ≡ readKind (l .kind) (l .least) (l .most) (l .first) (l .end) bs
     go zero e = none-some (by 0 e)
     go (suc zero) e = at-kind 1 (fixed (groupIs (groupAt (l .first)))) e (by 1 e) (fixed-reads (l .least) (l .most) (l .first) (l .end) bs o (sound 1 1 e (fixed-one l r e)))
     go (suc (suc zero)) e = at-kind 2 (repeated (l .least) (l .most) (groupIs (groupAt (l .first)))) e (by 2 e) (list-reads (l .least) (l .most) (l .first) (l .end) bs o (sound 2 (l .most) e refl))
     go (suc (suc (suc zero))) e =
         at-kind 3 (led (l .least)) e (by 3 e) (led-reads (l .least) (l .most) (l .first) (l .end) bs o (sound 3 254 e (led-many l r e)) (led-size l r e) (led-octet l r e))
-    go (suc (suc (suc (suc k)))) e =
-        let z : l .kind ≡ 4 = omega (arith, e, few-kinds l r) in
-        at-kind 4 (extended (slice (l .first) (l .end) allGroups)) z (by 4 z)
-        (chain-reads (l .least) (l .most) (l .first) (l .end) bs o (sound 4 (l .most) z refl) (chain-ends l r z) (chain-inside l r z))
+    go (suc (suc (suc (suc zero)))) e =
+        at-kind 4 (extended (slice (l .first) (l .end) allGroups)) e (by 4 e)
+        (chain-reads (l .least) (l .most) (l .first) (l .end) bs o (sound 4 (l .most) e refl) (chain-ends l r e) (chain-inside l r e))
+    go (suc (suc (suc (suc (suc k))))) e = none-some (by (suc (suc (suc (suc (suc k))))) e)
 
 -- ---- what a shape says of the parts: they are there, in the tables and in the item
 
 pub record Fitting (l : LayoutRow) (bs : List ℕ) (c long : ℕ) : Type 0 where
+  pub few : c ≤ l .most
   pub sound : partsSound (stepOf (l .kind)) (l .first) c ≡ true
   pub room : holds (stepOf (l .kind)) (l .first) c ≤ 8_192
   pub spans : headOf (l .kind) + span (stepOf (l .kind)) (l .first) c ≡ long
   pub there : long ≤ length bs
 
 -- fewer parts have fewer values
-holds-fewer : (step g c d : ℕ) → c ≤ d → holds step g c ≤ holds step g d
+pub holds-fewer : (step g c d : ℕ) → c ≤ d → holds step g c ≤ holds step g d
 unfolding holds
 holds-fewer step g zero d h = zero-le
 holds-fewer step g (suc c) zero h = absurd (not-suc-le-zero h)
@@ -588,11 +585,16 @@ none-counted : (lo hi a e : ℕ) (bs : List ℕ) (s : Shaped) {C : Type 0} → s
 unfolding shapeBy
 none-counted lo hi a e bs s q = refused-ok q
 
+past-counted : (k lo hi a e : ℕ) (bs : List ℕ) (s : Shaped) {C : Type 0} → shapeBy (suc (suc (suc (suc (suc k))))) lo hi a e bs ≡ ok s → C
+unfolding shapeBy
+past-counted k lo hi a e bs s q = refused-ok q
+
 pub fitting : (l : LayoutRow) (bs : List ℕ) (s : Shaped) → rowSound l ≡ true → Octets bs → shapeOf l bs ≡ ok s → Fitting l bs (s .0) (s .1)
 unfolding shapeOf
 fitting l bs s h o q =
     let d : Counted (l .kind) (l .most) (l .first) bs (s .0) (s .1) = go (l .kind) refl in
     record {
+      few = d .few;
       sound = parts-fewer (stepOf (l .kind)) (l .first) (s .0) (l .most) (d .few) (r .parts);
       room = le-trans (holds-fewer (stepOf (l .kind)) (l .first) (s .0) (l .most) (d .few)) (r .room);
       spans = d .spans;
@@ -613,6 +615,5 @@ fitting l bs s h o q =
     go (suc zero) e = back 1 e (fixed-counted (l .least) (l .most) (l .first) (l .end) bs s (fixed-one l r e) (by 1 e))
     go (suc (suc zero)) e = back 2 e (list-counted (l .least) (l .most) (l .first) (l .end) bs s (by 2 e))
     go (suc (suc (suc zero))) e = back 3 e (led-counted (l .least) (l .most) (l .first) (l .end) bs s o (led-many l r e) (led-size l r e) (by 3 e))
-    go (suc (suc (suc (suc k)))) e =
-        let z : l .kind ≡ 4 = omega (arith, e, few-kinds l r) in
-        back 4 z (chain-counted (l .least) (l .most) (l .first) (l .end) bs s (chain-ends l r z) (by 4 z))
+    go (suc (suc (suc (suc zero)))) e = back 4 e (chain-counted (l .least) (l .most) (l .first) (l .end) bs s (chain-ends l r e) (by 4 e))
+    go (suc (suc (suc (suc (suc k))))) e = past-counted k (l .least) (l .most) (l .first) (l .end) bs s (by (suc (suc (suc (suc (suc k))))) e)

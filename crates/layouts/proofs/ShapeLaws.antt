@@ -12,7 +12,7 @@ use lib.ListN.{length, getD, take, drop, length-drop}
 use lib.Seq.{slice, drop-drop, getD-drop}
 use borrow.Author.Tests.{le-leb, lt-leb, le-ltb, lt-ltb, leb-true, eqb-true}
 use Rattle.rules.specs.Answer.{Answer, ok, refused, _>>=_, need_or_then_, if_then_else_}
-use Rattle.rules.specs.Layout.{joined}
+use Rattle.rules.specs.Chain.{joined}
 use Rattle.rules.proofs.AnswerLaws.{both-left, both-right}
 use Rattle.tables.specs.declared.tables.LayoutRow.{LayoutRow}
 use Rattle.tables.specs.Tables.{groupCount, fields, groupAt}
@@ -113,7 +113,7 @@ module _ (first last : ℕ) (s : List ℕ) (g at count : ℕ) (c : Chaining firs
               ∙ rw (drop-drop (m) at s, n)));
         }
 
-pub chain-past : (first last : ℕ) (s : List ℕ) (g at count : ℕ) → Chaining first last s g at count → last ≤ g → refused 11 0 ≡ chain first (last - first) s
+pub chain-past : (first last : ℕ) (s : List ℕ) (g at count : ℕ) → Chaining first last s g at count → last ≤ g → refused 6 0 ≡ chain first (last - first) s
 unfolding chain _>>=_
 chain-past first last s g at count c h =
     let z : last - g ≡ 0 = omega arith in
@@ -152,7 +152,10 @@ module _ (l : LayoutRow) (r : Rowed l) where
   step-kind k e = ap stepOf e
 
   pub fixed-one : l .kind ≡ 1 → l .most ≡ 1
-  fixed-one e = eqb-true _ _ (by-kind 1 e)
+  fixed-one e = eqb-true _ _ (both-left (eqb (l .most) 1) _ (by-kind 1 e))
+
+  pub fixed-short : l .kind ≡ 1 → groupAt (l .first) .octets ≤ 7
+  fixed-short e = leb-true _ _ (both-right (eqb (l .most) 1) _ (by-kind 1 e))
 
   pub fixed-group : l .kind ≡ 1 → Grouped l
   fixed-group e = grouped (step-kind 1 e) (omega (arith, fixed-one e))
@@ -173,33 +176,33 @@ module _ (l : LayoutRow) (r : Rowed l) where
   led-group e = grouped (step-kind 3 e) (omega (arith, led-many e))
 
   pub chain-ends : l .kind ≡ 4 → l .first + l .most ≡ l .end
-  chain-ends e = let t = by-kind 4 e in eqb-true _ _ (both-right (eqb 0 0) _ (both-left (eqb 0 0 && eqb (l .first + l .most) (l .end)) _ t))
+  chain-ends e = let t = by-kind 4 e in eqb-true _ _ (both-left (eqb (l .first + l .most) (l .end)) _ t)
 
   chain-many : l .kind ≡ 4 → l .most ≡ l .end - l .first
   chain-many e = omega (arith, chain-ends e)
 
   pub chain-inside : l .kind ≡ 4 → l .end ≤ groupCount
-  chain-inside e = let t = by-kind 4 e in leb-true _ _ (both-right (eqb 0 0 && eqb (l .first + l .most) (l .end)) _ t)
+  chain-inside e = let t = by-kind 4 e in leb-true _ _ (both-right (eqb (l .first + l .most) (l .end)) _ t)
 
   pub chain-parts : l .kind ≡ 4 → partsSound 1 (l .first) (l .end - l .first) ≡ true
   chain-parts e = subst (λ x. partsSound x (l .first) (l .end - l .first) ≡ true) (step-kind 4 e) (subst (λ x. partsSound (stepOf (l .kind)) (l .first) x ≡ true) (chain-many e) (r .parts))
 
-  pub few-kinds : l .kind ≤ 4
+  pub few-kinds : l .kind ≤ 5
   few-kinds = go (l .kind) refl
     where
-      go : (k : ℕ) → l .kind ≡ k → k ≤ 4
+      go : (k : ℕ) → l .kind ≡ k → k ≤ 5
       go zero e = lit≤ tt
       go (suc zero) e = lit≤ tt
       go (suc (suc zero)) e = lit≤ tt
       go (suc (suc (suc zero))) e = lit≤ tt
-      go (suc (suc (suc (suc k)))) e =
-          let t = by-kind (suc (suc (suc (suc k)))) e in
-          let z : k ≡ 0 = eqb-true _ _ (both-left (eqb k 0) _ (both-left (eqb k 0 && eqb (l .first + l .most) (l .end)) _ t)) in
+      go (suc (suc (suc (suc zero)))) e = lit≤ tt
+      go (suc (suc (suc (suc (suc k))))) e =
+          let z : k ≡ 0 = eqb-true _ _ (by-kind (suc (suc (suc (suc (suc k))))) e) in
           omega arith
 
   -- what is left when each other way has been tested
-  pub a-list : ¬ (l .kind ≡ 0) → ¬ (l .kind ≡ 1) → ¬ (l .kind ≡ 4) → ¬ (l .kind ≡ 3) → l .kind ≡ 2
-  a-list a b d e = omega (arith, few-kinds)
+  pub a-list : ¬ (l .kind ≡ 0) → ¬ (l .kind ≡ 5) → ¬ (l .kind ≡ 1) → ¬ (l .kind ≡ 4) → ¬ (l .kind ≡ 3) → l .kind ≡ 2
+  a-list a f b d e = omega (arith, few-kinds)
 
 -- ---- the shape by how the parts lie
 
@@ -211,6 +214,10 @@ module _ (l : LayoutRow) (bs : List ℕ) where
   pub no-shape : l .kind ≡ 0 → refused 21 0 ≡ shapeOf l bs
   unfolding shapeBy
   no-shape e = sym (shape-kind 0 e)
+
+  pub no-parts : l .kind ≡ 5 → refused 21 0 ≡ shapeOf l bs
+  unfolding shapeBy
+  no-parts e = sym (shape-kind 5 e)
 
   fixed-is : l .kind ≡ 1 → shapeOf l bs ≡ (need leb (groupAt (l .first) .octets) (length bs) or 9 then ok (1, groupAt (l .first) .octets))
   unfolding shapeBy
@@ -233,16 +240,17 @@ module _ (l : LayoutRow) (bs : List ℕ) where
   list-shape e h = sym (shape-kind 2 e ∙ rw (le-leb 1 (length bs) h))
 
   -- no count or length octet
-  pub no-head : ¬ (l .kind ≡ 0) → ¬ (l .kind ≡ 1) → ¬ (l .kind ≡ 4) → l .kind ≤ 4 → length bs < 1 → refused 9 0 ≡ shapeOf l bs
+  pub no-head : ¬ (l .kind ≡ 0) → ¬ (l .kind ≡ 5) → ¬ (l .kind ≡ 1) → ¬ (l .kind ≡ 4) → l .kind ≤ 5 → length bs < 1 → refused 9 0 ≡ shapeOf l bs
   unfolding shapeBy need_or_then_
-  no-head a b d few h = go (l .kind) refl
+  no-head a f b d few h = go (l .kind) refl
     where
       go : (k : ℕ) → l .kind ≡ k → refused 9 0 ≡ shapeOf l bs
       go zero e = absurd (a e)
       go (suc zero) e = absurd (b e)
       go (suc (suc zero)) e = sym (shape-kind 2 e ∙ rw (lt-leb 1 (length bs) h))
       go (suc (suc (suc zero))) e = sym (shape-kind 3 e ∙ rw (lt-leb 1 (length bs) h))
-      go (suc (suc (suc (suc k)))) e = absurd (d (omega (arith, e)))
+      go (suc (suc (suc (suc zero)))) e = absurd (d e)
+      go (suc (suc (suc (suc (suc k))))) e = absurd (f (omega (arith, e)))
 
   led-is : l .kind ≡ 3 → 1 ≤ length bs
       → shapeOf l bs ≡ (need ltb (l .least) (getD bs 0 0) or 10 then need leb (getD bs 0 0) (length bs) or 9 then ok (getD bs 0 0 - 1, getD bs 0 0))

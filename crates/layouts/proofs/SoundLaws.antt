@@ -10,7 +10,7 @@ use Rattle.layouts.specs.Read.{rows, isSpare, holds, partsSound, rowSoun
 
 layout-sound-suc : (j : ℕ) → suc j < layoutCount → rowSound (layoutAt (suc j)) ≡ true
 unfolding partsSound holds rows rowSound isSpare layoutAt groupAt fields groups layouts categories
-layout-sound-suc j h = each rowSound (layoutRows 0 layouts) noLayoutRow refl j (le-of-suc-le-suc h)
+layout-sound-suc j h = each rowSound (layoutRows 0 0 layouts) noLayoutRow refl j (le-of-suc-le-suc h)
 
 pub layout-sound : (j : ℕ) → j < layoutCount → rowSound (layoutAt j) ≡ true
 unfolding partsSound holds rowSound layoutAt

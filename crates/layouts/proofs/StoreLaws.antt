@@ -6,7 +6,7 @@ use mathlib.Core.Path.{_≡_, refl, sym, ap, _∙_, subst}
 use mathlib.Core.Bool.{Bool, true, false, cond}
 use mathlib.Core.List.{List, [], _∷_, _++_}
 use native.Mathlib.Omega.{arith}
-use native.Mathlib.Nat.{add-zero, zero-add, not-suc-le-zero}
+use native.Mathlib.Nat.{add-zero, not-suc-le-zero}
 use native.Mathlib.Numerals.{add-one}
 use lib.IntN.{ℤ}
 use lib.ListN.{length, set, drop, length-append}
@@ -15,7 +15,7 @@ use borrow.Author.Tests.{eq-eqb, ne-eqb}
 use mir.Syntax.{w64}
 use mir.Val.{SFits}
 use mir.ValLaws.{toZ-ofZ}
-use Rattle.rules.specs.Layout.{flatten}
+use Rattle.rules.specs.Chain.{flatten}
 use Rattle.tables.specs.declared.tables.FieldRow.{FieldRow}
 use Rattle.tables.specs.declared.tables.GroupRow.{GroupRow}
 use Rattle.tables.specs.Tables.{fieldCount, groupAt}
@@ -101,14 +101,15 @@ length-values (f ∷ fs) n = go (isSpare f) (length-values fs (n % 2 ^ width fs)
     go true h = omega arith
     go false h = omega arith
 
-pub record StoreParts (step group c₀ : ℕ) (s : List ℕ) (at : ℕ) (out₀ : List ℤ) (p g k q : ℕ) (out : List ℤ) : Type 0 where
+pub record StoreParts (step group c₀ : ℕ) (s : List ℕ) (at : ℕ) (out₀ : List ℤ) (start p g k q : ℕ) (out : List ℤ) : Type 0 where
   pub sound : partsSound step g k ≡ true
   pub place : p + span step g k ≡ at + span step group c₀
-  pub room : q + holds step g k ≡ holds step group c₀
-  pub same : sets out q (flatten (partValues step g k (drop p s))) ≡ sets out₀ 0 (flatten (partValues step group c₀ (drop at s)))
+  pub room : q + holds step g k ≡ start + holds step group c₀
+  pub same : sets out q (flatten (partValues step g k (drop p s))) ≡ sets out₀ start (flatten (partValues step group c₀ (drop at s)))
 
-pub store-begun : (step group c₀ : ℕ) (s : List ℕ) (at : ℕ) (out₀ : List ℤ) → partsSound step group c₀ ≡ true → StoreParts step group c₀ s at out₀ at group c₀ 0 out₀
-store-begun step group c₀ s at out₀ h = record { sound = h; place = refl; room = zero-add _; same = refl }
+pub store-begun : (step group c₀ : ℕ) (s : List ℕ) (at : ℕ) (out₀ : List ℤ) (start : ℕ) → partsSound step group c₀ ≡ true
+    → StoreParts step group c₀ s at out₀ start at group c₀ start out₀
+store-begun step group c₀ s at out₀ start h = record { sound = h; place = refl; room = refl; same = refl }
 
 -- the first of the parts, and the others
 pub holds-cons : (step g k : ℕ) → 0 < k → holds step g k ≡ count (rowsAt g) + holds step (g + step) (k - 1)
@@ -122,15 +123,15 @@ unfolding partValues
 values-cons step g zero s p h = absurd (not-suc-le-zero h)
 values-cons step g (suc k) s p h = let e : suc k - 1 ≡ k = omega arith in rw (e, drop-drop (groupAt g .octets) p s)
 
-pub part-stored : (step group c₀ : ℕ) (s : List ℕ) (at : ℕ) (out₀ : List ℤ) (p g k q q' : ℕ) (out out' : List ℤ) {r : GroupRow}
-    → StoreParts step group c₀ s at out₀ p g k q out → 0 < k → r ≡ groupAt g
+pub part-stored : (step group c₀ : ℕ) (s : List ℕ) (at : ℕ) (out₀ : List ℤ) (start p g k q q' : ℕ) (out out' : List ℤ) {r : GroupRow}
+    → StoreParts step group c₀ s at out₀ start p g k q out → 0 < k → r ≡ groupAt g
     → (q' ≡ q + count (rowsAt g)) × (out' ≡ sets out q (values (rowsAt g) (partAt step g (drop p s))))
-    → StoreParts step group c₀ s at out₀ (p + r .octets) (g + step) (k - 1) q' out'
-part-stored step group c₀ s at out₀ p g k q q' out out' c h er eo =
+    → StoreParts step group c₀ s at out₀ start (p + r .octets) (g + step) (k - 1) q' out'
+part-stored step group c₀ s at out₀ start p g k q q' out out' c h er eo =
     let f : First step g k s p = first-part step g k s p h (c .sound) in
     let vs : List ℤ = values (rowsAt g) (partAt step g (drop p s)) in
     let rest : List ℤ = flatten (partValues step (g + step) (k - 1) (drop (p + groupAt g .octets) s)) in
-    subst (λ (r : GroupRow). StoreParts step group c₀ s at out₀ (p + r .octets) (g + step) (k - 1) q' out') (sym er)
+    subst (λ (r : GroupRow). StoreParts step group c₀ s at out₀ start (p + r .octets) (g + step) (k - 1) q' out') (sym er)
     (record {
       sound = f .rest;
       place = omega (arith, c .place, f .spans);
@@ -143,10 +144,11 @@ part-stored step group c₀ s at out₀ p g k q q' out out' c h er eo =
           ∙ c .same;
     })
 
-pub parts-stored : (step group c₀ : ℕ) (s : List ℕ) (at : ℕ) (out₀ : List ℤ) (p g k q : ℕ) (out : List ℤ) → StoreParts step group c₀ s at out₀ p g k q out → k ≤ 0
-    → (q ≡ holds step group c₀) × (out ≡ sets out₀ 0 (flatten (partValues step group c₀ (drop at s))))
+pub parts-stored : (step group c₀ : ℕ) (s : List ℕ) (at : ℕ) (out₀ : List ℤ) (start p g k q : ℕ) (out : List ℤ)
+    → StoreParts step group c₀ s at out₀ start p g k q out → k ≤ 0
+    → (q ≡ start + holds step group c₀) × (out ≡ sets out₀ start (flatten (partValues step group c₀ (drop at s))))
 unfolding holds partValues
-parts-stored step group c₀ s at out₀ p g k q out c h =
+parts-stored step group c₀ s at out₀ start p g k q out c h =
     let z : k ≡ 0 = omega arith in
     (sym (ap (λ x. q + holds step g x) z ∙ add-zero q) ∙ c .room, sym (ap (λ x. sets out q (flatten (partValues step g x (drop p s)))) z) ∙ c .same)
 
@@ -158,14 +160,14 @@ length-held step g (suc c) bs =
     rw (length-append (values (rowsAt g) (partAt step g bs)) (flatten (partValues step (g + step) c (drop (groupAt g .octets) bs))), length-values (rowsAt g) (partAt step g bs), length-held step (g + step) c (drop (groupAt g .octets) bs))
 
 -- what storing an item asks, and gives, of the step and the head that were worked out
-module _ (st hd a c : ℕ) {step head : ℕ} (es : step ≡ st) (eh : head ≡ hd) where
-  pub store-asks : (n : ℕ) → step ≤ 1 → partsSound st a c ≡ true → hd + span st a c ≤ n → holds st a c ≤ 8_192
-      → ((step ≤ 1) × (partsSound step a c ≡ true) × (head + span step a c ≤ n)) × (holds step a c ≤ 8_192)
+module _ (st hd a c start : ℕ) {step head : ℕ} (es : step ≡ st) (eh : head ≡ hd) where
+  pub store-asks : (n : ℕ) → step ≤ 1 → partsSound st a c ≡ true → hd + span st a c ≤ n → start + holds st a c ≤ 8_192
+      → ((step ≤ 1) × (partsSound step a c ≡ true) × (head + span step a c ≤ n)) × (start + holds step a c ≤ 8_192)
   store-asks n one sound there room =
       let e : span step a c ≡ span st a c = ap (λ x. span x a c) es in
-      ((one, ap (λ x. partsSound x a c) es ∙ sound, omega (arith, e, eh, there)), subst (λ x. holds x a c ≤ 8_192) (sym es) room)
+      ((one, ap (λ x. partsSound x a c) es ∙ sound, omega (arith, e, eh, there)), subst (λ x. start + holds x a c ≤ 8_192) (sym es) room)
 
-  pub store-gives : (bs : List ℕ) (old new : List ℤ) (q : ℕ) → (q ≡ holds step a c) × (new ≡ sets old 0 (flatten (partValues step a c (drop head bs))))
-      → (q ≡ holds st a c) × (new ≡ sets old 0 (flatten (partValues st a c (drop hd bs))))
+  pub store-gives : (bs : List ℕ) (old new : List ℤ) (q : ℕ) → (q ≡ start + holds step a c) × (new ≡ sets old start (flatten (partValues step a c (drop head bs))))
+      → (q ≡ start + holds st a c) × (new ≡ sets old start (flatten (partValues st a c (drop hd bs))))
   store-gives bs old new q h =
-      (h .0 ∙ ap (λ x. holds x a c) es, h .1 ∙ ap (λ x. sets old 0 (flatten (partValues x a c (drop head bs)))) es ∙ ap (λ x. sets old 0 (flatten (partValues st a c (drop x bs)))) eh)
+      (h .0 ∙ ap (λ x. start + holds x a c) es, h .1 ∙ ap (λ x. sets old start (flatten (partValues x a c (drop head bs)))) es ∙ ap (λ x. sets old start (flatten (partValues st a c (drop x bs)))) eh)

@@ -15,15 +15,15 @@ use lib.Pow.{pow-pos, shr-lt}
 use borrow.Author.Tests.{le-leb, lt-ltb, ltb-true, ltb-false, eqb-true, ne-eqb}
 use Rattle.rules.specs.Answer.{ok, refused, _>>=_}
 use Rattle.rules.specs.Field.{Field, spare, value, unsigned, signed, bits, half}
-use Rattle.rules.proofs.AnswerLaws.{Octets, both-left, both-right, refused-ok, bind-elim}
+use Rattle.rules.proofs.AnswerLaws.{Octets, both-left, both-right, refused-ok, bind-elim, octets-drop}
 use Rattle.tables.specs.declared.tables.LayoutRow.{LayoutRow}
 use Rattle.tables.specs.Tables.{groupCount, fieldRow, minus, isFree, groupAt}
 use Rattle.tables.proofs.TableLaws.{fieldsAt, group-free}
 use Rattle.layouts.specs.Read.{rowsAt, partAt, twosOf, valueOf, within, legal, span, partSound, partsSound, partsLegal, faultAt, need_or_further_then_, Shaped, headOf, stepOf, shapeOf, wholeOf, rowSound}
 use Rattle.layouts.proofs.FieldCodes.{Wide, width-bits, low-minus, low-neg, twice}
 use Rattle.layouts.proofs.PartLaws.{PartSound, part-sound}
-use Rattle.layouts.proofs.ReadLaws.{further-elim, rows-map, wide-slice, part-small, octets-drop, Fitting, fitting}
-use Rattle.layouts.proofs.ShapeLaws.{rowed, Grouped, fixed-group, list-group, led-group, few-kinds, no-shape}
+use Rattle.layouts.proofs.ReadLaws.{further-elim, rows-map, wide-slice, part-small, Fitting, fitting}
+use Rattle.layouts.proofs.ShapeLaws.{rowed, Grouped, fixed-group, list-group, led-group, few-kinds, no-shape, no-parts}
 
 -- ---- free groups
 
@@ -134,7 +134,8 @@ module _ (l : LayoutRow) (bs : List ℕ) where
             go (suc zero) q = fixed-group l (rowed l s) q
             go (suc (suc zero)) q = list-group l (rowed l s) q
             go (suc (suc (suc zero))) q = led-group l (rowed l s) q
-            go (suc (suc (suc (suc j)))) q = absurd (k (omega (arith, q, few-kinds l (rowed l s))))
+            go (suc (suc (suc (suc zero)))) q = absurd (k q)
+            go (suc (suc (suc (suc (suc j))))) q = refused-ok (no-parts l bs (omega (arith, q, few-kinds l (rowed l s))) ∙ e)
 
         pub walk-equal : {h : ℕ} → h ≡ headOf (l .kind) → Walk 0 h
         walk-equal eh = subst (Walk 0) (sym eh) (subst (λ x. Walk x (headOf (l .kind))) no-step walk)

@@ -1,5 +1,5 @@
 -- The reading rule of an item as the code follows it, over the rows of the tables: first its shape, how many parts it has and how many octets
--- it takes; then its parts, one after another. `proofs/ReadLaws` has that these are the rules' `readItem`. Assumes nothing.
+-- it takes; then its parts, one after another. `proofs/ReadLaws` has that these are the rules' `readPlain`. Assumes nothing.
 use Prim.Native.Nat.{ℕ, zero, suc, _+_, _-_, _*_, _/_, _%_, _^_}
 use mathlib.Core.Bool.{Bool, true, false, cond, _&&_}
 use mathlib.Core.List.{List, [], _∷_, map}
@@ -10,7 +10,8 @@ use lib.ListN.{length, take, drop, getD}
 use lib.Seq.{slice}
 use Rattle.rules.specs.Answer.{Answer, ok, refused, _>>=_, need_or_then_, if_then_else_, Read}
 use Rattle.rules.specs.Field.{Field, spare, value, unsigned, signed}
-use Rattle.rules.specs.Layout.{Values, joined}
+use Rattle.rules.specs.Chain.{joined}
+use Rattle.rules.specs.Format.{PartValues}
 use Rattle.tables.specs.declared.tables.FieldRow.{FieldRow}
 use Rattle.tables.specs.declared.tables.GroupRow.{GroupRow}
 use Rattle.tables.specs.declared.tables.LayoutRow.{LayoutRow}
@@ -83,7 +84,7 @@ holds step g (suc c) = count (rowsAt g) + holds step (g + step) c
 
 -- the tables have a row for each part, and its fields fill its octets, but for the FX bit
 abbrev pub partSound : ℕ → GroupRow → Bool
-partSound step r = leb (r .end) fieldCount && leb 1 (r .octets) && leb (r .octets) 7 && eqb (width (rows (r .first) (r .end)) + step) (8 * r .octets)
+partSound step r = leb (r .end) fieldCount && leb 1 (r .octets) && leb (r .octets) 8 && eqb (width (rows (r .first) (r .end)) + step) (8 * r .octets)
 
 unfoldable pub partsSound : ℕ → ℕ → ℕ → Bool
 partsSound step g zero = true
@@ -116,9 +117,9 @@ abbrev pub shapeIs : Shape → Answer Shaped
 shapeIs (Parts c n) = ok (c, n)
 shapeIs (Refused n p) = refused n p
 
--- so many printed parts, the first by the group at a place: 9 where one is cut, 11 where FX asks for more
+-- so many printed parts, the first by the group at a place: 9 where one is cut, 6 where FX asks for more
 unfoldable pub chain : ℕ → ℕ → List ℕ → Answer Shaped
-chain g zero bs = refused 11 0
+chain g zero bs = refused 6 0
 chain g (suc n) bs =
     need leb (groupAt g .octets) (length bs) or 9 then
     if eqb (joined (take (groupAt g .octets) bs) % 2) 0
@@ -139,7 +140,7 @@ listShape lo hi size c have =
     need leb lo c or 11 then
     need leb c hi or 11 then ok (c, 1 + c * size)
 
--- by how the parts lie: 21 no item, 9 the count or length octet, 10 the length, 9 the body, 11 the count
+-- by how the parts lie: 21 no parts, 9 the count or length octet, 10 the length, 9 the body, 11 the count
 unfoldable pub shapeBy : ℕ → ℕ → ℕ → ℕ → ℕ → List ℕ → Answer Shaped
 shapeBy zero lo hi a e bs = refused 21 0
 shapeBy (suc zero) lo hi a e bs = need leb (groupAt a .octets) (length bs) or 9 then ok (1, groupAt a .octets)
@@ -149,7 +150,8 @@ shapeBy (suc (suc (suc zero))) lo hi a e bs =
     need leb 1 (length bs) or 9 then
     need ltb lo (getD bs 0 0) or 10 then
     need leb (getD bs 0 0) (length bs) or 9 then ok (getD bs 0 0 - 1, getD bs 0 0)
-shapeBy (suc (suc (suc (suc k)))) lo hi a e bs = chain a (e - a) bs
+shapeBy (suc (suc (suc (suc zero)))) lo hi a e bs = chain a (e - a) bs
+shapeBy (suc (suc (suc (suc (suc k))))) lo hi a e bs = refused 21 0
 
 unfoldable pub shapeOf : LayoutRow → List ℕ → Answer Shaped
 shapeOf l bs = shapeBy (l .kind) (l .least) (l .most) (l .first) (l .end) bs
@@ -175,12 +177,12 @@ singleSize g bs =
 
 -- ---- an item by its row: its shape, then its fields
 
-abbrev pub readKind : ℕ → ℕ → ℕ → ℕ → ℕ → Read Values
+abbrev pub readKind : ℕ → ℕ → ℕ → ℕ → ℕ → Read PartValues
 readKind k lo hi a e bs = do
   (c, long) ← shapeBy k lo hi a e bs
   need partsLegal (stepOf k) a c (drop (headOf k) bs) or 11 further faultAt (stepOf k) a c (headOf k) bs then ok (partValues (stepOf k) a c (drop (headOf k) bs), drop long bs)
 
-unfoldable pub readBy : LayoutRow → Read Values
+unfoldable pub readBy : LayoutRow → Read PartValues
 readBy l bs = readKind (l .kind) (l .least) (l .most) (l .first) (l .end) bs
 
 -- ---- rows that the code can work with
@@ -195,10 +197,11 @@ isOctet (value w (signed lo hi) ∷ fs) = false
 
 abbrev pub rowSoundBy : ℕ → ℕ → ℕ → ℕ → Bool
 rowSoundBy zero hi a e = true
-rowSoundBy (suc zero) hi a e = eqb hi 1
+rowSoundBy (suc zero) hi a e = eqb hi 1 && leb (groupAt a .octets) 7
 rowSoundBy (suc (suc zero)) hi a e = leb 1 hi
 rowSoundBy (suc (suc (suc zero))) hi a e = eqb hi 254 && eqb (groupAt a .octets) 1 && isOctet (slice (groupAt a .first) (groupAt a .end) fields)
-rowSoundBy (suc (suc (suc (suc k)))) hi a e = eqb k 0 && eqb (a + hi) e && leb e groupCount
+rowSoundBy (suc (suc (suc (suc zero)))) hi a e = eqb (a + hi) e && leb e groupCount
+rowSoundBy (suc (suc (suc (suc (suc k))))) hi a e = eqb k 0
 
 -- there is a sound group for each part that an item may have, and room for all their values
 unfoldable pub rowSound : LayoutRow → Bool

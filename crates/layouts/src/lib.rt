@@ -1,4 +1,4 @@
-// How the items of categories 017 and 018 lie in octets: the parts of an item and their fields, by their rows of the tables. What a function requires
+// How the items and subfields of categories 017, 018 and 061 lie in octets: their parts and the fields of these, by their rows of the tables. What a function requires
 // of a row or the octets at hand, `items` meets: it takes places and rows from the tables.
 mod fields;
 mod parts;

@@ -2,6 +2,7 @@
 use super::fields::fields_store;
 use numbers::octet;
 use numbers::wide;
+use tables::COMPOUND;
 use tables::EXTENDED;
 use tables::FIXED;
 use tables::LED;
@@ -18,7 +19,7 @@ ghost use mathlib.Core.Bool.{true};
 ghost use Prim.Native.Nat.{_+_, _-_, _*_, _%_, _≤_, _<_, _^_};
 ghost use lib.ListN.{length, take, drop};
 ghost use lib.Seq.{sets};
-ghost use Rattle.rules.specs.Layout.{joined, flatten};
+ghost use Rattle.rules.specs.Chain.{joined, flatten};
 ghost use Rattle.layouts.specs.Read.{rowsAt, partAt, legal, span, partSound, partsSound, partsLegal, faultAt, values, count, holds, partValues, shapeIs, chain, listShape, headOf, stepOf, shapeOf, wholeOf, rowSound};
 ghost use lib.Dec.{eqb};
 ghost use Rattle.tables.specs.Tables.{groupCount, groupAt};
@@ -119,7 +120,7 @@ fn chain_of(s: &[u8], first: usize, last: usize) -> Shape
         g = g + 1;
     }
     Shape::Refused {
-        number: 11,
+        number: 6,
         place: 0,
     }
 }
@@ -151,14 +152,21 @@ fn list_of(l: LayoutRow, n: usize, have: usize) -> Shape
     Shape::Parts { count: n, long }
 }
 
-// The shape of an item that starts a part of a block, by its layout: 21 where there is no item; 9 where its count or length octet is cut, 10
-// where its length is under the least, 9 where it is cut, 11 where its count is barred or FX asks for more than is printed.
+// The shape of an item that starts a part of a block, by its layout: 21 where there is no item, and for a compound one, which has no parts of its
+// own; 9 where its count or length octet is cut, 10 where its length is under the least, 9 where it is cut, 6 where FX asks for more than is
+// printed, 11 where its count is barred.
 pub fn shape_of(l: LayoutRow, s: &[u8]) -> Shape
     requires { ⌜ rowSound l ≡ true ⌝ }
     ensures { λ r. ⌜ shapeIs r ≡ shapeOf l (now (s .entry)) ⌝ }
 {
     let kind = l.kind;
     if kind == NONE {
+        return Shape::Refused {
+            number: 21,
+            place: 0,
+        };
+    }
+    if kind == COMPOUND {
         return Shape::Refused {
             number: 21,
             place: 0,
@@ -275,7 +283,7 @@ fn part_store(
     fields_store(n, w as u64, r.first, r.end, out, q)
 }
 
-// The values of so many parts, at the start of the output; how many they are.
+// The values of so many parts, from a place of the output on; the place after them.
 pub fn parts_store(
     s: &[u8],
     at: usize,
@@ -283,15 +291,16 @@ pub fn parts_store(
     group: usize,
     step: usize,
     out: &mut [i64; 8192],
+    start: usize,
 ) -> usize
     requires { ⌜ (step ≤ 1) × (partsSound step group parts ≡ true) × (at + span step group parts ≤ length (now s)) ⌝ }
-    requires { ⌜ holds step group parts ≤ 8_192 ⌝ }
-    ensures { λ r. ⌜ (r ≡ holds step group parts) × (now (out .exit) ≡ sets (now (out .entry)) 0 (flatten (partValues step group parts (drop at (now (s .entry)))))) ⌝ }
+    requires { ⌜ start + holds step group parts ≤ 8_192 ⌝ }
+    ensures { λ r. ⌜ (r ≡ start + holds step group parts) × (now (out .exit) ≡ sets (now (out .entry)) start (flatten (partValues step group parts (drop at (now (s .entry)))))) ⌝ }
 {
     let mut p = at;
     let mut g = group;
     let mut k = parts;
-    let mut q: usize = 0;
+    let mut q = start;
     while 0 < k {
         q = part_store(s, p, g, step, out, q);
         let r = group_at(g);
@@ -312,12 +321,18 @@ fn step_of(kind: u8) -> usize
     0
 }
 
-// The values of an item with so many parts, at the start of the output; how many they are.
-pub fn item_store(l: LayoutRow, s: &[u8], parts: usize, out: &mut [i64; 8192]) -> usize
+// The values of an item with so many parts, from a place of the output on; the place after them.
+pub fn item_store(
+    l: LayoutRow,
+    s: &[u8],
+    parts: usize,
+    out: &mut [i64; 8192],
+    start: usize,
+) -> usize
     requires { ⌜ (partsSound (stepOf (l .kind)) (l .first) parts ≡ true) × (headOf (l .kind) + span (stepOf (l .kind)) (l .first) parts ≤ length (now s)) ⌝ }
-    requires { ⌜ holds (stepOf (l .kind)) (l .first) parts ≤ 8_192 ⌝ }
-    ensures { λ r. ⌜ (r ≡ holds (stepOf (l .kind)) (l .first) parts) × (now (out .exit) ≡ sets (now (out .entry)) 0 (flatten (partValues (stepOf (l .kind)) (l .first) parts (drop (headOf (l .kind)) (now (s .entry)))))) ⌝ }
+    requires { ⌜ start + holds (stepOf (l .kind)) (l .first) parts ≤ 8_192 ⌝ }
+    ensures { λ r. ⌜ (r ≡ start + holds (stepOf (l .kind)) (l .first) parts) × (now (out .exit) ≡ sets (now (out .entry)) start (flatten (partValues (stepOf (l .kind)) (l .first) parts (drop (headOf (l .kind)) (now (s .entry)))))) ⌝ }
 {
     let kind = l.kind;
-    parts_store(s, head_of(kind), parts, l.first, step_of(kind), out)
+    parts_store(s, head_of(kind), parts, l.first, step_of(kind), out, start)
 }

@@ -1,5 +1,5 @@
--- What measuring takes for granted of a category: its message type and its time are one number each, where the profile has them, and a category that has an
--- untimed message type has a message type item. One computed test of the catalogue, and what follows of the category with any index.
+-- What measuring takes for granted of a category: its message type is the octet that its fields spell and its time is one number, where the profile has them,
+-- and a category that has an untimed message type has a message type item. One computed test of the catalogue, and what follows of the category with any index.
 --
 -- In order: an item of one number; the test; the FRN of a reference; the untimed message type; the category that a CAT names. Assumes nothing.
 use Prim.Native.Nat.{ℕ, zero, suc, _+_, _-_, _/_, _%_, _^_, _≤_, _<_}
@@ -15,7 +15,8 @@ use lib.ListN.{length}
 use borrow.Author.Tests.{ltb-true, eqb-true, eq-eqb, ne-eqb}
 use Rattle.rules.specs.Answer.{ok, if_then_else_}
 use Rattle.rules.specs.Field.{Field, spare, value, unsigned, signed}
-use Rattle.rules.specs.Layout.{Layout, Values, fixed, repeated, led, extended, group, writeItem}
+use Rattle.rules.specs.Format.{fixed, repeated, led, extended}
+use Rattle.rules.specs.Layout.{Layout, plain, compound, Values, item, writeItem}
 use Rattle.rules.specs.Presence.{has}
 use Rattle.rules.specs.Record.{Category, Place, places}
 use Rattle.rules.specs.Block.{categoryOf}
@@ -32,6 +33,7 @@ use Rattle.layouts.proofs.ReadLaws.{le-or-lt}
 use Rattle.items.specs.Answers.{profileIn}
 use Rattle.sets.specs.Sets.{categoryAt}
 use Rattle.sets.specs.Steps.{typeFrn}
+use Rattle.sets.proofs.SpelledLaws.{spelling}
 use Rattle.sets.proofs.ProfileLaws.{category-test, places-few}
 use Rattle.measuring.specs.Measure.{timeFrn, isIn, isUntimed}
 
@@ -44,26 +46,28 @@ oneNumber (value w (signed lo hi) ∷ fs) = false
 oneNumber (value w (unsigned lo hi) ∷ (f ∷ fs)) = false
 oneNumber (value w (unsigned lo hi) ∷ []) = true
 
-abbrev numberLayout : ℕ → Layout → Bool
-numberLayout n (fixed g) = eqb (g .size) n && oneNumber (g .fields)
-numberLayout n (repeated lo hi g) = false
-numberLayout n (led lo) = false
-numberLayout n (extended gs) = false
+abbrev pub numberLayout : ℕ → Layout → Bool
+numberLayout n (plain (fixed g)) = eqb (g .size) n && oneNumber (g .fields)
+numberLayout n (plain (repeated lo hi g)) = false
+numberLayout n (plain (led lo)) = false
+numberLayout n (plain (extended gs)) = false
+numberLayout n (compound ps) = false
 
--- or no item
-abbrev pub isNumber : ℕ → Option Layout → Bool
-isNumber n none = true
-isNumber n (some l) = numberLayout n l
+-- a test of an item's layout, or no item
+abbrev pub orNoItem : (Layout → Bool) → Option Layout → Bool
+orNoItem t none = true
+orNoItem t (some l) = t l
 
-pub number-is : (n : ℕ) (l : Layout) (v : Values) (out : List ℕ) → isNumber n (some l) ≡ true → writeItem l v ≡ ok out → IsNumber n v out
-number-is n (repeated lo hi g) v out h e = absurd (false≢true h)
-number-is n (led lo) v out h e = absurd (false≢true h)
-number-is n (extended gs) v out h e = absurd (false≢true h)
-number-is n (fixed g) v out h e =
+pub number-is : (n : ℕ) (l : Layout) (v : Values) (out : List ℕ) → numberLayout n l ≡ true → writeItem l v ≡ ok out → IsNumber n v out
+number-is n (plain (repeated lo hi g)) v out h e = absurd (false≢true h)
+number-is n (plain (led lo)) v out h e = absurd (false≢true h)
+number-is n (plain (extended gs)) v out h e = absurd (false≢true h)
+number-is n (compound ps) v out h e = absurd (false≢true h)
+number-is n (plain (fixed g)) v out h e =
     subst (λ m. IsNumber m v out) (eqb-true (g .size) n (both-left (eqb (g .size) n) (oneNumber (g .fields)) h))
     (go (g .fields) (both-right (eqb (g .size) n) (oneNumber (g .fields)) h) e)
   where
-    go : (fs : List Field) → oneNumber fs ≡ true → writeItem (fixed (group (g .size) fs)) v ≡ ok out → IsNumber (g .size) v out
+    go : (fs : List Field) → oneNumber fs ≡ true → writeItem (item (g .size) fs) v ≡ ok out → IsNumber (g .size) v out
     go [] h e = absurd (false≢true h)
     go (spare w ∷ fs) h e = absurd (false≢true h)
     go (value w (signed lo hi) ∷ fs) h e = absurd (false≢true h)
@@ -77,7 +81,7 @@ typedWith [] f = true
 typedWith (t ∷ ts) f = ltb 0 f
 
 abbrev soundTime : Category → Bool
-soundTime c = isNumber 1 (layoutAs 0 (places c)) && (isNumber 3 (layoutAs (c .time) (places c)) && typedWith (c .untimed) (frnIn 0 c))
+soundTime c = orNoItem spelling (layoutAs 0 (places c)) && (orNoItem (numberLayout 3) (layoutAs (c .time) (places c)) && typedWith (c .untimed) (frnIn 0 c))
 
 tables-timed : everyCategory soundTime categories ≡ true
 unfolding categories frnAs if_then_else_
@@ -90,14 +94,14 @@ module _ (i : ℕ) where
   sound-time : soundTime c ≡ true
   sound-time = category-test soundTime tables-timed refl i
 
-  pub type-number : isNumber 1 (layoutAs 0 (places c)) ≡ true
-  type-number = both-left (isNumber 1 (layoutAs 0 (places c))) _ sound-time
+  pub type-spelled : orNoItem spelling (layoutAs 0 (places c)) ≡ true
+  type-spelled = both-left (orNoItem spelling (layoutAs 0 (places c))) _ sound-time
 
-  pub time-number : isNumber 3 (layoutAs (c .time) (places c)) ≡ true
-  time-number = both-left (isNumber 3 (layoutAs (c .time) (places c))) _ (both-right (isNumber 1 (layoutAs 0 (places c))) _ sound-time)
+  pub time-number : orNoItem (numberLayout 3) (layoutAs (c .time) (places c)) ≡ true
+  time-number = both-left (orNoItem (numberLayout 3) (layoutAs (c .time) (places c))) _ (both-right (orNoItem spelling (layoutAs 0 (places c))) _ sound-time)
 
   type-there : typedWith (c .untimed) (frnIn 0 c) ≡ true
-  type-there = both-right (isNumber 3 (layoutAs (c .time) (places c))) _ (both-right (isNumber 1 (layoutAs 0 (places c))) _ sound-time)
+  type-there = both-right (orNoItem (numberLayout 3) (layoutAs (c .time) (places c))) _ (both-right (orNoItem spelling (layoutAs 0 (places c))) _ sound-time)
 
 -- ---- the FRN of a reference
 

@@ -2,9 +2,10 @@
 --
 -- In order: the octets of an item; numbers as the code has them; flags end to end; the next item of a set; the items before an FRN and from it on; what is
 -- measured, by cases. Assumes nothing.
-use Prim.Native.Nat.{ℕ, zero, suc, _+_, _-_, _*_, _/_, _%_, _^_, _≤_, _<_}
+use Prim.Native.Nat.{ℕ, zero, suc, _+_, _-_, _*_, _/_, _%_, _^_, _≤_, _<_, min, max}
 use mathlib.Core.Path.{_≡_, refl, sym, ap, ap₂, _∙_, subst}
-use mathlib.Core.Bool.{Bool, true, false}
+use mathlib.Core.Logic.{_⊎_, inl, inr, ⊎-elim}
+use mathlib.Core.Bool.{Bool, true, false, _&&_}
 use mathlib.Core.Option.{Option, none, some}
 use mathlib.Core.List.{List, [], _∷_, _++_}
 use native.Mathlib.Omega.{arith}
@@ -12,16 +13,20 @@ use native.Mathlib.Nat.{mod-lt, mod-eq-of-lt, div-eq-of-lt, add-zero, mul-le-mul
 use lib.Count.{leadingZeros}
 use lib.Pow.{pow-pos, pow-mono, split, high, low}
 use lib.Dec.{leb, eqb, ltb}
-use lib.ListN.{length, getD}
+use lib.ListN.{length, getD, take, drop, length-drop, drop-of-length-le}
+use lib.Seq.{getD-drop}
 use borrow.Author.Tests.{leb-true, ltb-true, eqb-true, le-leb, lt-leb, eq-eqb, ne-eqb}
-use Rattle.rules.specs.Answer.{ok, if_then_else_}
+use Rattle.rules.specs.Answer.{Answer, ok, refused, if_then_else_}
 use Rattle.rules.specs.Presence.{flags}
 use Rattle.rules.specs.Catalogue.{categories}
-use Rattle.rules.proofs.AnswerLaws.{if-true, if-false, both-left, both-right, Octets}
+use Rattle.rules.proofs.AnswerLaws.{if-true, if-false, both-left, both-right, Octets, octets-drop, to-end}
 use Rattle.rules.proofs.PresenceLaws.{flags-length}
 use Rattle.tables.specs.Tables.{profileCount, frnCount, groups, layouts, groupAt, layoutAt, placeRowAt}
 use Rattle.tables.specs.Profiles.{profileRowAt}
-use Rattle.items.specs.Answers.{profileIn}
+use Rattle.layouts.proofs.ReadLaws.{le-or-lt}
+use Rattle.items.specs.Answers.{checkedOf, checkAt, profileIn}
+use Rattle.items.specs.declared.ItemCheck.{ItemCheck}
+use Rattle.items.specs.declared.ItemCheck.the-variants as check
 use Rattle.sets.specs.Sets.{setAt}
 use Rattle.sets.specs.Steps.{typeFrn}
 use Rattle.sets.specs.Answers.{setOf}
@@ -30,11 +35,12 @@ use Rattle.sets.specs.declared.SetRead.{SetRead}
 use Rattle.sets.specs.declared.SetRead.the-variants as set
 use Rattle.sets.proofs.FlagLaws.{flags-split, First, first, first-from, first-rest, first-flags}
 use Rattle.tables.specs.Tests.{allBelow}
-use Rattle.quick_items.specs.Item.{octetsBy, rowOctets, isPlace, rowOf, octetsAt}
+use Rattle.quick_items.specs.Item.{octetsBy, firstTells, rowOctets, rowTells, isPlace, rowOf, tellsAt, sizeOr0, octetsAt}
 use Rattle.tables.proofs.TableLaws.{all-below}
+use Rattle.records.proofs.PlaceLaws.{check-within}
 use Rattle.quick_items.proofs.ItemLaws.{octet-at}
 use Rattle.measuring.specs.Measure.{endFrom, endOf, startOf, timeFrn, isIn, isUntimed, clockAt, timeIn, sized, measureBy, measureIn, measureOf}
-use Rattle.measuring.specs.Shape.{isFixed}
+use Rattle.measuring.specs.Shape.{isFixed, byFirst}
 use Rattle.measuring.proofs.CategoryLaws.{untimed-told}
 
 -- ---- the octets of an item
@@ -51,27 +57,70 @@ octets-by (suc (suc zero)) n x l h = let m : x * n ≤ x * 255 = mul-le-mul-left
 octets-by (suc (suc (suc zero))) n x l h = omega arith
 octets-by (suc (suc (suc (suc k)))) n x l h = omega arith
 
-octets-most : (i f x : ℕ) → x < 256 → octetsAt i f x ≤ 65_026
+-- as many as its first octet tells, or no more than there are
+octets-most : (i f : ℕ) (bs : List ℕ) → Octets bs → (octetsAt i f bs ≤ 65_026) ⊎ (octetsAt i f bs ≤ length bs)
 unfolding octetsAt if_then_else_
-octets-most i f x h = go (isPlace i f) refl
+octets-most i f bs o = go (isPlace i f) refl
   where
-    go : (p : Bool) → isPlace i f ≡ p → (if p then rowOctets (rowOf i f) x else 0) ≤ 65_026
-    go true e =
+    asked : (a : Answer ℕ) → checkAt i f bs ≡ a → sizeOr0 a ≤ length bs
+    asked (ok n) e = check-within i f bs n e
+    asked (refused n p) e = omega arith
+
+    told : isPlace i f ≡ true → rowOctets (rowOf i f) (getD bs 0 0) ≤ 65_026
+    told e =
         let j : i < profileCount = ltb-true i profileCount (both-left (ltb i profileCount) (ltb f frnCount) e) in
         let k : f < frnCount = ltb-true f frnCount (both-right (ltb i profileCount) (ltb f frnCount) e) in
-        octets-by (rowOf i f .kind) _ x
+        octets-by (rowOf i f .kind) _ (getD bs 0 0)
         (leb-true _ 255
         (all-below frnCount (λ g. leb (groupAt (rowOf i g .first) .octets) 255) f
-        (all-below profileCount (λ j. allBelow frnCount (λ g. leb (groupAt (rowOf j g .first) .octets) 255)) i few-at j) k)) h
-    go false e = omega arith
+        (all-below profileCount (λ j. allBelow frnCount (λ g. leb (groupAt (rowOf j g .first) .octets) 255)) i few-at j) k)) (octet-at bs o 0)
+
+    by : isPlace i f ≡ true → (t : Bool)
+        → ((if t then rowOctets (rowOf i f) (getD bs 0 0) else sizeOr0 (checkAt i f bs)) ≤ 65_026) ⊎ ((if t then rowOctets (rowOf i f) (getD bs 0 0) else sizeOr0 (checkAt i f bs)) ≤ length bs)
+    by e true = inl (told e)
+    by e false = inr (asked (checkAt i f bs) refl)
+
+    go : (p : Bool) → isPlace i f ≡ p
+        → ((if p && rowTells (rowOf i f) then rowOctets (rowOf i f) (getD bs 0 0) else sizeOr0 (checkAt i f bs)) ≤ 65_026)
+        ⊎ ((if p && rowTells (rowOf i f) then rowOctets (rowOf i f) (getD bs 0 0) else sizeOr0 (checkAt i f bs)) ≤ length bs)
+    go true e = by e (rowTells (rowOf i f))
+    go false e = inr (asked (checkAt i f bs) refl)
+
+-- by a check of the octets from a place on, or from the end where the place lies past it
+module _ (i f : ℕ) (bs : List ℕ) (at : ℕ) {from : ℕ} (c : ItemCheck) (ef : from ≡ min at (length bs)) (ec : checkedOf c ≡ checkAt i f (take (length bs - from) (drop from bs))) where
+  left : drop from bs ≡ drop at bs
+  left =
+      ⊎-elim
+      (λ (h : at ≤ length bs). let e : from ≡ at = omega arith in ap (λ n. drop n bs) e)
+      (λ (h : length bs < at). drop-of-length-le bs {i = from} (omega arith) ∙ sym (drop-of-length-le bs {i = at} (omega arith)))
+      (le-or-lt at (length bs))
+
+  check-is : checkedOf c ≡ checkAt i f (drop at bs)
+  check-is = ec ∙ ap (checkAt i f) (to-end bs from ∙ left)
+
+  pub asked-whole : (n : ℕ) → c ≡ check.Whole n → n ≡ sizeOr0 (checkAt i f (drop at bs))
+  asked-whole n e = ap sizeOr0 (sym (ap checkedOf e) ∙ check-is)
+
+  pub asked-refused : (n p : ℕ) → c ≡ check.Refused n p → 0 ≡ sizeOr0 (checkAt i f (drop at bs))
+  asked-refused n p e = ap sizeOr0 (sym (ap checkedOf e) ∙ check-is)
+
+pub first-at : (bs : List ℕ) (at : ℕ) → getD bs at 0 ≡ getD (drop at bs) 0 0
+first-at bs at = sym (getD-drop at bs 0 0 ∙ ap (λ x. getD bs x 0) (add-zero at))
+
+-- where the first octet of those at a place tells
+pub octets-told : (i f : ℕ) (bs : List ℕ) (at : ℕ) → tellsAt i f ≡ true → octetsAt i f (drop at bs) ≡ byFirst i f (getD bs at 0)
+unfolding octetsAt
+octets-told i f bs at h = if-true _ h (ap (byFirst i f) (sym (first-at bs at)))
 
 -- one part has as many, whatever its first octet is
-pub octets-fixed : (i f x : ℕ) → isFixed i f ≡ true → octetsAt i f x ≡ octetsAt i f 0
-unfolding octetsAt
-octets-fixed i f x h = ap (λ k. if isPlace i f then octetsBy k (groupAt (rowOf i f .first) .octets) x else 0) e ∙ sym (ap (λ k. if isPlace i f then octetsBy k (groupAt (rowOf i f .first) .octets) 0 else 0) e)
+pub octets-fixed : (i f : ℕ) (bs : List ℕ) (at : ℕ) → isFixed i f ≡ true → octetsAt i f (drop at bs) ≡ byFirst i f 0
+octets-fixed i f bs at h =
+    octets-told i f bs at (ap₂ _&&_ (both-left (isPlace i f) _ h) (ap (λ k. firstTells k (rowOf i f .first) (rowOf i f .end)) one))
+    ∙ ap (λ k. octetsBy k (groupAt (rowOf i f .first) .octets) (getD bs at 0)) one
+    ∙ sym (ap (λ k. octetsBy k (groupAt (rowOf i f .first) .octets) 0) one)
   where
-    e : rowOf i f .kind ≡ 1
-    e = eqb-true (rowOf i f .kind) 1 h
+    one : rowOf i f .kind ≡ 1
+    one = eqb-true (rowOf i f .kind) 1 (both-right (isPlace i f) _ h)
 
 -- ---- numbers as the code has them
 
@@ -98,13 +147,16 @@ module _ (i : ℕ) (bs : List ℕ) where
   unfolding endFrom
   end-least [] f at = omega arith
   end-least (false ∷ ts) f at = end-least ts (f + 1) at
-  end-least (true ∷ ts) f at = omega (arith, end-least ts (f + 1) (at + octetsAt i f (getD bs at 0)))
+  end-least (true ∷ ts) f at = omega (arith, end-least ts (f + 1) (at + octetsAt i f (drop at bs)))
 
-  pub end-most : Octets bs → (ts : List Bool) (f at : ℕ) → endFrom i ts f bs at ≤ at + 65_026 * length ts
+  pub end-most : Octets bs → (ts : List Bool) (f at : ℕ) → endFrom i ts f bs at ≤ max at (length bs) + 65_026 * length ts
   unfolding endFrom
   end-most o [] f at = omega arith
   end-most o (false ∷ ts) f at = omega (arith, end-most o ts (f + 1) at)
-  end-most o (true ∷ ts) f at = omega (arith, end-most o ts (f + 1) (at + octetsAt i f (getD bs at 0)), octets-most i f (getD bs at 0) (octet-at bs o at))
+  end-most o (true ∷ ts) f at =
+      let n : ℕ = octetsAt i f (drop at bs) in
+      let e : endFrom i ts (f + 1) bs (at + n) ≤ max (at + n) (length bs) + 65_026 * length ts = end-most o ts (f + 1) (at + n) in
+      ⊎-elim (λ (h : n ≤ 65_026). omega arith) (λ (h : n ≤ length (drop at bs)). omega (arith, length-drop at bs)) (octets-most i f (drop at bs) (octets-drop at bs o))
 
   pub end-append : (ts us : List Bool) (f at : ℕ) → endFrom i (ts ++ us) f bs at ≡ endFrom i us (f + length ts) bs (endFrom i ts f bs at)
   unfolding endFrom
@@ -114,7 +166,7 @@ module _ (i : ℕ) (bs : List ℕ) where
       end-append ts us (f + 1) at ∙ ap (λ x. endFrom i us x bs (endFrom i ts (f + 1) bs at)) e
   end-append (true ∷ ts) us f at =
       let e : f + 1 + length ts ≡ f + suc (length ts) = omega arith in
-      let to : ℕ = at + octetsAt i f (getD bs at 0) in
+      let to : ℕ = at + octetsAt i f (drop at bs) in
       end-append ts us (f + 1) to ∙ ap (λ x. endFrom i us x bs (endFrom i ts (f + 1) bs to)) e
 
   end-none : (k f at : ℕ) → endFrom i (flags k 0) f bs at ≡ at
@@ -144,7 +196,7 @@ module _ (i : ℕ) (bs : List ℕ) where
   pub record Next (left at f : ℕ) : Type 0 where
     pub few : f ≤ 63
     pub there : 2 ^ (63 - f) ≤ left
-    pub on : endOf i left bs at ≡ endOf i (left - 2 ^ (63 - f)) bs (at + octetsAt i f (getD bs at 0))
+    pub on : endOf i left bs at ≡ endOf i (left - 2 ^ (63 - f)) bs (at + octetsAt i f (drop at bs))
 
   pub next : (left at : ℕ) → left < 2 ^ 63 → (left ≡ 0 → ⊥) → Next left at (leadingZeros 64 left)
   unfolding endOf endFrom
@@ -153,7 +205,7 @@ module _ (i : ℕ) (bs : List ℕ) where
       let t : First left f = first left z (omega arith) in
       let j : 1 ≤ f = first-from left f t 1 h in
       let others : ℕ = left - 2 ^ (63 - f) in
-      let to : ℕ = at + octetsAt i f (getD bs at 0) in
+      let to : ℕ = at + octetsAt i f (drop at bs) in
       let e₁ : 63 ≡ f - 1 + (64 - f) = omega (arith, t .few) in
       let e₂ : 1 + (f - 1) ≡ f = omega arith in
       let e₃ : f + 1 ≡ 1 + f = omega arith in
@@ -175,7 +227,7 @@ module _ (i : ℕ) (bs : List ℕ) where
   ended left at z = ap (λ x. endFrom i (flags 63 x) 1 bs at) z ∙ end-none 63 1 at
 
   -- a place that the items pass lies before their end, which is not far
-  pub end-far : Octets bs → (bits at : ℕ) → endOf i bits bs at ≤ at + 4_096_638
+  pub end-far : Octets bs → (bits at : ℕ) → endOf i bits bs at ≤ max at (length bs) + 4_096_638
   unfolding endOf
   end-far o bits at = omega (arith, end-most o (flags 63 bits) 1 at, flags-length 63 bits)
 
@@ -193,10 +245,10 @@ module _ (i : ℕ) (bs : List ℕ) where
     stand-first h = record { below = h; same = refl }
 
     module _ (left at : ℕ) (s : Standing bits from left at) where
-      pub stand-next : (f : ℕ) → Next left at f → {n : ℕ} → n ≡ octetsAt i f (getD bs at 0) → Standing bits from (left - 2 ^ (63 - f)) (at + n)
+      pub stand-next : (f : ℕ) → Next left at f → {n : ℕ} → n ≡ octetsAt i f (drop at bs) → Standing bits from (left - 2 ^ (63 - f)) (at + n)
       stand-next f x e = record { below = omega (arith, s .below); same = ap (λ n. endOf i (left - 2 ^ (63 - f)) bs (at + n)) e ∙ sym (x .on) ∙ s .same }
 
-      pub stand-near : Octets bs → at ≤ from + 4_096_638
+      pub stand-near : Octets bs → at ≤ max from (length bs) + 4_096_638
       stand-near o = omega (arith, end-past left at, s .same, end-far o bits from)
 
       pub stand-end : left ≡ 0 → at ≡ endOf i bits bs from

@@ -6,15 +6,14 @@ use mathlib.Core.Path.{_≡_, refl, sym, ap, _∙_, subst}
 use mathlib.Core.Bool.{Bool, true, false, false≢true}
 use mathlib.Core.List.{List, [], _∷_}
 use native.Mathlib.Omega.{arith}
-use native.Mathlib.Nat.{add-zero, zero-add, mod-eq-of-lt}
+use native.Mathlib.Nat.{zero-add, mod-eq-of-lt}
 use lib.ListN.{length, getD, take, drop, set, length-drop, length-set, getD-replicate}
-use lib.Seq.{take-at, drop-drop, getD-drop, getD-set-same, getD-set-other}
+use lib.Seq.{take-at, drop-drop, getD-set-same, getD-set-other}
 use Rattle.rules.specs.Answer.{ok}
 use Rattle.rules.specs.Presence.{flags}
 use Rattle.rules.specs.Entry.{mapPlaces, RecordMap}
-use Rattle.rules.proofs.AnswerLaws.{ok-inj, bind-elim, later-inv, Octets}
+use Rattle.rules.proofs.AnswerLaws.{ok-inj, bind-elim, later-inv, Octets, octets-drop}
 use Rattle.rules.proofs.PresenceLaws.{flags-length}
-use Rattle.layouts.proofs.ReadLaws.{octets-drop}
 use Rattle.items.specs.Answers.{checkAt}
 use Rattle.sets.specs.Sets.{setAt}
 use Rattle.sets.proofs.FlagLaws.{flags-split, flag-at}
@@ -39,7 +38,7 @@ module _ (i k : ℕ) (bs : List ℕ) (o : Octets bs) (b : k + length bs < 65_536
 
   -- one item further
   module _ (ts : List Bool) (j at : ℕ) (w v : Came) (e : w .here ≡ k + at) (n : length (w .starts) ≡ mapPlaces) (l : at ≤ length bs) (size : ℕ)
-      (m : size ≡ octetsAt i (j + 1) (getD bs at 0)) (c : Comes ts (j + 1) (at + size) (passed i (j + 1) size (take size (drop at bs)) w) v) where
+      (m : size ≡ octetsAt i (j + 1) (drop at bs)) (c : Comes ts (j + 1) (at + size) (passed i (j + 1) size (take size (drop at bs)) w) v) where
     before : (g : ℕ) → (g ≡ j → ⊥) → getD (set (w .starts) (j + 1 - 1) (w .here % 65_536)) g 0 ≡ getD (w .starts) g 0
     before g z = getD-set-other (w .starts) (j + 1 - 1) g (w .here % 65_536) 0 (λ y. z (omega (arith, y)))
 
@@ -103,8 +102,7 @@ module _ (i k : ℕ) (bs : List ℕ) (o : Octets bs) (b : k + length bs < 65_536
       let c : checkAt i (j + 1) (drop at bs) ≡ ok size = later-inv (w .here) _ p in
       let d : length (drop at bs) ≡ length bs - at = length-drop at bs in
       let q : size ≤ length (drop at bs) = check-within i (j + 1) (drop at bs) size c in
-      let m : size ≡ octetsAt i (j + 1) (getD bs at 0) =
-      size-law i (j + 1) (drop at bs) size (octets-drop at bs o) c ∙ ap (octetsAt i (j + 1)) (getD-drop at bs 0 0 ∙ ap (λ x. getD bs x 0) (add-zero at)) in
+      let m : size ≡ octetsAt i (j + 1) (drop at bs) = size-law i (j + 1) (drop at bs) size (octets-drop at bs o) c in
       let u : Came = passed i (j + 1) size (take size (drop at bs)) w in
       more ts j at w v e n l size m
       (comes ts (j + 1) (at + size) u v (omega arith) (length-set (w .starts) (j + 1 - 1) (w .here % 65_536) ∙ n) (omega arith)

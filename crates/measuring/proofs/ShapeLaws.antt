@@ -1,7 +1,7 @@
 -- A record of a known shape has the size and the time that the shape's row tells.
 --
 -- In order: an item, by its first octet; the items of flags; the time; a record; the table. Assumes nothing.
-use Prim.Native.Nat.{ℕ, zero, suc, _+_, _-_, _*_, _/_, _%_, _^_, _≤_, _<_}
+use Prim.Native.Nat.{ℕ, zero, suc, _+_, _-_, _*_, _%_, _^_, _≤_, _<_}
 use mathlib.Core.Path.{_≡_, refl, sym, ap, ap₂, _∙_, subst}
 use mathlib.Core.Bool.{Bool, true, false, cond, _&&_, false≢true}
 use mathlib.Core.Option.{Option, none}
@@ -9,7 +9,7 @@ use mathlib.Core.List.{List, [], _∷_}
 use native.Mathlib.Omega.{arith}
 use native.Mathlib.Nat.{add-zero, mul-zero, mul-le-mul-left}
 use lib.Dec.{leb, ltb, eqb}
-use lib.ListN.{length, getD}
+use lib.ListN.{length, getD, drop}
 use mir.Syntax.{w8}
 use mir.Val.{Fits}
 use borrow.Author.Tests.{leb-true, ltb-true, eqb-true, eq-eqb, ne-eqb, le-leb}
@@ -21,7 +21,7 @@ use Rattle.items.specs.Answers.{profileIn}
 use Rattle.sets.specs.Sets.{categoryAt, setAt}
 use Rattle.sets.specs.Steps.{setFrom, typeFrn}
 use Rattle.sets.proofs.SetLaws.{octets-all}
-use Rattle.quick_items.specs.Item.{octetsBy, isPlace, rowOf, octetsAt}
+use Rattle.quick_items.specs.Item.{octetsBy, rowOf, tellsAt, octetsAt}
 use Rattle.tables.specs.Tables.{groupAt}
 use Rattle.tables.specs.Profiles.{profileRowAt}
 use Rattle.tables.proofs.TableLaws.{all-below}
@@ -29,20 +29,15 @@ use Rattle.quick_records.specs.Shape.{shapeCount, lowNumber, lowOctets, usedOf,
 use Rattle.quick_records.proofs.ShapeLaws.{cut-same, fspec-told}
 use Rattle.measuring.specs.Measure.{endFrom, endOf, startOf, timeFrn, isIn, isUntimed, clockAt, timeIn, sized, measureBy, measureIn, measureOf}
 use Rattle.measuring.specs.declared.record.Measured.{Measured}
-use Rattle.measuring.specs.Shape.{isFixed, partOctets, isEven, baseFrom, allFixed, oneList, flagsBefore, startsAt, timeAt, untimedOf, kindOf, timeOf, baseOf, placeOf, partOf, rowBy, soundRow, soundShapes, Told}
+use Rattle.measuring.specs.Shape.{isFixed, byFirst, partOctets, isEven, baseFrom, allFixed, oneList, flagsBefore, startsAt, timeAt, untimedOf, kindOf, timeOf, baseOf, placeOf, partOf, rowBy, soundRow, soundShapes, Told}
 use Rattle.measuring.proofs.CategoryLaws.{untimed-told}
-use Rattle.measuring.proofs.EndLaws.{octets-fixed}
+use Rattle.measuring.proofs.EndLaws.{octets-told, octets-fixed}
 
 -- ---- an item, by its first octet
 
 -- octets that grow by as many from 0 to 1 as from 1 to 2 do so for each 1
 record Evenly (g : ℕ → ℕ) : Type 0 where
   grow : eqb (g 2) (g 1 + (g 1 - g 0)) ≡ true → (x : ℕ) → g x ≡ g 0 + x * (g 1 - g 0)
-
-either : (t : Bool) (g h : ℕ → ℕ) → Evenly g → Evenly h → Evenly (λ x. if t then g x else h x)
-unfolding if_then_else_
-either true g h a b = a
-either false g h a b = b
 
 always : (n : ℕ) → Evenly (λ x. n)
 always n = record {
@@ -65,9 +60,8 @@ led = record { grow = λ e x. omega arith }
 extended : Evenly (λ x. 1 + x % 2)
 extended = record { grow = λ e x. absurd (false≢true e) }
 
-octets-even : (i f : ℕ) → Evenly (octetsAt i f)
-unfolding octetsAt
-octets-even i f = either (isPlace i f) _ _ (go (rowOf i f .kind) (groupAt (rowOf i f .first) .octets)) (always 0)
+octets-even : (i f : ℕ) → Evenly (byFirst i f)
+octets-even i f = go (rowOf i f .kind) (groupAt (rowOf i f .first) .octets)
   where
     go : (k n : ℕ) → Evenly (octetsBy k n)
     go zero n = always 0
@@ -83,10 +77,10 @@ unfolding endFrom
 all-fixed i [] f bs at h = sym (add-zero at)
 all-fixed i (false ∷ ts) f bs at h = all-fixed i ts (f + 1) bs at h
 all-fixed i (true ∷ ts) f bs at h =
-    let x : ℕ = getD bs at 0 in
-    let e : octetsAt i f x ≡ octetsAt i f 0 = octets-fixed i f x (both-left (isFixed i f) (allFixed i ts (f + 1)) h) in
-    let s : at + octetsAt i f x + baseFrom i ts (f + 1) ≡ at + (octetsAt i f 0 + baseFrom i ts (f + 1)) = omega (arith, e) in
-    all-fixed i ts (f + 1) bs (at + octetsAt i f x) (both-right (isFixed i f) (allFixed i ts (f + 1)) h) ∙ s
+    let n : ℕ = octetsAt i f (drop at bs) in
+    let e : n ≡ byFirst i f 0 = octets-fixed i f bs at (both-left (isFixed i f) (allFixed i ts (f + 1)) h) in
+    let s : at + n + baseFrom i ts (f + 1) ≡ at + (byFirst i f 0 + baseFrom i ts (f + 1)) = omega (arith, e) in
+    all-fixed i ts (f + 1) bs (at + n) (both-right (isFixed i f) (allFixed i ts (f + 1)) h) ∙ s
 
 one-list : (i place part : ℕ) (ts : List Bool) (f : ℕ) (bs : List ℕ) (at : ℕ) → oneList i place part ts f at ≡ true
     → endFrom i ts f bs at ≡ at + baseFrom i ts f + getD bs place 0 * part
@@ -95,16 +89,16 @@ one-list i place part [] f bs at h =
     let none : getD bs place 0 * part ≡ 0 = ap (λ y. getD bs place 0 * y) (eqb-true part 0 h) ∙ mul-zero (getD bs place 0) in
     omega (arith, none)
 one-list i place part (false ∷ ts) f bs at h = one-list i place part ts (f + 1) bs at h
-one-list i place part (true ∷ ts) f bs at h = go (isFixed i f) refl h (one-list i place part ts (f + 1) bs (at + octetsAt i f 0))
+one-list i place part (true ∷ ts) f bs at h = go (isFixed i f) refl h (one-list i place part ts (f + 1) bs (at + byFirst i f 0))
   where
     go : (t : Bool) → isFixed i f ≡ t
-        → cond t (oneList i place part ts (f + 1) (at + octetsAt i f 0)) (eqb at place && eqb (partOctets i f) part && isEven i f && allFixed i ts (f + 1)) ≡ true
-        → (oneList i place part ts (f + 1) (at + octetsAt i f 0) ≡ true
-        → endFrom i ts (f + 1) bs (at + octetsAt i f 0) ≡ at + octetsAt i f 0 + baseFrom i ts (f + 1) + getD bs place 0 * part)
-        → endFrom i ts (f + 1) bs (at + octetsAt i f (getD bs at 0)) ≡ at + (octetsAt i f 0 + baseFrom i ts (f + 1)) + getD bs place 0 * part
+        → cond t (oneList i place part ts (f + 1) (at + byFirst i f 0)) (eqb at place && eqb (partOctets i f) part && isEven i f && allFixed i ts (f + 1)) ≡ true
+        → (oneList i place part ts (f + 1) (at + byFirst i f 0) ≡ true
+        → endFrom i ts (f + 1) bs (at + byFirst i f 0) ≡ at + byFirst i f 0 + baseFrom i ts (f + 1) + getD bs place 0 * part)
+        → endFrom i ts (f + 1) bs (at + octetsAt i f (drop at bs)) ≡ at + (byFirst i f 0 + baseFrom i ts (f + 1)) + getD bs place 0 * part
     go true e q rest =
-        let s : at + octetsAt i f 0 + baseFrom i ts (f + 1) ≡ at + (octetsAt i f 0 + baseFrom i ts (f + 1)) = omega arith in
-        ap (λ y. endFrom i ts (f + 1) bs (at + y)) (octets-fixed i f (getD bs at 0) e) ∙ rest q ∙ ap (λ y. y + getD bs place 0 * part) s
+        let s : at + byFirst i f 0 + baseFrom i ts (f + 1) ≡ at + (byFirst i f 0 + baseFrom i ts (f + 1)) = omega arith in
+        ap (λ y. endFrom i ts (f + 1) bs (at + y)) (octets-fixed i f bs at e) ∙ rest q ∙ ap (λ y. y + getD bs place 0 * part) s
     go false e q rest =
         let a : Bool = eqb at place in
         let b : Bool = eqb (partOctets i f) part in
@@ -112,12 +106,13 @@ one-list i place part (true ∷ ts) f bs at h = go (isFixed i f) refl h (one-lis
         let d : Bool = allFixed i ts (f + 1) in
         let q₁ : a && b && c ≡ true = both-left (a && b && c) d q in
         let q₂ : a && b ≡ true = both-left (a && b) c q₁ in
-        let x : ℕ = getD bs at 0 in
-        let o : octetsAt i f x ≡ octetsAt i f 0 + getD bs place 0 * part =
-        octets-even i f .grow (both-right (a && b) c q₁) x
-        ∙ ap₂ (λ y z. octetsAt i f 0 + getD bs y 0 * z) (eqb-true at place (both-left a b q₂)) (eqb-true (partOctets i f) part (both-right a b q₂)) in
-        let s : at + octetsAt i f x + baseFrom i ts (f + 1) ≡ at + (octetsAt i f 0 + baseFrom i ts (f + 1)) + getD bs place 0 * part = omega (arith, o) in
-        all-fixed i ts (f + 1) bs (at + octetsAt i f x) (both-right (a && b && c) d q) ∙ s
+        let n : ℕ = octetsAt i f (drop at bs) in
+        let v : tellsAt i f && eqb (byFirst i f 2) (byFirst i f 1 + partOctets i f) ≡ true = both-right (a && b) c q₁ in
+        let o : n ≡ byFirst i f 0 + getD bs place 0 * part =
+        octets-told i f bs at (both-left (tellsAt i f) _ v) ∙ octets-even i f .grow (both-right (tellsAt i f) _ v) (getD bs at 0)
+        ∙ ap₂ (λ y z. byFirst i f 0 + getD bs y 0 * z) (eqb-true at place (both-left a b q₂)) (eqb-true (partOctets i f) part (both-right a b q₂)) in
+        let s : at + n + baseFrom i ts (f + 1) ≡ at + (byFirst i f 0 + baseFrom i ts (f + 1)) + getD bs place 0 * part = omega (arith, o) in
+        all-fixed i ts (f + 1) bs (at + n) (both-right (a && b && c) d q) ∙ s
 
 -- ---- the time
 

@@ -1,19 +1,18 @@
 -- What is measured of a record that is legal is its length and its time, as the rules have them (document 02, W-201).
 --
--- In order: octets that lie in others; an item of one number; a record that was read; its time; its length; the theorem. Assumes nothing.
+-- In order: octets that lie in others; an item of some octets; a record that was read; its time; its length; the theorem. Assumes nothing.
 use Prim.Native.Nat.{ℕ, _+_, _*_, _^_, _≤_, _<_}
 use mathlib.Core.Path.{_≡_, refl, sym, ap, ap₂, _∙_, subst}
 use mathlib.Core.Bool.{Bool, true, false}
 use mathlib.Core.Option.{Option, none, some}
 use mathlib.Core.List.{List, [], _∷_, _++_}
 use native.Mathlib.Omega.{arith}
-use lib.Dec.{eqb}
 use lib.ListN.{length, getD, drop, length-append, List·getD-append}
 use lib.Seq.{getD-append-add}
-use lib.IntN.{pos}
 use borrow.Author.Tests.{le-leb}
 use Rattle.rules.specs.Answer.{ok, if_then_else_, octetsOf}
-use Rattle.rules.specs.Layout.{Values, flatten, joined}
+use Rattle.rules.specs.Chain.{flatten, joined}
+use Rattle.rules.specs.Layout.{Layout, Values, writeItem}
 use Rattle.rules.specs.Presence.{has}
 use Rattle.rules.specs.Record.{Category, Record, places, items, valueOf, typeOf, judge, writeRecord, readRecord}
 use Rattle.rules.specs.Block.{categoryOf}
@@ -34,11 +33,12 @@ use Rattle.rules.proofs.PlaceLaws.{laid-low}
 use Rattle.items.proofs.PlaceLaws.{missed}
 use Rattle.sets.specs.Sets.{categoryAt}
 use Rattle.sets.specs.Steps.{typeFrn}
+use Rattle.sets.proofs.SpelledLaws.{spelling, SpelledType, spelled-type}
 use Rattle.sets.proofs.ProfileLaws.{places-few, places-distinct}
 use Rattle.sets.proofs.UsableLaws.{set-bounds}
 use Rattle.records.specs.Answers.{recordAt}
 use Rattle.measuring.specs.Measure.{endOf, startOf, timeFrn, isIn, isUntimed, clockAt, timeIn, sized, measureBy, measureIn, measureOf}
-use Rattle.measuring.proofs.CategoryLaws.{isNumber, number-is, type-number, time-number, frn-index, frn-missing, category-named}
+use Rattle.measuring.proofs.CategoryLaws.{numberLayout, orNoItem, number-is, type-spelled, time-number, frn-index, frn-missing, category-named}
 use Rattle.measuring.proofs.MeasureLaws as laws
 
 -- ---- octets that lie in others
@@ -52,12 +52,6 @@ module _ {bs : List ℕ} {s : ℕ} {u : List ℕ} (l : Lies bs s u) where
 
   lies-inside : s + length u ≤ length bs
   lies-inside = omega (arith, ap length (l .joins) ∙ length-append (l .before) (u ++ l .after), length-append u (l .after), l .starts)
-
-one-joined : (u : List ℕ) → length u ≡ 1 → getD u 0 0 ≡ joined u
-unfolding joined
-one-joined [] h = absurd (omega arith)
-one-joined (x ∷ []) h = omega arith
-one-joined (x ∷ (y ∷ u)) h = absurd (omega arith)
 
 three-joined : (u : List ℕ) → length u ≡ 3 → getD u 0 0 * 65_536 + getD u 1 0 * 256 + getD u 2 0 ≡ joined u
 unfolding joined
@@ -75,30 +69,31 @@ lies-on {bs} {s} {u} l = go (l .before) (l .joins) (l .starts)
     go [] e n = absurd (omega arith)
     go (x ∷ before) e n = record { before = before; after = l .after; joins = ap (drop 1) e; starts = omega arith }
 
--- ---- an item of one number: whether it is there, and what lies at its start
+-- ---- an item of some octets: whether it is there, and what lies at its start
 
-data Seen (bs : List ℕ) (t : Bool) (s n : ℕ) : Option Values → Type 0 where
-  absent : t ≡ false → Seen bs t s n none
-  there : (u : List ℕ) → t ≡ true → Lies bs s u → length u ≡ n → Seen bs t s n (some ((pos (joined u) ∷ []) ∷ []))
+data Seen (bs : List ℕ) (t : Bool) (s : ℕ) (Q : Values → List ℕ → Type 0) : Option Values → Type 0 where
+  absent : t ≡ false → Seen bs t s Q none
+  there : (v : Values) (u : List ℕ) → t ≡ true → Lies bs s u → Q v u → Seen bs t s Q (some v)
 
-same-type : (bs : List ℕ) (t : Bool) (s kind : ℕ) (x : Option Values) → Seen bs t s 1 x → typeOf x ≡ ok kind
+same-type : (bs : List ℕ) (t : Bool) (s kind : ℕ) (x : Option Values) → Seen bs t s SpelledType x → typeOf x ≡ ok kind
     → (us : List ℕ) → has (getD bs s 0) us ≡ isOneOf (typeOf x) us
 unfolding typeOf
 same-type bs t s kind none (absent z) e us = refused-ok e
-same-type bs t s kind (some v) (there u z l n) e us =
+same-type bs t s kind (some v) (there w u z l q) e us =
     let d : s + 0 ≡ s = omega arith in
-    ap (λ k. has k us) (ap (λ k. getD bs k 0) (sym d) ∙ lies-at l 0 (omega arith) ∙ one-joined u n)
+    ap (λ k. has k us) (ap (λ k. getD bs k 0) (sym d) ∙ lies-at l 0 (omega (arith, q .size))) ∙ ap (λ k. isOneOf k us) (sym (q .type-is))
 
-same-time : (bs : List ℕ) (t : Bool) (s : ℕ) (x : Option Values) → Seen bs t s 3 x → (k : Bool)
+same-time : (bs : List ℕ) (t : Bool) (s : ℕ) (x : Option Values) → Seen bs t s (IsNumber 3) x → (k : Bool)
     → (if t then (if k then none else clockAt bs s) else none) ≡ (if k then none else numberIn x)
 unfolding clockAt if_then_else_
 same-time bs t s none (absent z) true = rw z
 same-time bs t s none (absent z) false = rw z
-same-time bs t s (some v) (there u z l n) true = rw z
-same-time bs t s (some v) (there u z l n) false =
+same-time bs t s (some v) (there w u z l q) true = rw z
+same-time bs t s (some v) (there w u z l q) false =
     let d : s + 0 ≡ s = omega arith in
-    let q : s + 3 ≤ length bs = omega (arith, lies-inside l) in
-    rw (z, le-leb (s + 3) (length bs) q)
+    let n : length u ≡ 3 = q .size in
+    let f : s + 3 ≤ length bs = omega (arith, lies-inside l) in
+    rw (z, le-leb (s + 3) (length bs) f, q .value-is)
     (ap some
     (ap₂ (λ a b. a + b)
     (ap₂ (λ a b. a * 65_536 + b * 256) (ap (λ k. getD bs k 0) (sym d) ∙ lies-at l 0 (omega arith)) (lies-at l 1 (omega arith))) (lies-at l 2 (omega arith))
@@ -141,9 +136,10 @@ module _ (i : ℕ) (bs : List ℕ) (r : Record) (rest : List ℕ) (o : Octets bs
   low : lay .bits < 2 ^ 63
   low = set-bounds i bs (lay .bits) (lay .used) (lay .set-is) .0
 
-  seen : (ref n : ℕ) → isNumber n (layoutAs ref (places c)) ≡ true
-      → Seen bs (isIn (frnIn ref c) (lay .bits)) (start (frnIn ref c)) n (valueOf ref (items c r))
-  seen ref n number = by (valueOf ref (items c r)) refl (frnAs ref 1 (places c)) refl
+  -- an item whose layout passes a test, and what that test says of what is written
+  seen : (ref : ℕ) (Q : Values → List ℕ → Type 0) (test : Layout → Bool) → ((l : Layout) (v : Values) (out : List ℕ) → test l ≡ true → writeItem l v ≡ ok out → Q v out)
+      → orNoItem test (layoutAs ref (places c)) ≡ true → Seen bs (isIn (frnIn ref c) (lay .bits)) (start (frnIn ref c)) Q (valueOf ref (items c r))
+  seen ref Q test law passed = by (valueOf ref (items c r)) refl (frnAs ref 1 (places c)) refl
     where
       g : ℕ
       g = indexAs ref (places c)
@@ -155,21 +151,21 @@ module _ (i : ℕ) (bs : List ℕ) (r : Record) (rest : List ℕ) (o : Octets bs
       found v e = item-found (places c) (flatten r) ref (1 + length r) (0 ∷ bs) v (written .each) once items-lie e
 
       -- at an FRN that is one more than the index
-      here : (f : ℕ) → f ≡ g + 1 → g < mapPlaces → (x : Option Values) → valueOf ref (items c r) ≡ x → (t : Bool) → isIn f (lay .bits) ≡ t → Seen bs t (start f) n x
+      here : (f : ℕ) → f ≡ g + 1 → g < mapPlaces → (x : Option Values) → valueOf ref (items c r) ≡ x → (t : Bool) → isIn f (lay .bits) ≡ t → Seen bs t (start f) Q x
       here f ef few none e true z =
           absurd (omega (arith, lay .there g few (ap (λ y. isIn y (lay .bits)) (sym ef) ∙ z), at ∙ start-absent (places c) (flatten r) ref (1 + length r) e))
       here f ef few none e false z = absent refl
       here f ef few (some v) e true z = go (found v e)
         where
-          go : ItemFound (places c) (flatten r) ref (1 + length r) (0 ∷ bs) v → Seen bs true (start f) n (some v)
+          go : ItemFound (places c) (flatten r) ref (1 + length r) (0 ∷ bs) v → Seen bs true (start f) Q (some v)
           go it =
-              let k : IsNumber n v (it .out) = number-is n (it .layout) v (it .out) (ap (isNumber n) (sym (it .is-layout)) ∙ number) (it .writes) in
+              let k : Q v (it .out) = law (it .layout) v (it .out) (ap (orNoItem test) (sym (it .is-layout)) ∙ passed) (it .writes) in
               let s : getD (m .starts) g 0 ≡ it .item .start = at ∙ start-found (places c) (flatten r) ref (1 + length r) (it .item) once (it .is-laid) in
               let p : it .item .start ≡ 1 + start f = sym s ∙ lay .there g few (ap (λ y. isIn y (lay .bits)) (sym ef) ∙ z) ∙ ap (λ y. 1 + start y) (sym ef) in
-              subst (λ x. Seen bs true (start f) n (some x)) (sym (k .value-is)) (there (it .out) refl (lies-on (subst (λ x. Lies (0 ∷ bs) x (it .out)) p (it .lies))) (k .size))
+              there v (it .out) refl (lies-on (subst (λ x. Lies (0 ∷ bs) x (it .out)) p (it .lies))) k
       here f ef few (some v) e false z = go (found v e)
         where
-          go : ItemFound (places c) (flatten r) ref (1 + length r) (0 ∷ bs) v → Seen bs false (start f) n (some v)
+          go : ItemFound (places c) (flatten r) ref (1 + length r) (0 ∷ bs) v → Seen bs false (start f) Q (some v)
           go it =
               let s : getD (m .starts) g 0 ≡ it .item .start = at ∙ start-found (places c) (flatten r) ref (1 + length r) (it .item) once (it .is-laid) in
               absurd
@@ -177,7 +173,7 @@ module _ (i : ℕ) (bs : List ℕ) (r : Record) (rest : List ℕ) (o : Octets bs
               (arith, s, lay .absent g few (ap (λ y. isIn y (lay .bits)) (sym ef) ∙ z), laid-low ref (1 + length r) (places c) (flatten r) (it .item) (it .is-laid)))
 
       by : (x : Option Values) → valueOf ref (items c r) ≡ x → (q : Option ℕ) → frnAs ref 1 (places c) ≡ q
-          → Seen bs (isIn (orNone q) (lay .bits)) (start (orNone q)) n x
+          → Seen bs (isIn (orNone q) (lay .bits)) (start (orNone q)) Q x
       by none e none d = absent (frn-missing (lay .bits) low)
       by (some v) e none d = none-some (sym (missed ref 1 (places c) d .layout) ∙ found v e .is-layout)
       by x e (some f) d =
@@ -186,12 +182,12 @@ module _ (i : ℕ) (bs : List ℕ) (r : Record) (rest : List ℕ) (o : Octets bs
 
   -- ---- its time
 
-  type-seen : Seen bs (isIn (typeFrn i) (lay .bits)) (start (typeFrn i)) 1 (valueOf 0 (items c r))
+  type-seen : Seen bs (isIn (typeFrn i) (lay .bits)) (start (typeFrn i)) SpelledType (valueOf 0 (items c r))
   unfolding typeFrn
-  type-seen = seen 0 1 (type-number i)
+  type-seen = seen 0 SpelledType spelling spelled-type (type-spelled i)
 
-  time-seen : Seen bs (isIn (timeFrn i) (lay .bits)) (start (timeFrn i)) 3 (valueOf (c .time) (items c r))
-  time-seen = seen (c .time) 3 (time-number i)
+  time-seen : Seen bs (isIn (timeFrn i) (lay .bits)) (start (timeFrn i)) (IsNumber 3) (valueOf (c .time) (items c r))
+  time-seen = seen (c .time) (IsNumber 3) (numberLayout 3) (number-is 3) (time-number i)
 
   type-known : (kind : ℕ) → typeOf (valueOf 0 (items c r)) ≡ ok kind
       → isUntimed i (getD bs (start (typeFrn i)) 0) ≡ isOneOf (typeOf (valueOf 0 (items c r))) (c .untimed)

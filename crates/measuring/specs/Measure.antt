@@ -1,5 +1,5 @@
--- A record that is known to be legal, measured: how many octets it has, by its FSPEC and by the first octets of its items alone, and its time (document 02,
--- W-201). No rule of a field is asked. Assumes nothing.
+-- A record that is known to be legal, measured: how many octets it has, by its FSPEC and by its items, each by its first octet where that tells, and its
+-- time (document 02, W-201). No rule of a field is asked but where the first octet does not tell (W-205). Assumes nothing.
 --
 -- In order: the items of a set; the time; a record.
 use Prim.Native.Nat.{ℕ, _+_, _-_, _*_, _/_, _%_, _^_}
@@ -7,7 +7,7 @@ use mathlib.Core.Bool.{Bool, true, false}
 use mathlib.Core.Option.{Option, none, some}
 use mathlib.Core.List.{List, [], _∷_}
 use lib.Dec.{eqb, leb}
-use lib.ListN.{length, getD}
+use lib.ListN.{length, getD, drop}
 use Rattle.rules.specs.Answer.{Answer, ok, refused, if_then_else_}
 use Rattle.rules.specs.Presence.{flags, has}
 use Rattle.rules.specs.Catalogue.{categories}
@@ -23,7 +23,7 @@ use Rattle.measuring.specs.declared.record.Measured.{Measured}
 unfoldable pub endFrom : ℕ → List Bool → ℕ → List ℕ → ℕ → ℕ
 endFrom i [] f bs at = at
 endFrom i (false ∷ ts) f bs at = endFrom i ts (f + 1) bs at
-endFrom i (true ∷ ts) f bs at = endFrom i ts (f + 1) bs (at + octetsAt i f (getD bs at 0))
+endFrom i (true ∷ ts) f bs at = endFrom i ts (f + 1) bs (at + octetsAt i f (drop at bs))
 
 -- those of a set; and those of it that stand before an FRN, which is where the item at the FRN starts
 unfoldable pub endOf : ℕ → ℕ → List ℕ → ℕ → ℕ

@@ -14,7 +14,7 @@ use Rattle.tables.specs.Profiles.{profileRowAt}
 use Rattle.sets.specs.Sets.{categoryAt}
 use Rattle.sets.specs.Steps.{setFrom, typeFrn}
 use Rattle.tables.specs.Tests.{allBelow}
-use Rattle.quick_items.specs.Item.{rowOf, octetsAt}
+use Rattle.quick_items.specs.Item.{rowOctets, isPlace, rowOf, tellsAt}
 use Rattle.quick_records.specs.Shape.{shapeCount, lowOctets, usedOf, profileOf}
 use Rattle.measuring.specs.Measure.{timeFrn, isIn, measureIn}
 use Rattle.measuring.specs.declared.record.Measured.{Measured}
@@ -23,14 +23,18 @@ use Rattle.measuring.specs.declared.record.Measured.{Measured}
 
 -- it is one part
 abbrev pub isFixed : ℕ → ℕ → Bool
-isFixed i f = eqb (rowOf i f .kind) 1
+isFixed i f = isPlace i f && eqb (rowOf i f .kind) 1
+
+-- its octets by its first octet, where that tells
+abbrev pub byFirst : ℕ → ℕ → ℕ → ℕ
+byFirst i f x = rowOctets (rowOf i f) x
 
 -- how many octets it has more for each 1 of its first octet; and that they are as many for each, which FX does not have
 abbrev pub partOctets : ℕ → ℕ → ℕ
-partOctets i f = octetsAt i f 1 - octetsAt i f 0
+partOctets i f = byFirst i f 1 - byFirst i f 0
 
 abbrev pub isEven : ℕ → ℕ → Bool
-isEven i f = eqb (octetsAt i f 2) (octetsAt i f 1 + partOctets i f)
+isEven i f = tellsAt i f && eqb (byFirst i f 2) (byFirst i f 1 + partOctets i f)
 
 -- ---- the items that flags name, the first flag's FRN given
 
@@ -38,7 +42,7 @@ isEven i f = eqb (octetsAt i f 2) (octetsAt i f 1 + partOctets i f)
 abbrev pub baseFrom : ℕ → List Bool → ℕ → ℕ
 baseFrom i [] f = 0
 baseFrom i (false ∷ ts) f = baseFrom i ts (f + 1)
-baseFrom i (true ∷ ts) f = octetsAt i f 0 + baseFrom i ts (f + 1)
+baseFrom i (true ∷ ts) f = byFirst i f 0 + baseFrom i ts (f + 1)
 
 abbrev pub allFixed : ℕ → List Bool → ℕ → Bool
 allFixed i [] f = true
@@ -50,7 +54,7 @@ abbrev pub oneList : ℕ → ℕ → ℕ → List Bool → ℕ → ℕ → Bool
 oneList i place part [] f at = eqb part 0
 oneList i place part (false ∷ ts) f at = oneList i place part ts (f + 1) at
 oneList i place part (true ∷ ts) f at =
-    cond (isFixed i f) (oneList i place part ts (f + 1) (at + octetsAt i f 0))
+    cond (isFixed i f) (oneList i place part ts (f + 1) (at + byFirst i f 0))
     (eqb at place && eqb (partOctets i f) part && isEven i f && allFixed i ts (f + 1))
 
 -- ---- the time

@@ -1,4 +1,6 @@
 // Item by item, in one pass: where there is a time, the items before it, and from there on the others.
+use items::ItemCheck;
+use items::check_item;
 use numbers::octet;
 use numbers::wide;
 use quick_items::EXTENDED;
@@ -14,11 +16,12 @@ use tables::profile_row;
 ghost use mathlib.Core.Path.{_≡_};
 ghost use mathlib.Core.Bool.{true};
 ghost use mathlib.Core.Option.{none};
-ghost use Prim.Native.Nat.{_-_, _*_, _/_, _^_, _≤_, _<_};
-ghost use lib.ListN.{getD};
+ghost use Prim.Native.Nat.{_-_, _*_, _/_, _^_, _≤_, _<_, min};
+ghost use lib.ListN.{getD, drop};
 ghost use Rattle.rules.specs.Answer.{ok};
 ghost use Rattle.sets.specs.Steps.{typeFrn};
-ghost use Rattle.quick_items.specs.Item.{exactSteps, octetsAt};
+ghost use Rattle.items.specs.Answers.{checkAt};
+ghost use Rattle.quick_items.specs.Item.{exactSteps, sizeOr0, octetsAt};
 ghost use Rattle.measuring.specs.Measure.{endOf, startOf, timeFrn, isUntimed, clockAt, timeIn, sized, measureBy, measureOf};
 
 // How many octets a record has, 0 where it has no FSPEC of its category or ends past what is lent; and its time of day, in 1/128 s, where it counts as
@@ -39,13 +42,36 @@ pub fn octet_at(part: &[u8], at: usize) -> usize
     octet(part[at])
 }
 
-// The octets of the item at an FRN that starts at a place: by its word, and where it is not one part by its first octet.
+fn lesser(a: usize, b: usize) -> usize
+    ensures { λ r. ⌜ r ≡ min a b ⌝ }
+{
+    if a < b { a } else { b }
+}
+
+// The octets of the item at an FRN that starts at a place, by its check; 0 where it is refused.
+fn asked_octets(profile: usize, frn: usize, part: &[u8], at: usize) -> usize
+    ensures { λ r. ⌜ r ≡ sizeOr0 (checkAt profile frn (drop at (now (part .entry)))) ⌝ }
+{
+    let from = lesser(at, part.len());
+    match check_item(profile, frn, &part[from..]) {
+        ItemCheck::Whole(size) => size,
+        ItemCheck::Refused {
+            number: _,
+            place: _,
+        } => 0,
+    }
+}
+
+// The same by its word, and where it is not one part by its first octet. A word of 0 says that the first octet does not tell.
 fn octets_at(t: &Steps, profile: usize, frn: usize, part: &[u8], at: usize) -> usize
     requires { ⌜ exactSteps (now t) ≡ true ⌝ }
-    ensures { λ r. ⌜ r ≡ octetsAt profile frn (getD (now (part .entry)) at 0) ⌝ }
+    ensures { λ r. ⌜ r ≡ octetsAt profile frn (drop at (now (part .entry))) ⌝ }
 {
     let w = word_of(t, profile, frn);
     if w < 8 {
+        if w == 0 {
+            return asked_octets(profile, frn, part, at);
+        }
         return w;
     }
     let x = octet_at(part, at);

@@ -18,10 +18,10 @@ ghost use Rattle.measuring.specs.Shape.{soundShapes, Told};
 
 pub type Shapes = [u64; 2 * SLOTS];
 
-// Shapes, made by model/make.py, each where `quick_records::slot_of` looks for it: those of `quick_records` that have no item with FX bits, one list or
-// led item at most, and no time or message type of a timed record after that. A shape has two words, with columns: the profile; nothing; the octets of the
-// FSPEC; the FSPEC, its first octet lowest _ one more than the message type that counts as untimed; where in the record the message type stands; where the
-// time stands; the octets of the record without the parts of its list; where the list stands; the octets of a part. A led item is a list of octets, its
+// Shapes, made by model/make.py, each where `quick_records::slot_of` looks for it: those of `quick_records` that have no item with FX bits or subfields, one
+// list or led item at most, and no time or message type of a timed record after that. A shape has two words, with columns: the profile; nothing; the octets
+// of the FSPEC; the FSPEC, its first octet lowest _ one more than the message type that counts as untimed; where in the record the message type stands; where
+// the time stands; the octets of the record without the parts of its list; where the list stands; the octets of a part. A led item is a list of octets, its
 // length octet among them. Where there is no time its first three columns are 0, where there is no list its last two.
 // ---- made by model/make.py: SHAPES
 const SHAPES: Shapes = [
@@ -51,8 +51,8 @@ const SHAPES: Shapes = [
     0x000_00_00_0E_00_0,
     0x1_0000_1_00000000E0, // no shape: category 018, FSPEC E0 again
     0x000_00_00_06_00_0,
-    0x1_0000_1_00000000E0, // no shape: category 018, FSPEC E0 again
-    0x000_00_00_06_00_0,
+    0x2_0000_3_00001001E9, // category 061, FSPEC E9 01 10: type 0x27
+    0x000_05_07_0B_0A_2,
     0x1_0000_3_0000800FF9, // category 018, FSPEC F9 0F 80: type 0x43
     0x041_07_18_1B_00_0,
     0x1_0000_2_00000040F9, // category 018, FSPEC F9 40: type 0x23
@@ -63,16 +63,16 @@ const SHAPES: Shapes = [
     0x000_06_0A_1D_00_0,
     0x1_0000_2_00000008E9, // category 018, FSPEC E9 08: type 0x41
     0x000_00_00_0E_00_0,
-    0x1_0000_1_00000000E0, // no shape: category 018, FSPEC E0 again
-    0x000_00_00_06_00_0,
+    0x2_0000_2_00000008E9, // category 061, FSPEC E9 08: type 0x12, 0x14, 0x15, 0x16
+    0x000_04_06_0A_09_1,
     0x1_0000_3_0000800DF9, // category 018, FSPEC F9 0D 80: type 0x43
     0x041_07_11_14_00_0,
     0x0_0000_2_000000FCEF, // category 017, FSPEC EF FC: type 10
     0x000_06_0C_1F_00_0,
     0x1_0000_1_00000000E0, // no shape: category 018, FSPEC E0 again
     0x000_00_00_06_00_0,
-    0x1_0000_1_00000000E0, // no shape: category 018, FSPEC E0 again
-    0x000_00_00_06_00_0,
+    0x2_0000_2_00000008ED, // category 061, FSPEC ED 08: type 0x12, 0x14, 0x15, 0x16
+    0x000_04_06_0B_0A_1,
     0x1_0000_1_00000000E0, // no shape: category 018, FSPEC E0 again
     0x000_00_00_06_00_0,
     0x0_0000_2_00000002E1, // category 017, FSPEC E1 02: type 30, 31, 32, 33
@@ -91,8 +91,8 @@ const SHAPES: Shapes = [
     0x000_00_00_06_00_0,
     0x0_0000_2_000000F8EF, // category 017, FSPEC EF F8: type 10
     0x000_06_0C_1E_00_0,
-    0x1_0000_1_00000000E0, // no shape: category 018, FSPEC E0 again
-    0x000_00_00_06_00_0,
+    0x2_0000_3_00001001FD, // category 061, FSPEC FD 01 10: type 0x23, 0x24, 0x25, 0x26, 0x27, 0x28, 0x2F
+    0x000_05_08_0D_0C_2,
     0x1_0000_2_00000008F9, // category 018, FSPEC F9 08: type 0x42
     0x000_00_00_0F_00_0,
     0x1_0000_4_002C0101E1, // category 018, FSPEC E1 01 01 2C: type 0x30
@@ -103,16 +103,16 @@ const SHAPES: Shapes = [
     0x000_00_00_09_00_0,
     0x1_0000_1_00000000E8, // category 018, FSPEC E8: type 0x21, 0x41
     0x000_00_00_09_00_0,
-    0x1_0000_1_00000000E0, // no shape: category 018, FSPEC E0 again
-    0x000_00_00_06_00_0,
+    0x2_0000_1_00000000E8, // category 061, FSPEC E8: type 0x11, 0x12, 0x14, 0x15, 0x16, 0x27
+    0x000_03_05_08_00_0,
     0x1_0000_1_00000000E0, // no shape: category 018, FSPEC E0 again
     0x000_00_00_06_00_0,
     0x0_0000_1_00000000EC, // category 017, FSPEC EC: type 22
     0x000_00_00_0B_00_0,
     0x1_0000_1_00000000EC, // category 018, FSPEC EC: type 0x21
     0x000_00_00_0D_00_0,
-    0x1_0000_1_00000000E0, // no shape: category 018, FSPEC E0 again
-    0x000_00_00_06_00_0,
+    0x2_0000_1_00000000EC, // category 061, FSPEC EC: type 0x11, 0x12, 0x14, 0x15, 0x16, 0x27
+    0x000_03_05_09_00_0,
     0x1_0000_1_00000000E0, // no shape: category 018, FSPEC E0 again
     0x000_00_00_06_00_0,
     0x0_0000_1_00000000F0, // category 017, FSPEC F0: type 0

@@ -1,33 +1,31 @@
 -- The records that are found in an accepted log are the rules': the same places, sizes and times. Assumes nothing.
 --
 -- In order: a record; the records of a block; blocks end to end; an accepted log.
-use Prim.Native.Nat.{ℕ, suc, _+_, _-_, _<_, _≤_}
-use mathlib.Core.Path.{_≡_, refl, sym, ap, ap₂, _∙_, subst}
-use mathlib.Core.Bool.{true, false}
+use Prim.Native.Nat.{ℕ, _+_, _-_, _<_, _≤_}
+use mathlib.Core.Path.{_≡_, refl, sym, ap, _∙_}
+use mathlib.Core.Bool.{true}
 use mathlib.Core.Option.{Option, none, some}
 use mathlib.Core.List.{List, [], _∷_, _++_, append-assoc}
 use native.Mathlib.Omega.{arith}
-use lib.Dec.{leb, ltb, le→leb, lt→ltb, ltb→lt}
+use lib.Dec.{leb, le→leb, lt→ltb, ltb→lt}
 use lib.ListN.{length, take, drop, length-append, length-drop}
 use lib.Seq.{drop-drop, drop-at, take-at}
-use Rattle.rules.specs.Answer.{Answer, ok, refused, _>>=_, need_or_then_, octetsOf}
+use Rattle.rules.specs.Answer.{ok, refused, _>>=_, need_or_then_, octetsOf}
 use Rattle.rules.specs.Record.{Category, Record, readRecord, writeRecord}
-use Rattle.rules.specs.Block.{Block, Head, categoryOf, writeAll, writeBlock, readHead}
-use Rattle.rules.specs.Layout.{writeNum}
+use Rattle.rules.specs.Block.{Block, categoryOf, writeAll, writeBlock, readHead}
+use Rattle.rules.specs.Chain.{writeNum}
 use Rattle.rules.specs.Recording.{writeRecording, readRecording}
 use Rattle.rules.specs.Catalogue.{categories}
 use Rattle.rules.specs.Entry.{Counts, checkRecording}
-use Rattle.rules.specs.Merge.{recordTime, headsOf, headsIn, blockHeads, Checked, accepted, unread, logOf}
-use Rattle.rules.specs.Merge as rules
+use Rattle.rules.specs.Merge.{recordTime, headsOf, headsIn, blockHeads, accepted, unread, logOf}
 use Rattle.rules.proofs.AnswerLaws.{ok-inj, bind-in, bind-elim, need-in, need-elim, later-in, octetsOf-ok, Octets}
-use Rattle.rules.proofs.LayoutLaws.{num-length}
+use Rattle.rules.proofs.ChainLaws.{num-length}
 use Rattle.rules.proofs.RecordLaws.{record-laws}
 use Rattle.rules.proofs.BlockLaws.{category-cat, head-back, BlockParts, block-parts}
 use Rattle.rules.proofs.RecordingLaws.{recording-forth}
 use Rattle.rules.proofs.LogLaws.{some-octet, block-length, log-read, log-refused}
 use Rattle.blocks.specs.Read.{headAt, headBy}
 use Rattle.blocks.proofs.LoopLaws.{made-refused}
-use Rattle.measuring.specs.declared.record.Measured.{Measured}
 use Rattle.measuring.specs.Measure.{sized, measureOf}
 use Rattle.measuring.proofs.TimeLaws.{measure-is}
 use Rattle.walking.specs.declared.Cursor.{Cursor}
@@ -35,7 +33,7 @@ use Rattle.walking.specs.Walk.{begin, part, openIn, openAt}
 use Rattle.walking.proofs.StepLaws.{length-part, octets-part, open-stop}
 use Rattle.walking.proofs.BlockLaws.{part-drop}
 use Rattle.merging.specs.declared.heads.Standing.{Standing}
-use Rattle.merging.specs.Heads.{inLog, endCursor, endAt, leftOf, standOf, stoodAt, cursorAt, isHead, behindOf, timeBy, headOf, headsLeft}
+use Rattle.merging.specs.Heads.{endCursor, endAt, leftOf, standOf, stoodAt, isHead, behindOf, headOf, headsLeft}
 use Rattle.merging.proofs.HeadLaws.{measured-fits, InLog, log-in, IsHead, head-yes, end-none, at-here, at-open, at-none, stood-none, stood-some, stand-in, left-none, left-head, stands}
 
 -- LEN has two octets

@@ -16,19 +16,20 @@ use lib.Pow.{shr-le, shr-shr, shl-shr, high, field}
 use borrow.Author.Tests.{leb-true, ltb-true, eqb-true, eq-eqb, ne-eqb, lt-ltb, le-ltb}
 use Rattle.rules.specs.Answer.{Answer, ok, if_then_else_}
 use Rattle.rules.specs.Catalogue.{categories}
-use Rattle.rules.specs.Layout.{joined}
-use Rattle.rules.proofs.AnswerLaws.{if-true, if-false, Octets, both-left, both-right}
+use Rattle.rules.specs.Chain.{joined}
+use Rattle.rules.proofs.AnswerLaws.{if-true, if-false, Octets, both-left, both-right, octets-drop}
 use Rattle.tables.specs.declared.tables.LayoutRow.{LayoutRow}
 use Rattle.tables.specs.declared.tables.PlaceRow.{PlaceRow}
 use Rattle.items.specs.Answers.{checkAt}
+use Rattle.tables.specs.Tests.{allBelow}
 use Rattle.tables.specs.FieldRules.{Rule, obeys, allObeyed, rules, firstRule, singleOf, singles}
-use Rattle.quick_items.specs.Item.{Plainly, ruleIn, nextIn, firstThree, downOf, addedOf, upOf, limitOf, asks, sameRule, sameRules, soundRule, lowAt, highAt, asked, soundRow, soundFree, soundSingle, soundCounted, soundExtended, samePair, soundTwice, soundBy, soundWord, soundWords, soundSteps, rowOctets, wordOctets, exactWord, exactSteps, isPlace, wordFor, rowOf, octetsAt}
+use Rattle.quick_items.specs.Item.{Plainly, ruleIn, nextIn, firstThree, downOf, addedOf, upOf, limitOf, asks, sameRule, sameRules, soundRule, lowAt, highAt, asked, soundRow, soundFree, soundSingle, soundCounted, soundExtended, samePair, soundTwice, soundBy, soundWord, soundWords, soundSteps, rowOctets, rowTells, wordOctets, exactWord, exactSteps, isPlace, wordFor, rowOf, sizeOr0, octetsAt}
 use Rattle.layouts.specs.Read.{rowsAt, partAt, legal, partSound, partsLegal, chain, listShape, shapeOf, wholeSize, rowSound}
 use Rattle.tables.specs.Tables.{profileCount, frnCount, placeCount, groupCount, groupAt, layoutAt, nowhere, profileRows, placeRowAt}
-use Rattle.items.proofs.CheckLaws.{Single, single-is, single-size, single-sound, single-legal, free-of, free-there, check-whole, check-place}
+use Rattle.items.proofs.CheckLaws.{Single, single-is, single-size, single-sound, single-legal, free-of, free-there, check-whole, whole-check}
 use Rattle.layouts.proofs.WholeLaws.{equal-free, chain-legal}
 use Rattle.layouts.proofs.OctetLaws.{octets-known, joined-suc, joined-nil}
-use Rattle.layouts.proofs.ReadLaws.{octets-drop, le-or-lt}
+use Rattle.layouts.proofs.ReadLaws.{le-or-lt}
 use Rattle.layouts.proofs.LegalLaws.{part-ruled}
 use Rattle.layouts.proofs.ShapeLaws.{rowed, Chaining, chain-begun, chain-group, chain-last, chain-more, chain-parts, chain-shape, list-shape, list-there, led-there}
 use Rattle.layouts.proofs.SoundLaws.{layout-sound}
@@ -80,16 +81,16 @@ pub free-check : (profile frn n : ℕ) (bs : List ℕ) → profile < profileCoun
     → checkAt profile frn bs ≡ ok n
 free-check profile frn n bs h k o e a b l =
     let at : ℕ = profile * frnCount + frn in
-    sym
-    (free-there (layoutAt (placeRowAt at .layout)) n bs (layout-sound (placeRowAt at .layout) (place-row at)) o (free-of (layoutAt (placeRowAt at .layout)) n (sym e ∙ single-is at) a b) l
-    ∙ check-place profile frn bs h k o)
+    whole-check profile frn bs n h k o
+    (sym (free-there (layoutAt (placeRowAt at .layout)) n bs (layout-sound (placeRowAt at .layout) (place-row at)) o (free-of (layoutAt (placeRowAt at .layout)) n (sym e ∙ single-is at) a b) l))
 
 -- ---- the item of a profile at an FRN
 
 -- what is told at a place is told of the item there, by a slice's octets
 pub at-place : (profile frn n : ℕ) (bs : List ℕ) → profile < profileCount → frn < frnCount → ((i : ℕ) → getD bs i 0 < 256) → Plainly n (wholeSize (layoutAt (placeRowAt (profile * frnCount + frn) .layout)) bs)
     → Plainly n (checkAt profile frn bs)
-at-place profile frn n bs h k o p = subst (Plainly n) (check-place profile frn bs h k (octets-known bs o)) p
+at-place profile frn zero bs h k o p = tt
+at-place profile frn (suc n) bs h k o p = whole-check profile frn bs (suc n) h k (octets-known bs o) p
 
 -- ---- the first three octets of a part
 
@@ -403,27 +404,65 @@ module _ (t : List ℕ) (i f : ℕ) where
   unfolding wordFor
   word-beyond h k = sym (if-false _ (ap₂ _&&_ (lt-ltb i profileCount h) (le-ltb f frnCount k)) refl)
 
-  -- a word of a table that is exact says what the item at its place has
-  word-octets : exactSteps t ≡ true → (x : ℕ) → x < 256 → wordOctets (wordFor t i f) x ≡ octetsAt i f x
-  unfolding exactSteps wordFor octetsAt wordOctets if_then_else_
-  word-octets s x b = go (isPlace i f) refl
+  -- a word of a table that is exact says what the item at its place has, and 0 that its first octet does not tell
+  exact-word : exactSteps t ≡ true → isPlace i f ≡ true → exactWord (getD t (i * frnCount + f) 0) (rowOf i f) ≡ true
+  unfolding exactSteps
+  exact-word s e =
+      let h : i < profileCount = ltb-true i profileCount (both-left (ltb i profileCount) (ltb f frnCount) e) in
+      let k : f < frnCount = ltb-true f frnCount (both-right (ltb i profileCount) (ltb f frnCount) e) in
+      all-below placeCount (λ j. exactWord (getD t j 0) (layoutAt (placeRowAt j .layout))) (i * frnCount + f) s (omega arith)
+
+  word-octets : exactSteps t ≡ true → 0 < wordFor t i f → (bs : List ℕ) → getD bs 0 0 < 256 → wordOctets (wordFor t i f) (getD bs 0 0) ≡ octetsAt i f bs
+  unfolding wordFor octetsAt if_then_else_
+  word-octets s some bs b = go (isPlace i f) refl some
     where
-      go : (p : Bool) → isPlace i f ≡ p → wordOctets (if p then getD t (i * frnCount + f) 0 else 0) x ≡ (if p then rowOctets (rowOf i f) x else 0)
-      go true e =
-          let h : i < profileCount = ltb-true i profileCount (both-left (ltb i profileCount) (ltb f frnCount) e) in
-          let k : f < frnCount = ltb-true f frnCount (both-right (ltb i profileCount) (ltb f frnCount) e) in
-          let at : ℕ = i * frnCount + f in
-          eqb-true _ _ (all-below 256 (λ y. eqb (wordOctets (getD t at 0) y) (rowOctets (rowOf i f) y)) x (all-below placeCount (λ j. exactWord (getD t j 0) (layoutAt (placeRowAt j .layout))) at s (omega arith)) b)
-      go false e = omega arith
+      w : ℕ
+      w = getD t (i * frnCount + f) 0
 
-module _ (t : List ℕ) (i f : ℕ) (s : exactSteps t ≡ true) {w : ℕ} (e : w ≡ wordFor t i f) where
-  pub free-octets : (x : ℕ) → x < 256 → w < 8 → w ≡ octetsAt i f x
-  free-octets x b h = small-octets w x h ∙ ap (λ y. wordOctets y x) e ∙ word-octets t i f s x b
+      exact : Bool
+      exact = allBelow 256 (λ x. eqb (wordOctets w x) (rowOctets (rowOf i f) x))
 
-  pub extended-octets : {x : ℕ} → x < 256 → w / 256 % 16 ≡ 3 → 1 + x % 2 ≡ octetsAt i f x
-  unfolding wordOctets
-  extended-octets {x} b k = sym (if-true _ (eq-eqb _ 3 k) refl) ∙ ap (λ y. wordOctets y x) e ∙ word-octets t i f s x b
+      by : (u : Bool) → cond u (ltb 0 w && exact) (eqb w 0) ≡ true → 0 < w → wordOctets w (getD bs 0 0) ≡ (if u then rowOctets (rowOf i f) (getD bs 0 0) else sizeOr0 (checkAt i f bs))
+      by true e h = eqb-true _ _ (all-below 256 (λ x. eqb (wordOctets w x) (rowOctets (rowOf i f) x)) (getD bs 0 0) (both-right (ltb 0 w) exact e) b)
+      by false e h = absurd (omega (arith, eqb-true w 0 e))
 
-  pub counted-octets : {x : ℕ} → x < 256 → (w / 256 % 16 ≡ 3 → ⊥) → w % 16 + x * (w / 16 % 16) ≡ octetsAt i f x
-  unfolding wordOctets
-  counted-octets {x} b k = sym (if-false _ (ne-eqb _ 3 k) refl) ∙ ap (λ y. wordOctets y x) e ∙ word-octets t i f s x b
+      go : (p : Bool) → isPlace i f ≡ p → 0 < (if p then w else 0)
+          → wordOctets (if p then w else 0) (getD bs 0 0) ≡ (if p && rowTells (rowOf i f) then rowOctets (rowOf i f) (getD bs 0 0) else sizeOr0 (checkAt i f bs))
+      go true e h = by (rowTells (rowOf i f)) (exact-word s e) h
+      go false e h = absurd (omega arith)
+
+  word-nothing : exactSteps t ≡ true → wordFor t i f ≡ 0 → (bs : List ℕ) → octetsAt i f bs ≡ sizeOr0 (checkAt i f bs)
+  unfolding wordFor octetsAt if_then_else_
+  word-nothing s none bs = go (isPlace i f) refl none
+    where
+      w : ℕ
+      w = getD t (i * frnCount + f) 0
+
+      by : (u : Bool) → cond u (ltb 0 w && allBelow 256 (λ x. eqb (wordOctets w x) (rowOctets (rowOf i f) x))) (eqb w 0) ≡ true → w ≡ 0
+          → (if u then rowOctets (rowOf i f) (getD bs 0 0) else sizeOr0 (checkAt i f bs)) ≡ sizeOr0 (checkAt i f bs)
+      by true e z = absurd (omega (arith, ltb-true 0 w (both-left (ltb 0 w) _ e)))
+      by false e z = refl
+
+      go : (p : Bool) → isPlace i f ≡ p → (if p then w else 0) ≡ 0
+          → (if p && rowTells (rowOf i f) then rowOctets (rowOf i f) (getD bs 0 0) else sizeOr0 (checkAt i f bs)) ≡ sizeOr0 (checkAt i f bs)
+      go true e z = by (rowTells (rowOf i f)) (exact-word s e) z
+      go false e z = refl
+
+module _ (t : List ℕ) (i f : ℕ) (s : exactSteps t ≡ true) {w : ℕ} (e : w ≡ wordFor t i f) (bs : List ℕ) where
+  pub asked-octets : w ≡ 0 → sizeOr0 (checkAt i f bs) ≡ octetsAt i f bs
+  asked-octets z = sym (word-nothing t i f s (sym e ∙ z) bs)
+
+  module _ (b : getD bs 0 0 < 256) (some : 0 < w) where
+    by-word : wordOctets w (getD bs 0 0) ≡ octetsAt i f bs
+    by-word = ap (λ y. wordOctets y (getD bs 0 0)) e ∙ word-octets t i f s (subst (λ y. 0 < y) e some) bs b
+
+    pub free-octets : w < 8 → w ≡ octetsAt i f bs
+    free-octets h = small-octets w (getD bs 0 0) h ∙ by-word
+
+    pub extended-octets : {x : ℕ} → x ≡ getD bs 0 0 → w / 256 % 16 ≡ 3 → 1 + x % 2 ≡ octetsAt i f bs
+    unfolding wordOctets
+    extended-octets ex k = ap (λ y. 1 + y % 2) ex ∙ sym (if-true _ (eq-eqb _ 3 k) refl) ∙ by-word
+
+    pub counted-octets : {x : ℕ} → x ≡ getD bs 0 0 → (w / 256 % 16 ≡ 3 → ⊥) → w % 16 + x * (w / 16 % 16) ≡ octetsAt i f bs
+    unfolding wordOctets
+    counted-octets ex k = ap (λ y. w % 16 + y * (w / 16 % 16)) ex ∙ sym (if-false _ (ne-eqb _ 3 k) refl) ∙ by-word

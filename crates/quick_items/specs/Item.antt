@@ -7,13 +7,14 @@ use mathlib.Core.List.{List, [], _∷_}
 use lib.Dec.{leb, ltb, eqb}
 use lib.ListN.{getD}
 use lib.Seq.{slice}
-use Rattle.rules.specs.Answer.{Answer, ok, if_then_else_}
+use Rattle.rules.specs.Answer.{Answer, ok, refused, if_then_else_}
 use Rattle.rules.specs.Catalogue.{categories}
 use Rattle.tables.specs.declared.tables.LayoutRow.{LayoutRow}
 use Rattle.tables.specs.declared.tables.PlaceRow.{PlaceRow}
 use Rattle.tables.specs.Tests.{allBelow}
 use Rattle.tables.specs.Tables.{profileCount, frnCount, placeCount, groupAt, layoutAt, profileRows, placeRowAt}
 use Rattle.tables.specs.FieldRules.{Rule, rules, firstRule, singleOf}
+use Rattle.items.specs.Answers.{checkAt}
 
 -- 0 tells nothing of an answer, and any other number that the answer is that number
 abbrev pub Plainly : ℕ → Answer ℕ → Type 0
@@ -142,9 +143,9 @@ soundWords t (w ∷ ws) (p ∷ ps) = soundWord t w (layoutAt (p .layout)) && sou
 unfoldable pub soundSteps : List ℕ → Bool
 soundSteps t = soundWords t t (profileRows 1 categories)
 
--- ---- octets: how many an item has that is legal, by its first octet
+-- ---- octets: how many an item has that is legal, by its first octet where that tells
 
--- by how its parts lie and the octets of a part: one part; a count and so many parts; a length that counts itself; two parts at most, of an octet each, by FX
+-- by how its parts lie and the octets of a part: one part; a count and so many parts; a length that counts itself; parts by FX
 abbrev pub octetsBy : ℕ → ℕ → ℕ → ℕ
 octetsBy zero n x = 0
 octetsBy (suc zero) n x = n
@@ -152,15 +153,30 @@ octetsBy (suc (suc zero)) n x = 1 + x * n
 octetsBy (suc (suc (suc zero))) n x = x
 octetsBy (suc (suc (suc (suc k)))) n x = 1 + x % 2
 
+-- of parts by FX it tells where they are two at most, of an octet each; of a compound item it does not
+abbrev pub isShort : ℕ → ℕ → Bool
+isShort a e = eqb (a + 2) e && (eqb (groupAt a .octets) 1 && eqb (groupAt (a + 1) .octets) 1)
+
+abbrev pub firstTells : ℕ → ℕ → ℕ → Bool
+firstTells zero a e = false
+firstTells (suc zero) a e = true
+firstTells (suc (suc zero)) a e = true
+firstTells (suc (suc (suc zero))) a e = true
+firstTells (suc (suc (suc (suc zero)))) a e = isShort a e
+firstTells (suc (suc (suc (suc (suc k))))) a e = false
+
 abbrev pub rowOctets : LayoutRow → ℕ → ℕ
 rowOctets l x = octetsBy (l .kind) (groupAt (l .first) .octets) x
 
--- as a word says; and that the words of a table do so of every place
+abbrev pub rowTells : LayoutRow → Bool
+rowTells l = firstTells (l .kind) (l .first) (l .end)
+
+-- as a word says; and that the words of a table do so of every place, 0 where the first octet does not tell
 unfoldable pub wordOctets : ℕ → ℕ → ℕ
 wordOctets w x = if eqb (w / 256 % 16) 3 then 1 + x % 2 else w % 16 + x * (w / 16 % 16)
 
 abbrev pub exactWord : ℕ → LayoutRow → Bool
-exactWord w l = allBelow 256 (λ x. eqb (wordOctets w x) (rowOctets l x))
+exactWord w l = cond (rowTells l) (ltb 0 w && allBelow 256 (λ x. eqb (wordOctets w x) (rowOctets l x))) (eqb w 0)
 
 unfoldable pub exactSteps : List ℕ → Bool
 exactSteps t = allBelow placeCount (λ k. exactWord (getD t k 0) (layoutAt (placeRowAt k .layout)))
@@ -172,9 +188,18 @@ isPlace i f = ltb i profileCount && ltb f frnCount
 unfoldable pub wordFor : List ℕ → ℕ → ℕ → ℕ
 wordFor t i f = if isPlace i f then getD t (i * frnCount + f) 0 else 0
 
--- how many octets the item at an FRN has that is legal, by its first octet; 0 where there is none
+-- of the item at an FRN, whether its first octet tells, and what
 abbrev pub rowOf : ℕ → ℕ → LayoutRow
 rowOf i f = layoutAt (placeRowAt (i * frnCount + f) .layout)
 
-unfoldable pub octetsAt : ℕ → ℕ → ℕ → ℕ
-octetsAt i f x = if isPlace i f then rowOctets (rowOf i f) x else 0
+abbrev pub tellsAt : ℕ → ℕ → Bool
+tellsAt i f = isPlace i f && rowTells (rowOf i f)
+
+-- 0 where there is no size
+abbrev pub sizeOr0 : Answer ℕ → ℕ
+sizeOr0 (ok n) = n
+sizeOr0 (refused n p) = 0
+
+-- how many octets the item at an FRN has that is legal and starts the octets: by the first of them, or else by its check
+unfoldable pub octetsAt : ℕ → ℕ → List ℕ → ℕ
+octetsAt i f bs = if tellsAt i f then rowOctets (rowOf i f) (getD bs 0 0) else sizeOr0 (checkAt i f bs)

@@ -1,5 +1,5 @@
 // The check of an item that accepts only, with few looks: by a table that the caller lends, since a constant is written out where it is read. What it
-// does not tell is left to the exact check. The same table says how many octets an item has that was checked.
+// does not tell is left to the exact check. The same table says how many octets an item has that was checked, where its first octet tells.
 use numbers::octet;
 use tables::FRNS;
 use tables::PROFILES;
@@ -116,7 +116,43 @@ pub fn steps() -> Steps
         2, //           FRN 33  I018/035  5.2.33  Aircraft Heading
         1, //           FRN 34  I018/012  5.2.12  Aircraft Coverage Quality Factor
         1, //           FRN 35  I018/013  5.2.13  Aircraft CQF Calculation Method
-        0x00_000000, // rule 0   I017/140  5.2.7   time of day; I018/002  5.2.3   time of day
+        0, //           FRN 0   no item
+        2, //           FRN 1   I061/010  5.2.2   SDPS Identification
+        1, //           FRN 2   I061/000  5.2.1   Message Type
+        1, //           FRN 3   I061/012  5.2.3   User Identification
+        1, //           FRN 4   I061/015  5.2.4   Service Identification
+        0x0_1_0_3, //   FRN 5   I061/020  5.2.5   Time of Message
+        1, //           FRN 6   I061/030  5.2.6   Batch Number
+        1, //           FRN 7   I061/045  5.2.7   Application Version Number
+        0xE_1_0_1, //   FRN 8   I061/050  5.2.8   Default Geographical Volume
+        0x0_5_8_1, //   FRN 9   I061/060  5.2.9   Geographical Area
+        0xF_1_0_2, //   FRN 10  I061/070  5.2.10  Lower Limit
+        0xF_1_0_2, //   FRN 11  I061/080  5.2.11  Upper Limit
+        0x1_2_1_1, //   FRN 12  I061/100  5.2.12  Connection Related Report
+        0, //           FRN 13  I061/130  5.2.13  Track Selector
+        0, //           FRN 14  I061/210  5.2.14  Item Selector
+        0x0_5_0_5, //   FRN 15  I061/220  5.2.15  Cyclical Update Characteristics
+        0, //           FRN 16  I061/230  5.2.16  Radar Synchronisation Characteristics
+        0, //           FRN 17  I061/240  5.2.17  Triggering Criteria for Aperiodical Services
+        0x0_2_2_1, //   FRN 18  I061/330  5.2.18  Service Related Report
+        0x0_5_2_1, //   FRN 19  I061/350  5.2.19  Sensor Selector
+        0, //           FRN 20  I061/360  5.2.20  Sensor Item Selector
+        2, //           FRN 21  I061/370  5.2.21  Periodical Characteristics of Sensor Information Service
+        0, //           FRN 22  I061/380  5.2.22  Aperiodical Characteristics of Sensor Information Service
+        0, //           FRN 23  no item is printed
+        0, //           FRN 24  no item is printed
+        0, //           FRN 25  no item is printed
+        0, //           FRN 26  no item is printed
+        0, //           FRN 27  Reserved Expansion Field
+        0, //           FRN 28  Special Purpose Field
+        0, //           FRN 29  past the end of the profile
+        0, //           FRN 30  past the end of the profile
+        0, //           FRN 31  past the end of the profile
+        0, //           FRN 32  past the end of the profile
+        0, //           FRN 33  past the end of the profile
+        0, //           FRN 34  past the end of the profile
+        0, //           FRN 35  past the end of the profile
+        0x00_000000, // rule 0   I017/140  5.2.7   time of day; I018/002  5.2.3   time of day; I061/020  5.2.5   time of message
         0x00_400000, // rule 1   I017/045  5.2.4   latitude
         0x14_000000, // rule 2   I017/070  5.2.6   spare; I018/032  5.2.30  spare
         0x10_000000, // rule 3   I017/230  5.2.12  spare; I018/007  5.2.7   spare
@@ -130,9 +166,9 @@ pub fn steps() -> Steps
         0x11_000000, // rule B   I018/009  5.2.9   spare
         0x13_000000, // rule C   I018/010  5.2.10  spare; I018/022  5.2.22  spare
         0x08_000000, // rule D   I018/034  5.2.32  speed
-        0x00_000000, // rule E   none: any bits
-        0x00_000000, // rule F   none: any bits
-        0x28_A8BFFF, // rule 0   I017/140  5.2.7   time of day; I018/002  5.2.3   time of day
+        0x10_000000, // rule E   I061/050  5.2.8   spare
+        0x08_00003C, // rule F   I061/070  5.2.10  lower limit; I061/080  5.2.11  upper limit
+        0x28_A8BFFF, // rule 0   I017/140  5.2.7   time of day; I018/002  5.2.3   time of day; I061/020  5.2.5   time of message
         0x28_7FFFFF, // rule 1   I017/045  5.2.4   latitude
         0x3F_000000, // rule 2   I017/070  5.2.6   spare; I018/032  5.2.30  spare
         0x3C_000000, // rule 3   I017/230  5.2.12  spare; I018/007  5.2.7   spare
@@ -146,8 +182,8 @@ pub fn steps() -> Steps
         0x3E_000000, // rule B   I018/009  5.2.9   spare
         0x3B_000000, // rule C   I018/010  5.2.10  spare; I018/022  5.2.22  spare
         0x30_008000, // rule D   I018/034  5.2.32  speed
-        0x28_FFFFFF, // rule E   none: any bits
-        0x28_FFFFFF, // rule F   none: any bits
+        0x39_000000, // rule E   I061/050  5.2.8   spare
+        0x30_0017AC, // rule F   I061/070  5.2.10  lower limit; I061/080  5.2.11  upper limit
         // ---- end of what is made
     ]
 }

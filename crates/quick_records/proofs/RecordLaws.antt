@@ -18,13 +18,13 @@ use borrow.Author.Tests.{ltb-true, eqb-true, eq-eqb, ne-eqb}
 use Rattle.rules.specs.Answer.{Answer, ok, refused, if_then_else_}
 use Rattle.rules.specs.Presence.{flags}
 use Rattle.rules.specs.Entry.{RecordMap, mapOf}
-use Rattle.rules.proofs.AnswerLaws.{ok-inj, bind-in, bind-elim, later-in, both-left, both-right, Octets}
+use Rattle.rules.proofs.AnswerLaws.{ok-inj, bind-in, bind-elim, later-in, both-left, both-right, Octets, octets-drop, to-end}
 use Rattle.rules.proofs.PresenceLaws.{flags-length}
 use Rattle.items.specs.Answers.{checkAt}
 use Rattle.tables.specs.Tests.{allBelow}
 use Rattle.quick_items.specs.Item.{Plainly}
 use Rattle.tables.specs.Tables.{profileCount, frnCount}
-use Rattle.layouts.proofs.ReadLaws.{le-or-lt, octets-drop}
+use Rattle.layouts.proofs.ReadLaws.{le-or-lt}
 use Rattle.tables.proofs.TableLaws.{all-below}
 use Rattle.quick_items.proofs.ItemLaws.{free-check, other}
 use Rattle.sets.specs.Sets.{categoryAt, setAt, within}
@@ -32,12 +32,12 @@ use Rattle.sets.specs.Steps.{typeFrn, rowAt, judgeSet}
 use Rattle.records.specs.Walk.{Came, passed, walk, startAt, recordBy}
 use Rattle.sets.specs.Answers.{setOf}
 use Rattle.records.specs.Answers.{recordAt}
-use Rattle.quick_records.specs.Record.{kindCount, rowCount, wayCount, typeSets, mustAt, mayAt, isRow, soundRow, free, allFree, freeSum, hasFront, frontOctets, typeAt, soundSum, rowIn, sumIn, placeIn, soundPlace, soundProfile, soundTypes, Content, Goes, Later, Walks, Passed, endAt}
+use Rattle.quick_records.specs.Record.{kindCount, rowCount, wayCount, mustAt, mayAt, isRow, soundRow, free, allFree, freeSum, hasFront, frontOctets, typeAt, soundSum, rowIn, sumIn, placeIn, soundPlace, soundProfile, soundTypes, Content, Goes, Later, Walks, Passed, endAt}
 use Rattle.sets.specs.declared.ItemSet.{ItemSet}
 use Rattle.sets.specs.declared.SetRead.{SetRead}
 use Rattle.sets.specs.declared.SetRead.the-variants as set
 use Rattle.sets.proofs.FlagLaws.{flags-split, has-bit, First, first-from, first-rest, first-flags}
-use Rattle.sets.proofs.SetLaws.{octets-all, to-end}
+use Rattle.sets.proofs.SetLaws.{octets-all}
 use Rattle.records.proofs.PlaceLaws.{check-within}
 use Rattle.records.proofs.WalkLaws.{walk-none, walk-skip}
 use Rattle.sets.proofs.JudgeLaws.{judge-right}

@@ -16,21 +16,20 @@ use mir.Val.{Fits}
 use borrow.Author.Tests.{leb-true, ltb-true, eqb-true}
 use Rattle.rules.specs.Answer.{Answer, ok, refused, if_then_else_}
 use Rattle.rules.specs.Presence.{flags, number}
-use Rattle.rules.proofs.AnswerLaws.{refused-ok, both-left, both-right, Octets}
+use Rattle.rules.proofs.AnswerLaws.{refused-ok, both-left, both-right, Octets, octets-drop, to-end}
 use Rattle.rules.proofs.PresenceLaws.{flags-length, flags-number, number-lt}
 use Rattle.tables.specs.declared.tables.LayoutRow.{LayoutRow}
 use Rattle.layouts.specs.Read.{wholeSize, rowSound}
 use Rattle.tables.specs.Tables.{profileCount, frnCount, layoutAt, placeRowAt}
-use Rattle.layouts.proofs.ReadLaws.{octets-drop}
 use Rattle.layouts.proofs.SoundLaws.{layout-sound}
 use Rattle.tables.proofs.TableLaws.{place-row, all-below}
 use Rattle.items.specs.Answers.{checkAt}
-use Rattle.items.proofs.CheckLaws.{check-place}
+use Rattle.items.proofs.CheckLaws.{whole-check}
 use Rattle.sets.specs.Sets.{categoryAt, setAt, within}
 use Rattle.records.specs.Walk.{Came, passed, walk, startAt}
 use Rattle.sets.specs.Steps.{rowAt, judgeSet, ended, setFrom}
 use Rattle.sets.specs.declared.SetRead.the-variants as set
-use Rattle.sets.proofs.SetLaws.{set-law, octets-all, to-end}
+use Rattle.sets.proofs.SetLaws.{set-law, octets-all}
 use Rattle.records.proofs.WalkLaws.{walk-none, walk-skip}
 use Rattle.tables.specs.Tests.{allBelow}
 use Rattle.quick_items.specs.Item.{Plainly, firstThree, asks, soundSingle, soundCounted}
@@ -160,7 +159,7 @@ special-told i f w rule n bs h k o s long b e l least asked =
     let first : 0 < w % 16 + w / 4_096 % 16 * (w / 16 % 16) = ltb-true 0 _ (both-left min _ s) in
     let some : n ≡ 0 → ⊥ = λ z. omega (arith, first, more) in
     let sound = layout-sound (placeRowAt (i * frnCount + f) .layout) (place-row (i * frnCount + f)) in
-    sym (check-place i f bs h k o) ∙ told n (wholeSize lay bs) (go sound (eqb (w / 256 % 16) 1) (both-right min _ s)) some
+    whole-check i f bs n h k o (told n (wholeSize lay bs) (go sound (eqb (w / 256 % 16) 1) (both-right min _ s)) some)
   where
     go : rowSound (layoutAt (placeRowAt (i * frnCount + f) .layout)) ≡ true → (t : Bool) → cond t (eqb (w / 16 % 16) 0 && soundSingle rule (rule / 2 ^ 32) w (layoutAt (placeRowAt (i * frnCount + f) .layout))) (soundCounted w (layoutAt (placeRowAt (i * frnCount + f) .layout))) ≡ true
         → Plainly n (wholeSize (layoutAt (placeRowAt (i * frnCount + f) .layout)) bs)

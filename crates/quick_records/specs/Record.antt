@@ -6,7 +6,7 @@ use mathlib.Core.List.{List, [], _∷_, _++_, map}
 use lib.Dec.{ltb, eqb}
 use lib.ListN.{length, getD, replicate}
 use Rattle.rules.specs.Answer.{Answer, ok, refused, _>>=_}
-use Rattle.rules.specs.Layout.{flatten}
+use Rattle.rules.specs.Chain.{flatten}
 use Rattle.rules.specs.Presence.{flags}
 use Rattle.rules.specs.Record.{Category}
 use Rattle.rules.specs.Catalogue.{categories}

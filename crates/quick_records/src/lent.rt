@@ -257,6 +257,118 @@ const TYPES: Types = [
     0,
     0,
     0,
+    0,
+    0,
+    0,
+    0,
+    0,
+    0,
+    0,
+    0,
+    0,
+    0,
+    0,
+    0,
+    0,
+    0,
+    0,
+    0,
+    0,
+    1, // I061/000  5.2.1  0x11  Request for Connection
+    2, // I061/000  5.2.1  0x12  Request for Disconnection
+    3, // I061/000  5.2.1  0x13  Connection Acknowledgement
+    4, // I061/000  5.2.1  0x14  Connection Rejection
+    5, // I061/000  5.2.1  0x15  Disconnection Acknowledgement
+    6, // I061/000  5.2.1  0x16  Disconnection Rejection
+    0,
+    0,
+    0,
+    0,
+    0,
+    0,
+    0,
+    0,
+    0,
+    0,
+    7, // I061/000  5.2.1  0x21  Service Definition Request
+    8, // I061/000  5.2.1  0x22  Service Modification Request
+    9, // I061/000  5.2.1  0x23  Service Suspension Request
+    10, // I061/000  5.2.1  0x24  Service Resumption Request
+    11, // I061/000  5.2.1  0x25  Service Termination Request
+    12, // I061/000  5.2.1  0x26  Service Acknowledgement
+    13, // I061/000  5.2.1  0x27  Service Rejection
+    14, // I061/000  5.2.1  0x28  Service Report
+    0,
+    0,
+    0,
+    0,
+    0,
+    0,
+    15, // I061/000  5.2.1  0x2F  End of Batch
+    0,
+    0,
+    0,
+    0,
+    0,
+    0,
+    0,
+    0,
+    0,
+    0,
+    0,
+    0,
+    0,
+    0,
+    0,
+    0,
+    0,
+    0,
+    0,
+    0,
+    0,
+    0,
+    0,
+    0,
+    0,
+    0,
+    0,
+    0,
+    0,
+    0,
+    0,
+    0,
+    0,
+    0,
+    0,
+    0,
+    0,
+    0,
+    0,
+    0,
+    0,
+    0,
+    0,
+    0,
+    0,
+    0,
+    0,
+    0,
+    0,
+    0,
+    0,
+    0,
+    0,
+    0,
+    0,
+    0,
+    0,
+    0,
+    0,
+    0,
+    0,
+    0,
+    0,
+    0,
     5, // category 017, FRN 1 to 3
     0, // category 017, FRN 1 to 3, 7
     7, // category 017, FRN 1 to 3, 6
@@ -289,16 +401,33 @@ const TYPES: Types = [
     0, // category 018, FRN 1 to 3, 4, 5, 7
     13, // category 018, FRN 1 to 3, 4, 5, 6
     0, // category 018, FRN 1 to 3, 4, 5, 6, 7
+    4, // category 061, FRN 1 to 3
+    5, // category 061, FRN 1 to 3, 7
+    5, // category 061, FRN 1 to 3, 6
+    6, // category 061, FRN 1 to 3, 6, 7
+    0, // category 061, FRN 1 to 3, 5
+    0, // category 061, FRN 1 to 3, 5, 7
+    0, // category 061, FRN 1 to 3, 5, 6
+    0, // category 061, FRN 1 to 3, 5, 6, 7
+    5, // category 061, FRN 1 to 3, 4
+    6, // category 061, FRN 1 to 3, 4, 7
+    6, // category 061, FRN 1 to 3, 4, 6
+    7, // category 061, FRN 1 to 3, 4, 6, 7
+    0, // category 061, FRN 1 to 3, 4, 5
+    0, // category 061, FRN 1 to 3, 4, 5, 7
+    0, // category 061, FRN 1 to 3, 4, 5, 6
+    0, // category 061, FRN 1 to 3, 4, 5, 6, 7
     4, // I017/000  5.2.1  among FRN 1 to 3
     4, // I018/000  5.2.1  among FRN 1 to 3
+    2, // I061/000  5.2.1  among FRN 1 to 3
 ];
 // ---- end of what is made
 
 // Rows of message types, by profile: what the type must have; what it must or may have. The first row is no type's. They say what those of `sets` say, by
 // whose row a record is judged exactly; here they are lent, and found with no search.
 //
-// Then shapes, made by model/make.py, each where `slot_of` looks for it: FSPECs that are legal for some message type, all but those of Aircraft_report, with what follows
-// from them. A shape has four words, with columns, the right one first: the FSPEC, its first octet lowest; its octets; where in the record the item
+// Then shapes, made by model/make.py, each where `slot_of` looks for it: FSPECs that are legal for some message type of at most six optional items, with what
+// follows from them. A shape has four words, with columns, the right one first: the FSPEC, its first octet lowest; its octets; where in the record the item
 // stands that is looked into; how many octets the free items after it take; the profile _ the message types, bit n for row n; the item's word,
 // as in `quick_items::steps`; where in the record the message type stands _ the item's rule, as there _ the items that are left then. Where no item is looked into, the place is that of FRN 1, the word 0, the rule any bits.
 // ---- made by model/make.py: SETS
@@ -399,6 +528,54 @@ const SETS: Sets = [
     0x7C08_0000_0000_0000,
     0x7C0D_0000_0000_0000, // I018/000 type 0x43  GICB_response
     0x7C0F_0000_0000_0000,
+    0, // category 061: no message type
+    0,
+    0x7400_0000_0000_0000, // I061/000 type 0x11  Request for Connection
+    0x7600_0000_0000_0000,
+    0x7400_0000_0000_0000, // I061/000 type 0x12  Request for Disconnection
+    0x7608_0000_0000_0000,
+    0x7500_0000_0000_0000, // I061/000 type 0x13  Connection Acknowledgement
+    0x7700_0000_0000_0000,
+    0x7400_0000_0000_0000, // I061/000 type 0x14  Connection Rejection
+    0x7608_0000_0000_0000,
+    0x7400_0000_0000_0000, // I061/000 type 0x15  Disconnection Acknowledgement
+    0x7608_0000_0000_0000,
+    0x7400_0000_0000_0000, // I061/000 type 0x16  Disconnection Rejection
+    0x7608_0000_0000_0000,
+    0x7400_0000_0000_0000, // I061/000 type 0x21  Service Definition Request
+    0x7EF7_DE00_0000_0000,
+    0x7C00_0000_0000_0000, // I061/000 type 0x22  Service Modification Request
+    0x7EF7_DE00_0000_0000,
+    0x7C00_0000_0000_0000, // I061/000 type 0x23  Service Suspension Request
+    0x7E00_2000_0000_0000,
+    0x7C00_0000_0000_0000, // I061/000 type 0x24  Service Resumption Request
+    0x7E00_2000_0000_0000,
+    0x7C00_0000_0000_0000, // I061/000 type 0x25  Service Termination Request
+    0x7E00_2000_0000_0000,
+    0x7C00_0000_0000_0000, // I061/000 type 0x26  Service Acknowledgement
+    0x7E00_2000_0000_0000,
+    0x7400_0000_0000_0000, // I061/000 type 0x27  Service Rejection
+    0x7E00_2000_0000_0000,
+    0x7C00_0000_0000_0000, // I061/000 type 0x28  Service Report
+    0x7E00_2000_0000_0000,
+    0x7C00_2000_0000_0000, // I061/000 type 0x2F  End of Batch
+    0x7E00_2000_0000_0000,
+    0, // category 061: no more
+    0,
+    0,
+    0,
+    0,
+    0,
+    0,
+    0,
+    0,
+    0,
+    0,
+    0,
+    0,
+    0,
+    0,
+    0,
     0x1_05_01_1_00000000E0, // no shape: category 018, FSPEC E0 again
     0x05_0000_000002006A,
     0x28_FFFFFF_00_000000,
@@ -451,10 +628,10 @@ const SETS: Sets = [
     0x05_0000_000002006A,
     0x28_FFFFFF_00_000000,
     0,
-    0x1_05_01_1_00000000E0, // no shape: category 018, FSPEC E0 again
-    0x05_0000_000002006A,
-    0x28_FFFFFF_00_000000,
-    0,
+    0x2_00_07_3_00001001E9, // category 061, FSPEC E9 01 10: type 0x27
+    0x05_0103_0000002000,
+    0x28_A8BFFF_00_000000,
+    0x0000_2000_0000_0000,
     0x1_00_18_3_0000800FF9, // category 018, FSPEC F9 0F 80: type 0x43
     0x07_0103_0000800000,
     0x28_A8BFFF_00_000000,
@@ -475,10 +652,10 @@ const SETS: Sets = [
     0x06_0000_0000200000,
     0x28_FFFFFF_00_000000,
     0,
-    0x1_05_01_1_00000000E0, // no shape: category 018, FSPEC E0 again
-    0x05_0000_000002006A,
-    0x28_FFFFFF_00_000000,
-    0,
+    0x2_00_06_2_00000008E9, // category 061, FSPEC E9 08: type 0x12, 0x14, 0x15, 0x16
+    0x04_0103_0000000074,
+    0x28_A8BFFF_00_000000,
+    0x0008_0000_0000_0000,
     0x1_00_11_3_0000800DF9, // category 018, FSPEC F9 0D 80: type 0x43
     0x07_0103_0000800000,
     0x28_A8BFFF_00_000000,
@@ -491,10 +668,10 @@ const SETS: Sets = [
     0x05_0000_000002006A,
     0x28_FFFFFF_00_000000,
     0,
-    0x1_05_01_1_00000000E0, // no shape: category 018, FSPEC E0 again
-    0x05_0000_000002006A,
-    0x28_FFFFFF_00_000000,
-    0,
+    0x2_01_06_2_00000008ED, // category 061, FSPEC ED 08: type 0x12, 0x14, 0x15, 0x16
+    0x04_0103_0000000074,
+    0x28_A8BFFF_00_000000,
+    0x0008_0000_0000_0000,
     0x1_05_01_1_00000000E0, // no shape: category 018, FSPEC E0 again
     0x05_0000_000002006A,
     0x28_FFFFFF_00_000000,
@@ -531,10 +708,10 @@ const SETS: Sets = [
     0x06_0103_0000000004,
     0x28_A8BFFF_00_000000,
     0x00F8_0000_0000_0000,
-    0x1_05_01_1_00000000E0, // no shape: category 018, FSPEC E0 again
-    0x05_0000_000002006A,
-    0x28_FFFFFF_00_000000,
-    0,
+    0x2_01_08_3_00001001FD, // category 061, FSPEC FD 01 10: type 0x23, 0x24, 0x25, 0x26, 0x27, 0x28, 0x2F
+    0x05_0103_000000FE00,
+    0x28_A8BFFF_00_000000,
+    0x0000_2000_0000_0000,
     0x1_0D_02_2_00000008F9, // category 018, FSPEC F9 08: type 0x42
     0x06_0000_0000400000,
     0x28_FFFFFF_00_000000,
@@ -555,9 +732,9 @@ const SETS: Sets = [
     0x05_0000_0000200800,
     0x28_FFFFFF_00_000000,
     0,
-    0x1_05_01_1_00000000E0, // no shape: category 018, FSPEC E0 again
-    0x05_0000_000002006A,
-    0x28_FFFFFF_00_000000,
+    0x2_00_05_1_00000000E8, // category 061, FSPEC E8: type 0x11, 0x12, 0x14, 0x15, 0x16, 0x27
+    0x03_0103_0000002076,
+    0x28_A8BFFF_00_000000,
     0,
     0x1_00_0B_3_00002801E9, // category 018, FSPEC E9 01 28: type 0x11
     0x07_0101_0000000100,
@@ -571,9 +748,9 @@ const SETS: Sets = [
     0x05_0000_0000000800,
     0x28_FFFFFF_00_000000,
     0,
-    0x1_05_01_1_00000000E0, // no shape: category 018, FSPEC E0 again
-    0x05_0000_000002006A,
-    0x28_FFFFFF_00_000000,
+    0x2_01_05_1_00000000EC, // category 061, FSPEC EC: type 0x11, 0x12, 0x14, 0x15, 0x16, 0x27
+    0x03_0103_0000002076,
+    0x28_A8BFFF_00_000000,
     0,
     0x1_05_01_1_00000000E0, // no shape: category 018, FSPEC E0 again
     0x05_0000_000002006A,

@@ -37,7 +37,8 @@ pub fn first_five(part: &[u8]) -> usize
 }
 
 // Where in the table a shape would stand. Adding 1 to the octets with every bit but FX set runs through those that have FX, so that the octets after the
-// FSPEC are left out; the factor was searched for: it gives no two shapes the same place. Any place would do: the shape is compared.
+// FSPEC are left out; the factor was searched for: it gives no two shapes of 017 and 018 the same place, and six of 061's another's. Any place would do: the
+// shape is compared.
 pub fn slot_of(five: usize, profile: usize) -> usize
     ensures { λ r. ⌜ r < shapeCount ⌝ }
 {

@@ -14,12 +14,12 @@ use Rattle.rules.specs.Block.{Block, writeBlock, readUpTo, readAll, readBlock, 
 use Rattle.rules.specs.Recording.{readRecording}
 use Rattle.rules.specs.Catalogue.{categories}
 use Rattle.rules.specs.Entry.{countRecords, Counts, checkRecording}
-use Rattle.rules.proofs.AnswerLaws.{refused-ok, ok-inj, bind-elim, bind-cong, need-elim, later-inv, Octets, Split, after}
+use Rattle.rules.proofs.AnswerLaws.{refused-ok, ok-inj, bind-elim, bind-cong, need-elim, later-inv, Octets, Split, after, octets-drop}
 use Rattle.rules.proofs.RecordLaws.{record-laws, record-starts}
 use Rattle.rules.proofs.BlockLaws.{block-laws, block-starts, HeadCame, head-forth}
 use Rattle.blocks.specs.Read.{Front, checkFront}
 use Rattle.blocks.proofs.InsideLaws.{Inside, bind-inside, ok-inside, upTo-inside, block-inside}
-use Rattle.blocks.proofs.LoopLaws.{later-zero, later-made, made-refused, octets-drop, Taken, taken, all-few, all-end, all-stop, all-turn}
+use Rattle.blocks.proofs.LoopLaws.{later-zero, later-made, made-refused, Taken, taken, all-few, all-end, all-stop, all-turn}
 
 -- ---- one block
 

@@ -14,7 +14,7 @@ use borrow.Author.Tests.{le-leb, lt-leb, leb-true, leb-false, ltb-true, eqb-true
 use lib.ListN.{length, take, drop, getD, length-append, length-drop, take-append-drop, List·getD-append}
 use lib.Seq.{length-take-le, getD-take, drop-at, take-append-le, drop-append-le}
 use Rattle.rules.specs.Answer.{Answer, ok, refused, _>>=_, need_or_then_, if_then_else_, expect_or_, later}
-use Rattle.rules.specs.Layout.{flatten}
+use Rattle.rules.specs.Chain.{flatten}
 use Rattle.rules.specs.Block.{Head, categoryOf}
 use Rattle.rules.specs.Catalogue.{categories}
 use Rattle.rules.specs.Entry.{Counts, checkRecording}

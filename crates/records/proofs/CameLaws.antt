@@ -2,28 +2,26 @@
 -- item. It is what the record map says.
 --
 -- In order: over places end to end; the place; the count; the starts; the message type. Assumes nothing.
-use Prim.Native.Nat.{ℕ, zero, suc, _+_, _-_, _*_, _/_, _%_, _≤_, _<_}
-use mathlib.Core.Path.{_≡_, refl, sym, ap, ap₂, _∙_, subst}
+use Prim.Native.Nat.{ℕ, zero, suc, _+_, _-_, _%_, _≤_, _<_}
+use mathlib.Core.Path.{_≡_, refl, sym, ap, ap₂, _∙_}
 use mathlib.Core.Bool.{true, false≢true}
 use mathlib.Core.Option.{Option, none, some}
 use mathlib.Core.List.{List, [], _∷_, _++_, map, append-assoc}
 use native.Mathlib.Omega.{arith}
 use native.Mathlib.Nat.{add-zero, mod-eq-of-lt}
 use borrow.Author.Tests.{eq-eqb, ne-eqb}
-use lib.IntN.{pos, negsuc}
 use lib.ListN.{length, getD, set, replicate, length-append}
 use lib.Seq.{set-at}
 use Rattle.rules.specs.Answer.{ok, octetsOf}
-use Rattle.rules.specs.Field.{put, pack}
-use Rattle.rules.specs.Layout.{Values, octets, writeNum, writeMany, writeParts, packAll, writeItem}
+use Rattle.rules.specs.Layout.{Values}
 use Rattle.rules.specs.Presence.{present}
 use Rattle.rules.specs.Record.{Place, typeOf, writePlace}
 use Rattle.rules.specs.Entry.{over, laid, startOf, countOf}
-use Rattle.rules.proofs.AnswerLaws.{refused-ok, ok-inj, bind-elim, need-elim, if-true, if-false, none-some, some-inj, octetsOf-ok}
+use Rattle.rules.proofs.AnswerLaws.{if-true, if-false, none-some, some-inj, octetsOf-ok}
 use Rattle.rules.proofs.EntryLaws.{itemOctets, Written}
 use Rattle.sets.specs.Sets.{within}
 use Rattle.sets.specs.Steps.{typeFrn}
-use Rattle.sets.proofs.ProfileLaws.{octet}
+use Rattle.sets.proofs.SpelledLaws.{spelling, spelled-type}
 use Rattle.records.specs.Walk.{Came, passed}
 
 -- the values at places, the first of which has the FRN f
@@ -155,60 +153,10 @@ written-at (none ∷ ps) (some u ∷ vs) (suc j) p v w h k = written-at ps vs j 
 written-at (some q ∷ ps) (none ∷ vs) (suc j) p v w h k = written-at ps vs j p v w h k
 written-at (some q ∷ ps) (some u ∷ vs) (suc j) p v w h k = written-at ps vs j p v (w .1) h k
 
--- an item of one octet holds the number that the octet is
-octet-type : (v : Values) (out : List ℕ) → writeItem octet v ≡ ok out → typeOf (some v) ≡ ok (getD out 0 0)
-unfolding writeItem packAll pack put writeParts writeMany writeNum octets typeOf
-octet-type [] out h = bind-elim _ _ h λ ns p h₁. need-elim _ _ _ p λ t q. absurd t
-octet-type ([] ∷ us) out h =
-    bind-elim _ _ h λ ns p h₁.
-    need-elim _ _ _ p λ t q.
-    bind-elim _ _ q λ m a b.
-    refused-ok a
-octet-type ((negsuc n ∷ xs) ∷ us) out h =
-    bind-elim _ _ h λ ns p h₁.
-    need-elim _ _ _ p λ t q.
-    bind-elim _ _ q λ m a b.
-    bind-elim _ _ a λ c d e.
-    refused-ok d
-octet-type ((pos n ∷ (x ∷ xs)) ∷ us) out h =
-    bind-elim _ _ h λ ns p h₁.
-    need-elim _ _ _ p λ t q.
-    bind-elim _ _ q λ m a b.
-    bind-elim _ _ a λ c d e.
-    need-elim _ _ _ e λ s g.
-    bind-elim _ _ g λ k y z.
-    refused-ok y
-octet-type ((pos n ∷ []) ∷ (u ∷ us)) out h =
-    bind-elim _ _ h λ ns p h₁.
-    need-elim _ _ _ p λ t q.
-    bind-elim _ _ q λ m a b.
-    bind-elim _ _ b λ ms x y.
-    refused-ok x
-octet-type ((pos n ∷ []) ∷ []) out h =
-    bind-elim _ _ h λ ns p h₁.
-    need-elim _ _ _ p λ t q.
-    bind-elim _ _ q λ m a b.
-    bind-elim _ _ a λ c d e.
-    need-elim _ _ _ d λ s₁ d₁.
-    need-elim _ _ _ d₁ λ s₂ d₂.
-    need-elim _ _ _ e λ s₃ g.
-    bind-elim _ _ g λ k y z.
-    bind-elim _ _ b λ ms x b₁.
-    need-elim _ _ _ h₁ λ s₄ h₂.
-    bind-elim _ _ (subst (λ l. writeMany 1 l ≡ ok out) (sym (ok-inj b₁) ∙ ap (λ l. m ∷ l) (sym (ok-inj x))) h₂) λ o f h₃.
-    need-elim _ _ _ f λ s₅ f₁.
-    bind-elim _ _ h₃ λ l r h₄.
-    let cn : n ≡ c = ok-inj d₂ in
-    let ck : 0 ≡ k = ok-inj y in
-    let cm : c * 1 + k ≡ m = ok-inj z in
-    let mn : n ≡ m / 1 = omega arith in
-    ap ok (mn ∙ ap (λ y. getD y 0 0) (ap₂ _++_ (ok-inj f₁) (ok-inj r) ∙ ok-inj h₄))
-
 -- the first octet of the message type item is the type
-pub kind-law : (i j : ℕ) (ps : List (Option Place)) (vs : List (Option Values)) (w : Came) (r : ℕ) (v : Values) → typeFrn i ≡ suc j → Written ps vs
-    → getD ps j none ≡ some (record { reference = r; layout = octet }) → getD vs j none ≡ some v → typeOf (some v) ≡ ok (comes i 1 ps vs w .kind)
+pub kind-law : (i j : ℕ) (ps : List (Option Place)) (vs : List (Option Values)) (w : Came) (p : Place) (v : Values) → typeFrn i ≡ suc j → Written ps vs → spelling (p .layout) ≡ true
+    → getD ps j none ≡ some p → getD vs j none ≡ some v → typeOf (some v) ≡ ok (comes i 1 ps vs w .kind)
 unfolding writePlace
-kind-law i j ps vs w r v t a h k =
-    let p : Place = record { reference = r; layout = octet } in
+kind-law i j ps vs w p v t a s h k =
     let (u, e) = written-at ps vs j p v a h k in
-    octet-type v u e ∙ ap ok (ap (λ l. getD l 0 0) (sym (octetsOf-ok e)) ∙ sym (kind-at i 1 j ps vs w p v (omega arith) h k))
+    spelled-type (p .layout) v u s e .type-is ∙ ap ok (ap (λ l. getD l 0 0) (sym (octetsOf-ok e)) ∙ sym (kind-at i 1 j ps vs w p v (omega arith) h k))

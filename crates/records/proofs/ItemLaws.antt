@@ -7,7 +7,7 @@ use mathlib.Core.List.{List, [], _∷_, _++_, map}
 use native.Mathlib.Omega.{arith}
 use lib.ListN.{length, length-append, length-map}
 use Rattle.rules.specs.Answer.{ok, refused, _>>=_}
-use Rattle.rules.specs.Layout.{flatten}
+use Rattle.rules.specs.Chain.{flatten}
 use Rattle.rules.specs.Presence.{flags, present, readRows, writeRows}
 use Rattle.rules.specs.Record.{Record, places, judge, readPlace, writePlace}
 use Rattle.rules.proofs.AnswerLaws.{bind-in, bind-out, later-in, later-out, Octets, Split}
@@ -80,5 +80,5 @@ module _ (i at : ℕ) (ts : List (List Bool)) (bs : List ℕ) (u : RowsUsable (c
     pub judged : (t : TypePlace i) → judge (categoryAt i) r ≡ (judgeSet i (bitsOf (flatten ts)) (cameTo i at r .kind) >>= (λ u. ok r))
     judged t =
         judge-law i r (cameTo i at r .kind) t stands few
-        (λ v e. kind-law i (t .index) (places (categoryAt i)) (flatten r) (startAt at) 0 v (t .frn) written (t .place) e)
+        (λ v e. kind-law i (t .index) (places (categoryAt i)) (flatten r) (startAt at) _ v (t .frn) written (t .spells) (t .place) e)
         ∙ ap (λ l. judgeSet i (bitsOf l) (cameTo i at r .kind) >>= (λ u. ok r)) flags-are

@@ -14,7 +14,7 @@ use lib.ListN.{length, getD, length-append}
 use mir.Syntax.{w8}
 use mir.Val.{Fits}
 use Rattle.rules.specs.Answer.{Answer, ok, refused, _>>=_, need_or_then_, later, octetsOf}
-use Rattle.rules.specs.Layout.{flatten}
+use Rattle.rules.specs.Chain.{flatten}
 use Rattle.rules.specs.Presence.{flags, writePresence, readRows, allUsable, setFlags}
 use Rattle.rules.specs.Record.{Record, judge, readPlace}
 use Rattle.rules.specs.Entry.{newRecord}

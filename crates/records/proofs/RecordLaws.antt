@@ -13,11 +13,11 @@ use lib.Seq.{drop-at}
 use mir.Syntax.{w8}
 use mir.Val.{Fits}
 use Rattle.rules.specs.Answer.{Answer, ok, refused, octetsOf}
-use Rattle.rules.specs.Layout.{flatten, readChain}
+use Rattle.rules.specs.Chain.{flatten, readChain}
 use Rattle.rules.specs.Presence.{flags, readPresence, readRows, readPlaces}
 use Rattle.rules.specs.Record.{Record, places, judge, readPlace, writeRecord, readRecord}
 use Rattle.rules.specs.Entry.{mapPlaces, RecordMap, mapOf, over, laid, startOf, countOf}
-use Rattle.rules.proofs.AnswerLaws.{refused-ok, ok-inj, bind-in, bind-out, bind-elim, later-in, later-out, later-inv, octetsOf-ok, Octets, Split, after}
+use Rattle.rules.proofs.AnswerLaws.{refused-ok, ok-inj, bind-in, bind-out, bind-elim, later-in, later-out, later-inv, octetsOf-ok, Octets, Split, after, to-end}
 use Rattle.rules.proofs.RecordLaws.{record-laws, record-starts}
 use Rattle.sets.specs.Sets.{categoryAt, bitsOf, setAt}
 use Rattle.sets.specs.Steps.{judgeSet}
@@ -28,7 +28,7 @@ use Rattle.sets.specs.declared.SetRead.the-variants as set
 use Rattle.sets.specs.declared.Judgement.{Judgement}
 use Rattle.sets.specs.declared.Judgement.the-variants as judgement
 use Rattle.sets.proofs.ProfileLaws.{places-few, TypePlace, type-place}
-use Rattle.sets.proofs.SetLaws.{octets-all, to-end}
+use Rattle.sets.proofs.SetLaws.{octets-all}
 use Rattle.sets.proofs.UsableLaws.{Fspec, fspec-read}
 use Rattle.records.specs.Walk.{Came, walk, startAt, recordBy}
 use Rattle.records.specs.Answers.{cameBy, cameOf, checkedNumber, checkedPlace, endOf, absent, mapIn, Walked, recordAt}

@@ -13,7 +13,8 @@ use lib.Dec.{T}
 use lib.ListN.{length, take, drop, getD, replicate, length-append}
 use lib.Seq.{take-at, drop-at, drop-drop, getD-drop}
 use Rattle.rules.specs.Answer.{Answer, ok, refused, _>>=_, later, octetsOf}
-use Rattle.rules.specs.Layout.{Values, flatten}
+use Rattle.rules.specs.Chain.{flatten}
+use Rattle.rules.specs.Layout.{Values}
 use Rattle.rules.specs.Presence.{flags, usable, readRow, readRows}
 use Rattle.rules.specs.Record.{Place, Record, places, readPlace, writePlace}
 use Rattle.rules.specs.Catalogue.{categories}

@@ -1,9 +1,9 @@
 -- The items of a set, walked one after the other as the code walks them.
 --
 -- In order: FRNs that are not there; the steps of the loop. Assumes nothing.
-use Prim.Native.Nat.{ℕ, zero, suc, _+_, _-_, _*_, _/_, _%_, _^_, _≤_, _<_}
-use mathlib.Core.Path.{_≡_, refl, sym, ap, ap₂, _∙_, subst}
-use mathlib.Core.Bool.{true, false}
+use Prim.Native.Nat.{ℕ, zero, suc, _+_, _-_, _%_, _^_, _≤_, _<_}
+use mathlib.Core.Path.{_≡_, refl, sym, ap, ap₂, _∙_}
+use mathlib.Core.Bool.{true}
 use mathlib.Core.List.{List, _∷_}
 use native.Mathlib.Omega.{arith}
 use native.Mathlib.Nat.{add-zero, zero-add, mod-eq-of-lt, sub-zero}
@@ -14,13 +14,12 @@ use borrow.Author.Tests.{lt-leb}
 use lib.ListN.{length, take, drop, getD, set, replicate, length-drop, length-set}
 use Rattle.rules.specs.Answer.{Answer, ok, refused, if_then_else_}
 use Rattle.rules.specs.Presence.{flags}
-use Rattle.rules.proofs.AnswerLaws.{bind-in, bind-out, later-in, later-out}
+use Rattle.rules.proofs.AnswerLaws.{bind-in, bind-out, later-in, later-out, to-end}
 use Rattle.rules.specs.Entry.{mapPlaces}
 use Rattle.items.specs.declared.ItemCheck.{ItemCheck}
 use Rattle.items.specs.declared.ItemCheck.the-variants as item
 use Rattle.items.specs.Answers.{checkAt, checkedOf}
 use Rattle.sets.specs.Steps.{typeFrn}
-use Rattle.sets.proofs.SetLaws.{to-end}
 use Rattle.sets.proofs.FlagLaws.{First, first, first-from, first-rest, first-flags}
 use Rattle.records.specs.Walk.{Came, passed, walk, startAt}
 use Rattle.records.specs.Answers.{itemNumber, itemPlace}

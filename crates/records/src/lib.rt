@@ -1,5 +1,5 @@
-// One record of categories 017 and 018: its items end to end, the record map, and a new record (document 01, "Block, record, item" and "Refusal
-// numbers and their order"). Profile 0 is category 017, edition 1.3; profile 1 is category 018, edition 1.6.
+// One record: its items end to end, the record map, and a new record (document 01, "Block, record, item" and "Refusal numbers and their order"). A
+// profile is a category by its index, as `sets` has them.
 use items::ItemCheck;
 use items::check_item;
 use quick_items::Steps;

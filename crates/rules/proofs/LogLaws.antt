@@ -10,7 +10,7 @@ use Rattle.rules.specs.Block.{Block, writeAll, writeBlock}
 use Rattle.rules.specs.Recording.{writeRecording, readRecording}
 use Rattle.rules.specs.Merge.{Head, headsOf, headsIn, blockHeads, accepted, unread, checkedAs, logOf}
 use Rattle.rules.proofs.AnswerLaws.{ok-inj, bind-elim, octetsOf-ok, Octets}
-use Rattle.rules.proofs.LayoutLaws.{num-length}
+use Rattle.rules.proofs.ChainLaws.{num-length}
 use Rattle.rules.proofs.RecordLaws.{record-laws, record-starts}
 use Rattle.rules.proofs.BlockLaws.{BlockParts, block-parts}
 use Rattle.rules.proofs.RecordingLaws.{recording-forth}

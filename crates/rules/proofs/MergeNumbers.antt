@@ -8,9 +8,11 @@ use mathlib.Core.List.{List, [], _∷_}
 use lib.IntN.{pos, negsuc}
 use Rattle.rules.specs.Answer.{_>>=_, need_or_then_, if_then_else_, expect_or_, later, octetsOf}
 use Rattle.rules.specs.Field.{put, get, pack, unpack}
-use Rattle.rules.specs.Layout.{octets, joined, readNum, writeNum, writeMany, readMany, writeChain, readChain, writeParts, readParts, packAll, unpackAll, readItem, writeItem}
+use Rattle.rules.specs.Chain.{octets, joined, readNum, writeNum, writeMany, readMany, writeChain, readChain}
+use Rattle.rules.specs.Format.{writeParts, readParts, packAll, unpackAll, readPlain, writePlain}
+use Rattle.rules.specs.Layout.{readItem, writeItem}
 use Rattle.rules.specs.Presence.{flags, number, usable, house, numbers, flagRows, writePresence, readPresence, writeRow, writeRows, writePlaces, readRow, readRows, readPlaces}
-use Rattle.rules.specs.Record.{valueOf, typeOf, messageOf, judge, writePlace, readPlace, writeRecord, readRecord}
+use Rattle.rules.specs.Record.{valueOf, spelled, typeOf, messageOf, judge, writePlace, readPlace, writeRecord, readRecord}
 use Rattle.rules.specs.Block.{categoryOf, readUpTo, readAll, readHead, readBody, readBlock}
 use Rattle.rules.specs.Catalogue.{categories}
 use Rattle.rules.specs.Block.{writeAll, writeBlock}
@@ -56,11 +58,11 @@ abbrev extraction : Head
 extraction = record { place = 23; size = 19; time = none }
 
 pub log-017 : logOf categories tracks ≡ accepted (track ∷ []) 31
-unfolding _>>=_ need_or_then_ if_then_else_ expect_or_ later octetsOf get unpack joined octets readNum writeNum writeMany readMany writeChain readChain writeParts readParts put pack packAll unpackAll readItem writeItem flags number usable house numbers flagRows readPresence writePresence readRow readRows readPlaces writeRow writeRows writePlaces valueOf typeOf messageOf judge readPlace writePlace readRecord writeRecord readUpTo readAll categoryOf readHead readBody readBlock categories writeAll writeBlock readRecording recordTime headsOf blockHeads logOf
+unfolding _>>=_ need_or_then_ if_then_else_ expect_or_ later octetsOf get unpack joined octets readNum writeNum writeMany readMany writeChain readChain writeParts readParts put pack packAll unpackAll readPlain writePlain readItem writeItem flags number usable house numbers flagRows readPresence writePresence readRow readRows readPlaces writeRow writeRows writePlaces valueOf spelled typeOf messageOf judge readPlace writePlace readRecord writeRecord readUpTo readAll categoryOf readHead readBody readBlock categories writeAll writeBlock readRecording recordTime headsOf blockHeads logOf
 log-017 = refl
 
 pub log-018 : logOf categories extractions ≡ accepted (response ∷ extraction ∷ []) 42
-unfolding _>>=_ need_or_then_ if_then_else_ expect_or_ later octetsOf get unpack joined octets readNum writeNum writeMany readMany writeChain readChain writeParts readParts put pack packAll unpackAll readItem writeItem flags number usable house numbers flagRows readPresence writePresence readRow readRows readPlaces writeRow writeRows writePlaces valueOf typeOf messageOf judge readPlace writePlace readRecord writeRecord readUpTo readAll categoryOf readHead readBody readBlock categories writeAll writeBlock readRecording recordTime headsOf blockHeads logOf
+unfolding _>>=_ need_or_then_ if_then_else_ expect_or_ later octetsOf get unpack joined octets readNum writeNum writeMany readMany writeChain readChain writeParts readParts put pack packAll unpackAll readPlain writePlain readItem writeItem flags number usable house numbers flagRows readPresence writePresence readRow readRows readPlaces writeRow writeRows writePlaces valueOf spelled typeOf messageOf judge readPlace writePlace readRecord writeRecord readUpTo readAll categoryOf readHead readBody readBlock categories writeAll writeBlock readRecording recordTime headsOf blockHeads logOf
 log-018 = refl
 
 -- equal times are A's; an offset of -1 turns them to B's; an untimed record goes before a timed one; at both ends; the offset before the place

@@ -8,9 +8,11 @@ use lib.Seq.{take-all}
 use lib.IntN.{pos, negsuc}
 use Rattle.rules.specs.Answer.{ok}
 use Rattle.rules.specs.Field.{value, unsigned, pack, put}
-use Rattle.rules.specs.Layout.{Values, item, joined, writeNum, readNum, writeMany, writeParts, packAll, writeItem}
+use Rattle.rules.specs.Chain.{joined, writeNum, readNum, writeMany}
+use Rattle.rules.specs.Format.{writeParts, packAll, writePlain}
+use Rattle.rules.specs.Layout.{Values, item, writeItem, inParts, inSubfields}
 use Rattle.rules.proofs.AnswerLaws.{refused-ok, ok-inj, bind-elim, need-elim}
-use Rattle.rules.proofs.LayoutLaws.{num-laws, num-length}
+use Rattle.rules.proofs.ChainLaws.{num-laws, num-length}
 
 -- a number of n octets
 num-joined : (n m : ℕ) (f : List ℕ) → writeNum n m ≡ ok f → joined f ≡ m
@@ -22,24 +24,25 @@ num-joined n m f h =
 
 -- a value that is one number, and its octets
 pub record IsNumber (n : ℕ) (v : Values) (out : List ℕ) : Type 0 where
-  pub value-is : v ≡ (pos (joined out) ∷ []) ∷ []
+  pub value-is : v ≡ inParts ((pos (joined out) ∷ []) ∷ [])
   pub size : length out ≡ n
 
 pub number-item : (n w lo hi : ℕ) (v : Values) (out : List ℕ) → writeItem (item n (value w (unsigned lo hi) ∷ [])) v ≡ ok out → IsNumber n v out
-unfolding writeItem packAll pack put writeParts writeMany
-number-item n w lo hi [] out h = bind-elim _ _ h λ ns p h₁. need-elim _ _ _ p λ t q. absurd t
-number-item n w lo hi ([] ∷ us) out h =
+unfolding writeItem writePlain packAll pack put writeParts writeMany
+number-item n w lo hi (inSubfields rs) out h = refused-ok h
+number-item n w lo hi (inParts []) out h = bind-elim _ _ h λ ns p h₁. need-elim _ _ _ p λ t q. absurd t
+number-item n w lo hi (inParts ([] ∷ us)) out h =
     bind-elim _ _ h λ ns p h₁.
     need-elim _ _ _ p λ t q.
     bind-elim _ _ q λ m a b.
     refused-ok a
-number-item n w lo hi ((negsuc x ∷ xs) ∷ us) out h =
+number-item n w lo hi (inParts ((negsuc x ∷ xs) ∷ us)) out h =
     bind-elim _ _ h λ ns p h₁.
     need-elim _ _ _ p λ t q.
     bind-elim _ _ q λ m a b.
     bind-elim _ _ a λ c d e.
     refused-ok d
-number-item n w lo hi ((pos x ∷ (y ∷ xs)) ∷ us) out h =
+number-item n w lo hi (inParts ((pos x ∷ (y ∷ xs)) ∷ us)) out h =
     bind-elim _ _ h λ ns p h₁.
     need-elim _ _ _ p λ t q.
     bind-elim _ _ q λ m a b.
@@ -47,13 +50,13 @@ number-item n w lo hi ((pos x ∷ (y ∷ xs)) ∷ us) out h =
     need-elim _ _ _ e λ s g.
     bind-elim _ _ g λ k y z.
     refused-ok y
-number-item n w lo hi ((pos x ∷ []) ∷ (u ∷ us)) out h =
+number-item n w lo hi (inParts ((pos x ∷ []) ∷ (u ∷ us))) out h =
     bind-elim _ _ h λ ns p h₁.
     need-elim _ _ _ p λ t q.
     bind-elim _ _ q λ m a b.
     bind-elim _ _ b λ ms x y.
     refused-ok x
-number-item n w lo hi ((pos x ∷ []) ∷ []) out h =
+number-item n w lo hi (inParts ((pos x ∷ []) ∷ [])) out h =
     bind-elim _ _ h λ ns p h₁.
     need-elim _ _ _ p λ t q.
     bind-elim _ _ q λ m a b.
@@ -72,6 +75,6 @@ number-item n w lo hi ((pos x ∷ []) ∷ []) out h =
     let mn : x ≡ m = omega arith in
     let j : f ≡ out = sym (append-nil f) ∙ ap (λ z. f ++ z) (ok-inj r₂) ∙ ok-inj h₄ in
     record {
-      value-is = ap (λ z. (pos z ∷ []) ∷ []) (mn ∙ sym (num-joined n m f r) ∙ ap joined j);
+      value-is = ap (λ z. inParts ((pos z ∷ []) ∷ [])) (mn ∙ sym (num-joined n m f r) ∙ ap joined j);
       size = ap length (sym j) ∙ num-length n m f r;
     }

@@ -11,12 +11,13 @@ use native.Mathlib.Nat.{add-assoc, add-zero, le-of-eq}
 use lib.Dec.{eqb}
 use lib.ListN.{length, getD, getElem?, length-append}
 use Rattle.rules.specs.Answer.{ok, octetsOf}
-use Rattle.rules.specs.Layout.{Values, flatten, octets}
+use Rattle.rules.specs.Chain.{flatten, octets}
+use Rattle.rules.specs.Layout.{Values}
 use Rattle.rules.specs.Record.{Place, Category, Record, places, named, writePlace, writeRecord}
 use Rattle.rules.specs.Legal.{bodyOf, blockOf, LastRow}
 use Rattle.rules.specs.Entry.{Laid, laid, laidItems, laidAs, Numbered, numbered, countOf}
 use Rattle.rules.proofs.AnswerLaws.{refused-ok, ok-inj, none-some, some-inj, if-inv, octetsOf-ok}
-use Rattle.rules.proofs.LayoutLaws.{octets-length}
+use Rattle.rules.proofs.ChainLaws.{octets-length}
 use Rattle.rules.proofs.EntryLaws.{itemOctets, RecordWritten, record-written}
 use Rattle.rules.proofs.LegalLaws.{Placed}
 

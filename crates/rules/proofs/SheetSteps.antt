@@ -18,7 +18,7 @@ use Rattle.rules.specs.declared.Shape.the-variants.{Whole, InLog}
 use Rattle.rules.specs.Mark.{bytes4, marksBytes, totals, ofLog}
 use Rattle.rules.specs.SheetForm.{Form, markFields, totalFields}
 use Rattle.rules.specs.Sheet.{Sheet, offsetCode, fieldBytes, heldBytes, fieldsBytes, sheetBytes, readField, readEdition, readOffset, readList, readTotal, readHeld, readFields, readSheet}
-use Rattle.rules.proofs.AnswerLaws.{ok-inj, bind-elim, need-elim, later-inv}
+use Rattle.rules.proofs.AnswerLaws.{ok-inj, bind-elim, bind-same, need-elim, later-inv}
 
 -- ---- the steps
 
@@ -73,11 +73,6 @@ unfolding sheetBytes stepBytes
 bytes-are s = ap (λ y. fieldBytes 1 (s .edition .byte ∷ []) ++ (fieldBytes 2 (bytes4 (offsetCode (s .offset))) ++ y)) (fields-are (s .edition .split) (s .edition .totals) (s .marks))
 
 -- ---- what is left is no more than was given
-
-bind-same : {A B : Type 0} (m : Answer A) (f g : A → Answer B) → ((a : A) → m ≡ ok a → f a ≡ g a) → (m >>= f) ≡ (m >>= g)
-unfolding _>>=_
-bind-same (ok a) f g h = h a refl
-bind-same (refused n p) f g h = refl
 
 field-leaves : (t : ℕ) (bs b rest : List ℕ) → readField t bs ≡ ok (b, rest) → length rest ≤ length bs
 unfolding readField

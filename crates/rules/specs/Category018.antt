@@ -7,7 +7,8 @@
 -- are several.
 use mathlib.Core.List.{[], _∷_}
 use Rattle.rules.specs.Field.{spare, any, within, twos}
-use Rattle.rules.specs.Layout.{Layout, led, extended, group, item, list}
+use Rattle.rules.specs.Format.{led, extended, group}
+use Rattle.rules.specs.Layout.{Layout, plain, item, list}
 use Rattle.rules.specs.Record.{Category, at, message}
 
 -- ---- 5.2, Description of Standard Data Items
@@ -58,7 +59,8 @@ i007 =
 -- 5.2.8   I018/008, Aircraft Data Link Status (D_Data_link_status): a first octet and one extent, bit 1 of each FX
 abbrev pub i008 : Layout
 i008 =
-    extended
+    plain
+    (extended
     (group 1
     (any 1  -- UDS
     ∷ any 1  -- DDS
@@ -71,12 +73,13 @@ i008 =
     (any 1  -- IC
     ∷ spare 6  -- bits 7/2
     ∷ [])
-    ∷ [])
+    ∷ []))
 
 -- 5.2.9   I018/009, Aircraft Data Link Report Request (D_Report_request): a first octet and one extent, bit 1 of each FX
 abbrev pub i009 : Layout
 i009 =
-    extended
+    plain
+    (extended
     (group 1
     (any 1  -- SR
     ∷ any 1  -- AR
@@ -94,7 +97,7 @@ i009 =
     ∷ any 1  -- HD
     ∷ spare 2  -- bits 3/2
     ∷ [])
-    ∷ [])
+    ∷ []))
 
 -- 5.2.10  I018/010, Transponder Communications Capability (D_COM)
 abbrev pub i010 : Layout
@@ -156,7 +159,7 @@ i018 =
 -- 5.2.19  I018/019, Mode S Packet (D_Mode_S_packet): the section is missing; Table 9 has "3+", three octets or more with the length octet, which counts
 -- itself: `led 2`, two octets of contents or more
 abbrev pub i019 : Layout
-i019 = led 2
+i019 = plain (led 2)
 
 -- 5.2.20  I018/020, Broadcast Number (D_Broadcast_number)
 abbrev pub i020 : Layout

@@ -10,7 +10,7 @@ use lib.Dec.{leb, eqb}
 use lib.ListN.{length}
 use lib.IntN.{ℤ, pos, negsuc, _+ℤ_, _-ℤ_}
 use Rattle.rules.specs.Answer.{Answer, ok, refused, if_then_else_, octetsOf}
-use Rattle.rules.specs.Layout.{Values}
+use Rattle.rules.specs.Layout.{Values, inParts, inSubfields}
 use Rattle.rules.specs.Presence.{has}
 use Rattle.rules.specs.Record.{Category, Record, items, valueOf, typeOf, writeRecord}
 use Rattle.rules.specs.Block.{Block, categoryOf, writeBlock}
@@ -38,15 +38,17 @@ abbrev pub inRange : ℤ → Bool
 inRange (pos n) = leb n 46_080
 inRange (negsuc n) = leb n 46_079
 
--- ---- a record's time: "Times are I017/140 and I018/002; a GICB_extraction's is a request's end (5.2.3), so it counts as untimed" (the categories' rows)
+-- ---- a record's time: "Times are I017/140 and I018/002; a GICB_extraction's is a request's end (5.2.3), so it counts as untimed"; "I061/020 .. is its
+-- record's time" (W-205); the categories' rows have them
 
 -- the number in an item of one field
 abbrev pub numberIn : Option Values → Option ℕ
 numberIn none = none
-numberIn (some []) = none
-numberIn (some ([] ∷ ps)) = none
-numberIn (some ((pos n ∷ vs) ∷ ps)) = some n
-numberIn (some ((negsuc n ∷ vs) ∷ ps)) = none
+numberIn (some (inParts [])) = none
+numberIn (some (inParts ([] ∷ ps))) = none
+numberIn (some (inParts ((pos n ∷ vs) ∷ ps))) = some n
+numberIn (some (inParts ((negsuc n ∷ vs) ∷ ps))) = none
+numberIn (some (inSubfields rs)) = none
 
 abbrev pub isOneOf : Answer ℕ → List ℕ → Bool
 isOneOf (ok t) ts = has t ts

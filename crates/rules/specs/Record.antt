@@ -1,13 +1,14 @@
 -- A category (its profile and its message types, as its document prints them) and a record of it: the FSPEC, then the items in rising FRN
 -- (document 01, "Block, record, item"; sections 5.3.1 and 5.3.2 of each category document). Assumes nothing.
-use Prim.Native.Nat.{ℕ}
+use Prim.Native.Nat.{ℕ, _+_, _*_}
 use mathlib.Core.Bool.{Bool, true, _&&_}
 use mathlib.Core.Option.{Option, none, some}
 use mathlib.Core.List.{List, [], _∷_, _++_}
 use lib.Dec.{eqb}
-use lib.IntN.{pos, negsuc}
+use lib.IntN.{ℤ, pos, negsuc}
 use Rattle.rules.specs.Answer.{Answer, ok, refused, _>>=_, need_or_then_, if_then_else_, Read, Write}
-use Rattle.rules.specs.Layout.{Layout, Values, flatten, readItem, writeItem}
+use Rattle.rules.specs.Chain.{flatten}
+use Rattle.rules.specs.Layout.{Layout, Values, inParts, inSubfields, readItem, writeItem}
 use Rattle.rules.specs.Presence.{has, writePlaces, readPlaces}
 
 -- what the profile has at an FRN: the number after the slash of the item's reference, and its layout
@@ -74,13 +75,17 @@ allIn (x ∷ xs) ys = has x ys && allIn xs ys
 
 -- ---- what the message type asks for
 
--- the message type item is I0nn/000 in every category; its first field is the type
+-- the number that fields spell: the first, and each after it four bits wide (the family and nature of I061/000)
+unfoldable pub spelled : ℕ → List ℤ → Answer ℕ
+spelled t [] = ok t
+spelled t (pos n ∷ vs) = spelled (t * 16 + n) vs
+spelled t (negsuc n ∷ vs) = refused 13 0
+
+-- the message type item is I0nn/000 in every category; its fields spell the type
 unfoldable pub typeOf : Option Values → Answer ℕ
 typeOf none = refused 12 0
-typeOf (some []) = refused 13 0
-typeOf (some ([] ∷ ps)) = refused 13 0
-typeOf (some ((pos n ∷ vs) ∷ ps)) = ok n
-typeOf (some ((negsuc n ∷ vs) ∷ ps)) = refused 13 0
+typeOf (some (inParts vs)) = spelled 0 (flatten vs)
+typeOf (some (inSubfields rs)) = refused 13 0
 
 unfoldable pub messageOf : ℕ → List Message → Answer Message
 messageOf t [] = refused 13 0

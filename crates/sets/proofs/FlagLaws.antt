@@ -13,7 +13,7 @@ use lib.Pow.{pow-pos, pow-mono, pow-add, split, high, field, mod-mod-pow}
 use lib.Dec.{leb, eqb}
 use lib.Bits.{bitAnd, and-zero-l, and-le-r, and-block}
 use borrow.Author.Tests.{le-leb, lt-leb, leb-true, leb-false, eq-eqb, ne-eqb, eqb-true, eqb-false}
-use lib.ListN.{length, getD, set, replicate, length-append, length-set}
+use lib.ListN.{length, getD, set, replicate, length-set}
 use lib.Seq.{set-getD}
 use Rattle.rules.specs.Presence.{flags, number}
 use Rattle.rules.specs.Entry.{over}
@@ -22,12 +22,6 @@ use Rattle.rules.proofs.PresenceLaws.{flags-length, number-lt, flags-number, nu
 use Rattle.sets.specs.Sets.{bitsOf, within}
 
 -- ---- flags end to end
-
-pub number-append : (ts us : List Bool) → number (ts ++ us) ≡ number ts * 2 ^ length us + number us
-unfolding number
-number-append [] us = omega arith
-number-append (true ∷ ts) us = rw (number-append ts us, length-append ts us, pow-add 2 (length ts) (length us)) (omega arith)
-number-append (false ∷ ts) us = number-append ts us
 
 pub number-none : (n : ℕ) → number (replicate n false) ≡ 0
 unfolding number

@@ -15,7 +15,7 @@ use borrow.Author.Tests.{lt-ltb, eq-eqb, ne-eqb, eqb-true, eqb-false, lt-leb, le
 use lib.ListN.{length, take, drop, getD, replicate, length-append, length-drop, length-map, length-replicate, take-append-drop, replicate-append-replicate, List·getD-eq-default}
 use lib.Seq.{drop-cons, drop-drop, length-take-le, take-at, drop-at}
 use Rattle.rules.specs.Answer.{ok, octetsOf}
-use Rattle.rules.specs.Layout.{flatten, octets, writeNum, writeChain}
+use Rattle.rules.specs.Chain.{flatten, octets, writeNum, writeChain}
 use Rattle.rules.specs.Presence.{flags, number, present, usable, house, numbers, writePresence, has, allUsable, rowFlags, anySet, keepRow, setFlags}
 use Rattle.rules.specs.Record.{Place, places}
 use Rattle.rules.specs.Entry.{over}

@@ -14,12 +14,13 @@ use lib.Dec.{eqb}
 use borrow.Author.Tests.{eqb-true, eq-eqb, ne-eqb, not-true, not-false}
 use lib.ListN.{length, getD, replicate, List·getD-map, length-map}
 use Rattle.rules.specs.Answer.{Answer, ok, refused, _>>=_, need_or_then_, if_then_else_}
-use Rattle.rules.specs.Layout.{Values, flatten}
+use Rattle.rules.specs.Chain.{flatten}
+use Rattle.rules.specs.Layout.{Values}
 use Rattle.rules.specs.Presence.{flags, present, has}
 use Rattle.rules.specs.Record.{Place, Message, Category, Record, places, named, items, references, valueOf, allIn, typeOf, messageOf, judge}
 use Rattle.rules.specs.Catalogue.{categories}
 use Rattle.rules.specs.Entry.{over, isItem}
-use Rattle.rules.proofs.AnswerLaws.{ok-inj, bind-in, bind-out, bind-assoc, need-bind, need-in, if-inv, if-true, if-false, some-inj, none-some, both-left, both-right, or-left, or-right, or-cases, refused-ok}
+use Rattle.rules.proofs.AnswerLaws.{ok-inj, bind-in, bind-out, bind-assoc, need-bind, need-in, if-inv, if-true, if-false, some-inj, none-some, both-left, both-right, or-left, or-right, or-cases, refused-ok, bind-same}
 use Rattle.rules.proofs.Tables.{distinct, everyCategory}
 use Rattle.tables.specs.Tables.{profileCount}
 use Rattle.tables.proofs.MatchLaws.{NoneOf, none-of}
@@ -28,7 +29,6 @@ use Rattle.sets.specs.Sets.{categoryIn, categoryAt, bitsOf, within}
 use Rattle.sets.specs.Steps.{typeFrn, marks, markBits, rowAt, judgeRow, judgeSet}
 use Rattle.sets.proofs.FlagLaws.{bits-flags, within-pad}
 use Rattle.sets.proofs.ProfileLaws.{category-test, places-few, places-distinct, TypePlace}
-use Rattle.sets.proofs.SetLaws.{bind-same}
 
 -- ---- rows of message types
 

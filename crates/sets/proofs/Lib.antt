@@ -1,3 +1,4 @@
+pub mod SpelledLaws
 pub mod FlagLaws
 pub mod ProfileLaws
 pub mod SetLaws

@@ -1,7 +1,7 @@
 -- What holds of the category with any index, by computed tests over the rules' categories: its profile, row by row and place by place; the place
 -- of its message type item. Assumes nothing.
 use Prim.Native.Nat.{ℕ, suc, _-_, _≤_, _<_}
-use mathlib.Core.Path.{_≡_, refl, ap, ap₂, _∙_}
+use mathlib.Core.Path.{_≡_, refl, ap}
 use mathlib.Core.Logic.{_⊎_, inl, inr, ⊎-elim}
 use mathlib.Core.Bool.{Bool, true, false, _&&_, _||_, false≢true}
 use mathlib.Core.List.{List, [], _∷_}
@@ -11,8 +11,7 @@ use lib.Dec.{leb, ltb, eqb}
 use borrow.Author.Tests.{leb-true, ltb-true, eqb-true}
 use lib.ListN.{length, getD}
 use Rattle.rules.specs.Answer.{if_then_else_}
-use Rattle.rules.specs.Field.{Field, spare, value, unsigned, signed, any}
-use Rattle.rules.specs.Layout.{Layout, fixed, repeated, led, extended, group, item}
+use Rattle.rules.specs.Layout.{Layout}
 use Rattle.rules.specs.Record.{Place, Category, places, at}
 use Rattle.rules.specs.Catalogue.{categories}
 use Rattle.rules.proofs.AnswerLaws.{both-left, both-right, or-cases}
@@ -23,6 +22,7 @@ use Rattle.tables.specs.Profiles.{frnIn}
 pub use Rattle.tables.proofs.ProfileLaws.{category-test, profile-at}
 use Rattle.sets.specs.Sets.{categoryAt}
 use Rattle.sets.specs.Steps.{typeFrn}
+use Rattle.sets.proofs.SpelledLaws.{spelling}
 
 -- ---- its profile
 
@@ -56,58 +56,26 @@ places-distinct i = category-sound i .references
 
 -- ---- the message type item
 
--- one octet, any bits
-abbrev pub octet : Layout
-octet = item 1 (any 8 ∷ [])
-
--- it is an octet, at a place of the profile
+-- it is an octet whose fields spell the type, at a place of the profile
 pub record TypePlace (i : ℕ) : Type 0 where
   pub index : ℕ
   pub frn : typeFrn i ≡ suc index
-  pub place : getD (places (categoryAt i)) index none ≡ at 0 octet
+  pub layout : Layout
+  pub spells : spelling layout ≡ true
+  pub place : getD (places (categoryAt i)) index none ≡ at 0 layout
 
 -- by one test over the tables: the first item with reference 000 is such an octet
-abbrev octetFields : List Field → Bool
-octetFields [] = false
-octetFields (spare w ∷ fs) = false
-octetFields (value w (signed lo hi) ∷ fs) = false
-octetFields (value w (unsigned lo hi) ∷ (f ∷ fs)) = false
-octetFields (value w (unsigned lo hi) ∷ []) = eqb w 8 && (eqb lo 0 && eqb hi 255)
+abbrev typePlace : Option Place → Bool
+typePlace none = false
+typePlace (some p) = eqb (p .reference) 0 && spelling (p .layout)
 
-abbrev octetLayout : Layout → Bool
-octetLayout (fixed g) = eqb (g .size) 1 && octetFields (g .fields)
-octetLayout (repeated lo hi g) = false
-octetLayout (led lo) = false
-octetLayout (extended gs) = false
-
-abbrev octetPlace : Option Place → Bool
-octetPlace none = false
-octetPlace (some p) = eqb (p .reference) 0 && octetLayout (p .layout)
-
-fields-are : (fs : List Field) → octetFields fs ≡ true → fs ≡ any 8 ∷ []
-fields-are [] h = absurd (false≢true h)
-fields-are (spare w ∷ fs) h = absurd (false≢true h)
-fields-are (value w (signed lo hi) ∷ fs) h = absurd (false≢true h)
-fields-are (value w (unsigned lo hi) ∷ (f ∷ fs)) h = absurd (false≢true h)
-fields-are (value w (unsigned lo hi) ∷ []) h =
-    let r : eqb lo 0 && eqb hi 255 ≡ true = both-right (eqb w 8) _ h in
-    ap (λ n. value n (unsigned lo hi) ∷ []) (eqb-true w 8 (both-left (eqb w 8) _ h))
-    ∙ ap₂ (λ a b. value 8 (unsigned a b) ∷ []) (eqb-true lo 0 (both-left (eqb lo 0) (eqb hi 255) r)) (eqb-true hi 255 (both-right (eqb lo 0) (eqb hi 255) r))
-
-layout-is : (l : Layout) → octetLayout l ≡ true → l ≡ octet
-layout-is (fixed g) h =
-    ap₂ (λ n fs. fixed (group n fs)) (eqb-true (g .size) 1 (both-left (eqb (g .size) 1) _ h)) (fields-are (g .fields) (both-right (eqb (g .size) 1) _ h))
-layout-is (repeated lo hi g) h = absurd (false≢true h)
-layout-is (led lo) h = absurd (false≢true h)
-layout-is (extended gs) h = absurd (false≢true h)
-
-place-is : (o : Option Place) → octetPlace o ≡ true → o ≡ at 0 octet
+place-is : (o : Option Place) → typePlace o ≡ true → (l : Layout) × (spelling l ≡ true) × (o ≡ at 0 l)
 place-is none h = absurd (false≢true h)
 place-is (some p) h =
-    ap₂ at (eqb-true (p .reference) 0 (both-left (eqb (p .reference) 0) _ h)) (layout-is (p .layout) (both-right (eqb (p .reference) 0) _ h))
+    (p .layout, both-right (eqb (p .reference) 0) _ h, ap (λ r. at r (p .layout)) (eqb-true (p .reference) 0 (both-left (eqb (p .reference) 0) _ h)))
 
 abbrev typed : Category → Bool
-typed c = eqb (length (c .profile)) 0 || (ltb 0 (frnIn 0 c) && octetPlace (getD (places c) (frnIn 0 c - 1) none))
+typed c = eqb (length (c .profile)) 0 || (ltb 0 (frnIn 0 c) && typePlace (getD (places c) (frnIn 0 c - 1) none))
 
 tables-typed : everyCategory typed categories ≡ true
 unfolding categories frnAs if_then_else_
@@ -124,9 +92,6 @@ type-place i =
     (λ h. inl (no-rows (categoryAt i .profile) (eqb-true _ 0 h)))
     (λ h.
     let some : 0 < frnIn 0 (categoryAt i) = ltb-true 0 _ (both-left (ltb 0 (frnIn 0 (categoryAt i))) _ h) in
-    inr (record {
-      index = frnIn 0 (categoryAt i) - 1;
-      frn = omega arith;
-      place = place-is _ (both-right (ltb 0 (frnIn 0 (categoryAt i))) _ h);
-    }))
+    let (l, spells, place) = place-is _ (both-right (ltb 0 (frnIn 0 (categoryAt i))) _ h) in
+    inr (record { index = frnIn 0 (categoryAt i) - 1; frn = omega arith; layout = l; spells = spells; place = place }))
     (or-cases (eqb (length (categoryAt i .profile)) 0) _ (category-test typed tables-typed refl i))

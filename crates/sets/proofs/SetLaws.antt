@@ -12,28 +12,19 @@ use native.Mathlib.Nat.{mul-le-mul-right, sub-zero}
 use lib.Pow.{pow-add}
 use lib.Dec.{eqb}
 use borrow.Author.Tests.{le-leb, lt-ltb, eqb-true, eq-eqb, ne-eqb, not-true, not-false}
-use lib.ListN.{length, take, drop, getD, replicate, length-append, length-map, length-drop, length-replicate}
-use lib.Seq.{take-all}
+use lib.ListN.{length, take, drop, getD, replicate, length-append, length-map, length-replicate}
 use mir.Syntax.{w8}
 use mir.Val.{Fits}
 use Rattle.rules.specs.Answer.{Answer, ok, refused, _>>=_, need_or_then_, if_then_else_}
-use Rattle.rules.specs.Layout.{flatten, joined, readNum, readChain}
+use Rattle.rules.specs.Chain.{flatten, joined, readNum, readChain}
 use Rattle.rules.specs.Presence.{flags, number, present, usable, house, flagRows, readPresence}
 use Rattle.rules.specs.Record.{Place, places}
-use Rattle.rules.proofs.AnswerLaws.{refused-ok, ok-inj, bind-in, bind-elim, bind-assoc, if-inv, if-true, if-false, both-left, both-right, Octets}
-use Rattle.rules.proofs.PresenceLaws.{flags-length, number-flags}
+use Rattle.rules.proofs.AnswerLaws.{refused-ok, ok-inj, bind-in, bind-elim, bind-assoc, if-inv, if-true, if-false, both-left, both-right, Octets, bind-same, to-end}
+use Rattle.rules.proofs.PresenceLaws.{flags-length, number-flags, number-append}
 use Rattle.sets.specs.Sets.{categoryAt, bitsOf, within, setAt}
 use Rattle.sets.specs.Steps.{usableBits, ended, setFrom}
-use Rattle.sets.proofs.FlagLaws.{number-append, number-none, over-pad, bits-flags, bits-tail, within-pad, within-append}
+use Rattle.sets.proofs.FlagLaws.{number-none, over-pad, bits-flags, bits-tail, within-pad, within-append}
 use Rattle.sets.proofs.ProfileLaws.{sevens, profile-sevens, profile-short, places-few}
-
--- ---- binds
-
--- two ways on agree where there is a way on
-pub bind-same : {A B : Type 0} (m : Answer A) (f g : A → Answer B) → ((a : A) → m ≡ ok a → f a ≡ g a) → (m >>= f) ≡ (m >>= g)
-unfolding _>>=_
-bind-same (ok a) f g h = h a refl
-bind-same (refused n p) f g h = refl
 
 -- what a slice of octets holds
 pub octets-all : (bs : List ℕ) → ((k : ℕ) → Fits w8 (getD bs k 0)) → Octets bs
@@ -264,10 +255,6 @@ set-cons : (i l : ℕ) (bs : List ℕ) (bits used : ℕ) → (length bs ≡ 0 �
 unfolding setFrom
 set-cons i l [] bits used h = absurd (h refl)
 set-cons i l (x ∷ bs) bits used h = refl
-
--- the part from a on, as the rule for `&s[a..]` has it
-pub to-end : {A : Type 0} (xs : List A) (a : ℕ) → take (length xs - a) (drop a xs) ≡ drop a xs
-to-end xs a = take-all (length xs - a) (drop a xs) (rw length-drop (omega arith))
 
 pub set-begin : (i most : ℕ) (bs : List ℕ) → most ≡ length (categoryAt i .profile) → Octets bs → setFrom i (most - 0) bs 0 0 ≡ setAt i bs
 set-begin i most bs e o = ap (λ l. setFrom i l bs 0 0) (sub-zero most ∙ e) ∙ set-law i bs o

@@ -11,7 +11,7 @@ use lib.Dec.{T}
 use lib.ListN.{length, drop, length-append, length-map}
 use lib.Seq.{drop-at}
 use Rattle.rules.specs.Answer.{ok}
-use Rattle.rules.specs.Layout.{flatten}
+use Rattle.rules.specs.Chain.{flatten}
 use Rattle.rules.specs.Presence.{present, usable, numbers, writePresence, readPresence}
 use Rattle.rules.specs.Record.{Place}
 use Rattle.rules.proofs.AnswerLaws.{refused-ok, ok-inj, bind-elim, need-elim, Octets, Split, after}

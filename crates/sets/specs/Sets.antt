@@ -5,7 +5,7 @@ use mathlib.Core.Bool.{Bool, true, false, _&&_}
 use mathlib.Core.List.{List, [], _∷_}
 use lib.ListN.{length}
 use Rattle.rules.specs.Answer.{Answer, ok, _>>=_, need_or_then_, octetsOf}
-use Rattle.rules.specs.Layout.{flatten}
+use Rattle.rules.specs.Chain.{flatten}
 use Rattle.rules.specs.Presence.{flags, writePresence, readPresence, allUsable, setFlags}
 pub use Rattle.tables.specs.Profiles.{categoryIn}
 unfoldable pub use Rattle.tables.specs.Profiles.{categoryAt, bitsOf}

@@ -1,5 +1,5 @@
 // The set of a record's items: the FSPEC that names them, read and laid down, and the row of a message type, which tells what a record of it has
-// (document 01, "Block, record, item"). Profile 0 is category 017, edition 1.3; profile 1 is category 018, edition 1.6.
+// (document 01, "Block, record, item"). A profile is a category by its index: 0 is 017, edition 1.3; 1 is 018, edition 1.6; 2 is 061, edition 1.2.
 mod messages;
 
 use messages::MessageRow;
@@ -206,7 +206,7 @@ pub fn fspec_octet(profile: usize, set: ItemSet, place: usize) -> u8
 
 // ---- what the message type asks for
 
-// The FRN of the message type item, I017/000 or I018/000.
+// The FRN of the message type item, I0nn/000.
 pub fn type_frn(profile: usize) -> usize
     ensures { λ r. ⌜ r ≡ typeFrn profile ⌝ }
 {

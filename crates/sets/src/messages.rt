@@ -1,4 +1,5 @@
-// The items that each message type must have, may have and does not send: Table 3 of category 017 (5.3.2) and the table of 5.3.2 of category 018.
+// The items that each message type must have, may have and does not send: Table 3 of category 017 (5.3.2), the table of 5.3.2 of category 018 and
+// Table 2 of category 061 (5.2.1).
 // A number of 64 bits is a set of FRNs: FRN f is bit 63 - f.
 use tables::PROFILES;
 ghost use mathlib.Core.Path.{_≡_};
@@ -59,6 +60,22 @@ pub fn row_of(profile: usize, kind: u8) -> MessageRow
         0x1_41 => MessageRow::Known(0x7400_0000_0000_0000, 0x7408_0000_0000_0000), // Cancel_GICB_extraction
         0x1_42 => MessageRow::Known(0x7C00_0000_0000_0000, 0x7C08_0000_0000_0000), // GICB_extraction_ack
         0x1_43 => MessageRow::Known(0x7C0D_0000_0000_0000, 0x7C0F_0000_0000_0000), // GICB_response
+        // category 061
+        0x2_11 => MessageRow::Known(0x7400_0000_0000_0000, 0x7600_0000_0000_0000), // Request for Connection
+        0x2_12 => MessageRow::Known(0x7400_0000_0000_0000, 0x7608_0000_0000_0000), // Request for Disconnection
+        0x2_13 => MessageRow::Known(0x7500_0000_0000_0000, 0x7700_0000_0000_0000), // Connection Acknowledgement
+        0x2_14 => MessageRow::Known(0x7400_0000_0000_0000, 0x7608_0000_0000_0000), // Connection Rejection
+        0x2_15 => MessageRow::Known(0x7400_0000_0000_0000, 0x7608_0000_0000_0000), // Disconnection Acknowledgement
+        0x2_16 => MessageRow::Known(0x7400_0000_0000_0000, 0x7608_0000_0000_0000), // Disconnection Rejection
+        0x2_21 => MessageRow::Known(0x7400_0000_0000_0000, 0x7EF7_DE00_0000_0000), // Service Definition Request
+        0x2_22 => MessageRow::Known(0x7C00_0000_0000_0000, 0x7EF7_DE00_0000_0000), // Service Modification Request
+        0x2_23 => MessageRow::Known(0x7C00_0000_0000_0000, 0x7E00_2000_0000_0000), // Service Suspension Request
+        0x2_24 => MessageRow::Known(0x7C00_0000_0000_0000, 0x7E00_2000_0000_0000), // Service Resumption Request
+        0x2_25 => MessageRow::Known(0x7C00_0000_0000_0000, 0x7E00_2000_0000_0000), // Service Termination Request
+        0x2_26 => MessageRow::Known(0x7C00_0000_0000_0000, 0x7E00_2000_0000_0000), // Service Acknowledgement
+        0x2_27 => MessageRow::Known(0x7400_0000_0000_0000, 0x7E00_2000_0000_0000), // Service Rejection
+        0x2_28 => MessageRow::Known(0x7C00_0000_0000_0000, 0x7E00_2000_0000_0000), // Service Report
+        0x2_2F => MessageRow::Known(0x7C00_2000_0000_0000, 0x7E00_2000_0000_0000), // End of Batch
         // ---- end of what is made
         _ => MessageRow::Unknown,
     }

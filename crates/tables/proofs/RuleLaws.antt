@@ -6,12 +6,12 @@ use mathlib.Core.Path.{_≡_, refl, sym, ap, _∙_, subst}
 use mathlib.Core.Bool.{Bool, true, false, _&&_}
 use mathlib.Core.List.{List, [], _∷_, map}
 use native.Mathlib.Omega.{arith}
-use native.Mathlib.Nat.{add-zero, le-of-suc-le-suc, not-suc-le-zero, zero-add}
+use native.Mathlib.Nat.{add-zero, mod-add-mod, mod-lt, le-of-suc-le-suc, not-suc-le-zero, zero-add}
 use native.Mathlib.Numerals.{add-one}
 use lib.Dec.{leb, ltb}
 use lib.ListN.{length, getD, take, List·getD-map, drop-of-length-le}
 use lib.Seq.{slice, slice-cons, length-take-le}
-use lib.Pow.{shr-le}
+use lib.Pow.{pow-pos, pow-mono}
 use borrow.Author.Tests.{leb-true, ltb-true}
 use Rattle.rules.specs.Field.{Field, spare, value, unsigned, signed, half}
 use Rattle.rules.specs.Catalogue.{categories}
@@ -56,27 +56,29 @@ columns i h =
       added-small = ltb-true _ _ (each (λ r. ltb (r .added) (2 ^ 32)) rules no-rule refl i h);
     }
 
--- the sum fits
-pub sum-fits : (i n w a : ℕ) → i < ruleCount → n < 2 ^ 56 → w ≡ getD ruleWords i 0 → a ≡ getD addedTo i 0 → n / 2 ^ (w / 100) + a < 2 ^ 64
-sum-fits i n w a h k ew ea =
-    let c : Columns i = columns i h in
-    let s : n / 2 ^ (w / 100) ≤ n = shr-le n (w / 100) in
-    omega (arith, c .added, c .added-small)
-
 pub shift-fits : (i w : ℕ) → i < ruleCount → w ≡ getD ruleWords i 0 → w / 100 < 64
 shift-fits i w h e = subst (λ x. x / 100 < 64) (sym e) (subst (λ x. x < 64) (sym (columns i h .shift)) (columns i h .shift-few))
 
 pub width-fits : (i w : ℕ) → i < ruleCount → w ≡ getD ruleWords i 0 → w % 100 < 64
 width-fits i w h e = subst (λ x. x % 100 < 64) (sym e) (subst (λ x. x < 64) (sym (columns i h .width)) (columns i h .width-few))
 
+-- the sum fits: the code is of less than 64 bits
+pub sum-fits : (i n w a p : ℕ) → i < ruleCount → w ≡ getD ruleWords i 0 → a ≡ getD addedTo i 0 → p ≡ 2 ^ (w % 100) → n % p + a < 2 ^ 64
+sum-fits i n w a p h ew ea ep =
+    let c : Columns i = columns i h in
+    let k : w % 100 ≤ 63 = omega (arith, width-fits i w h ew) in
+    let m : 2 ^ (w % 100) ≤ 2 ^ 63 = pow-mono k in
+    let s : n % p < p = mod-lt n (subst (λ x. 0 < x) (sym ep) (pow-pos (w % 100))) in
+    omega (arith, c .added, c .added-small)
+
 pub obeyed : (i n w a m p : ℕ) → i < ruleCount → w ≡ getD ruleWords i 0 → a ≡ getD addedTo i 0 → m ≡ getD limits i 0 → p ≡ 2 ^ (w % 100)
-    → leb ((n / 2 ^ (w / 100) + a) % p) m ≡ obeys (ruleAt i) n
+    → leb ((n / 2 ^ (w / 100) % p + a) % p) m ≡ obeys (ruleAt i) n
 unfolding obeys
 obeyed i n w a m p h ew ea em ep =
     let c : Columns i = columns i h in
     let s : w / 100 ≡ ruleAt i .shift = ap (λ x. x / 100) ew ∙ c .shift in
     let t : w % 100 ≡ ruleAt i .width = ap (λ x. x % 100) ew ∙ c .width in
-    rw (ep, s, t, ea, em, c .added, c .limit)
+    rw (mod-add-mod (n / 2 ^ (w / 100)) p a, ep, s, t, ea, em, c .added, c .limit)
 
 -- ---- tests
 

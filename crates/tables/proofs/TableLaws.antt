@@ -4,9 +4,9 @@
 use Prim.Native.Nat.{ℕ, zero, suc, _+_, _*_, _/_, _%_, _≤_, _<_}
 use mathlib.Core.Path.{_≡_, refl, sym, ap, _∙_}
 use mathlib.Core.Logic.{⊎-elim}
-use mathlib.Core.Bool.{Bool, true, false, _&&_}
+use mathlib.Core.Bool.{Bool, true, _&&_}
 use mathlib.Core.Option.{Option, none}
-use mathlib.Core.List.{List, [], _∷_, _++_, map}
+use mathlib.Core.List.{List, [], _∷_, map}
 use native.Mathlib.Omega.{arith}
 use native.Mathlib.Nat.{le-of-suc-le-suc, not-suc-le-zero, le-trans}
 use lib.Dec.{leb, ltb, eqb, lit≤}
@@ -15,7 +15,8 @@ use lib.ListN.{length, getD, drop, replicate, length-map, List·getD-map, List·
 use lib.Seq.{slice, getD-append-add}
 use borrow.Author.Tests.{ltb-true, leb-true}
 use Rattle.rules.specs.Field.{Field}
-use Rattle.rules.specs.Layout.{Group, flatten}
+use Rattle.rules.specs.Chain.{flatten}
+use Rattle.rules.specs.Format.{Group}
 use Rattle.rules.proofs.AnswerLaws.{both-left, both-right, below-or}
 use Rattle.rules.proofs.EntryLaws.{length-over}
 use Rattle.rules.specs.Presence.{present, placeAt}
@@ -26,7 +27,7 @@ use Rattle.tables.specs.declared.tables.GroupRow.{GroupRow}
 use Rattle.tables.specs.declared.tables.LayoutRow.{LayoutRow}
 use Rattle.tables.specs.declared.tables.FieldRow.{FieldRow}
 use Rattle.tables.specs.Tests.{allBelow}
-use Rattle.tables.specs.Tables.{fieldCount, groupCount, layoutCount, profileCount, frnCount, rangeCount, fields, fieldRow, noFieldRow, noGroupRow, noLayoutRow, fieldAt, ranges, least, greatest, fieldWord, fieldWords, groupWord, groupWords, layoutWord, layoutWords, layoutsIn, referencesIn, isFree, groups, layouts, groupRows, groupAt, layoutRows, layoutBy, layoutIs, layoutAt, nowhere, profileRows, placeRowAt, placeIs}
+use Rattle.tables.specs.Tables.{fieldCount, groupCount, layoutCount, profileCount, frnCount, rangeCount, fields, fieldRow, noFieldRow, noGroupRow, noLayoutRow, fieldAt, ranges, least, greatest, fieldWord, fieldWords, groupWord, groupWords, layoutWord, layoutWords, layoutsIn, referencesIn, isFree, groups, layouts, groupRows, groupAt, layoutRows, formatBy, formatIs, layoutIs, layoutAt, primaries, primaryCount, subfieldsIn, subfieldAt, subfieldCount, nowhere, profileRows, placeRowAt, placeIs}
 
 -- ---- what holds of each row of a table, by one test
 
@@ -49,7 +50,7 @@ all-below (suc n) p j h l =
     (below-or j n)
 
 -- what holds of a whole table holds of each row
-at-row : {A B : Type 0} (f g : A → B) (l : List A) (i : ℕ) (d : A) → f d ≡ g d → map f l ≡ map g l → f (getD l i d) ≡ g (getD l i d)
+pub at-row : {A B : Type 0} (f g : A → B) (l : List A) (i : ℕ) (d : A) → f d ≡ g d → map f l ≡ map g l → f (getD l i d) ≡ g (getD l i d)
 at-row f g l i d e h = sym (List·getD-map f l i d) ∙ ap (λ m. getD m i (f d)) h ∙ ap (getD (map g l) i) e ∙ List·getD-map g l i d
 
 pub in-row : {A B : Type 0} (f g : A → B) (l : List A) (i : ℕ) (d : A) → i < length l → map f l ≡ map g l → f (getD l i d) ≡ g (getD l i d)
@@ -64,7 +65,7 @@ abbrev padded : Category → List (Option Place)
 padded c = over (none ∷ places c) (replicate frnCount none)
 
 places-tied : map placeIs (profileRows 1 categories) ≡ flatten (map padded categories)
-unfolding placeIs layoutIs layoutBy layoutAt groupAt fields groups layouts categories
+unfolding placeIs layoutIs formatIs formatBy layoutAt subfieldAt subfieldsIn groupAt fields groups layouts categories
 places-tied = refl
 
 -- the table has room for every FRN of a category, 0 among them
@@ -105,7 +106,7 @@ place-in (c ∷ cs) (suc p) f t h k =
     rw i (getD-append-add (padded c) (flatten (map padded cs)) (p * frnCount + f) none ∙ place-in cs p f (both-right (fits c) (every fits cs) t) (le-of-suc-le-suc h) k)
 
 pub place-none : placeIs nowhere ≡ none
-unfolding placeIs layoutIs layoutBy layoutAt
+unfolding placeIs layoutIs formatIs formatBy layoutAt
 place-none = refl
 
 place-getD : (i : ℕ) → placeIs (placeRowAt i) ≡ getD (flatten (map padded categories)) i none
@@ -229,8 +230,8 @@ pub layout-digits : (i : ℕ) → i < layoutCount → layoutDigits (getD layoutW
 unfolding layoutWords layoutAt layouts categories
 layout-digits zero h = refl
 layout-digits (suc i) h =
-    ap layoutDigits (getD-map-in layoutWord (layoutRows 0 layouts) i noLayoutRow 0 (le-of-suc-le-suc h))
-    ∙ in-row (λ r. layoutDigits (layoutWord r)) (λ r. r) (layoutRows 0 layouts) i noLayoutRow (le-of-suc-le-suc h) refl
+    ap layoutDigits (getD-map-in layoutWord (layoutRows 0 0 layouts) i noLayoutRow 0 (le-of-suc-le-suc h))
+    ∙ in-row (λ r. layoutDigits (layoutWord r)) (λ r. r) (layoutRows 0 0 layouts) i noLayoutRow (le-of-suc-le-suc h) refl
 
 pub layout-in : (i : ℕ) → getD layoutsIn i 0 ≡ placeRowAt i .layout
 unfolding layoutsIn placeRowAt
@@ -240,13 +241,25 @@ pub reference-in : (i : ℕ) → getD referencesIn i 0 ≡ placeRowAt i .referen
 unfolding referencesIn placeRowAt
 reference-in i = List·getD-map (λ r. r .reference) (profileRows 1 categories) i nowhere
 
+-- ---- compound items
+
+-- seven bits to a primary octet
+pub subfields-long : subfieldCount ≡ 7 * primaryCount
+unfolding subfieldsIn primaries layouts categories
+subfields-long = refl
+
+-- a bit's subfield has a layout of the table
+pub subfield-row : (i : ℕ) → subfieldAt i < layoutCount
+unfolding subfieldAt subfieldsIn layouts categories
+subfield-row i = ltb-true (subfieldAt i) layoutCount (at-row (λ r. ltb r layoutCount) (λ r. true) subfieldsIn i 0 refl refl)
+
 -- ---- layouts
 
 -- the first row is that of no item, each other one that of an item
 pub layout-none : layoutIs (layoutAt 0) ≡ none
-unfolding layoutIs layoutBy layoutAt
+unfolding layoutIs formatIs formatBy layoutAt
 layout-none = refl
 
 pub layout-some : (j : ℕ) → suc j < layoutCount → present (layoutIs (layoutAt (suc j))) ≡ true
-unfolding layoutIs layoutBy layoutAt groupAt fields groups layouts categories
-layout-some j h = each (λ l. present (layoutIs l)) (layoutRows 0 layouts) noLayoutRow refl j (le-of-suc-le-suc h)
+unfolding layoutIs formatIs formatBy layoutAt groupAt fields groups layouts categories
+layout-some j h = each (λ l. present (layoutIs l)) (layoutRows 0 0 layouts) noLayoutRow refl j (le-of-suc-le-suc h)

@@ -10,7 +10,7 @@ use Rattle.tables.specs.declared.tables.FieldRow.{FieldRow}
 use Rattle.tables.specs.declared.tables.GroupRow.{GroupRow}
 use Rattle.tables.specs.declared.tables.LayoutRow.{LayoutRow}
 use Rattle.tables.specs.declared.tables.PlaceRow.{PlaceRow}
-use Rattle.tables.specs.Tables.{fieldAt, groupAt, layoutAt, placeRowAt}
+use Rattle.tables.specs.Tables.{layoutCount, fieldAt, groupAt, layoutAt, placeRowAt, primaryAt, subfieldAt}
 use Rattle.tables.specs.Profiles.{profileIn, profileRowAt}
 use Rattle.tables.specs.FieldRules.{allObeyed, rules, firstRule, singles}
 
@@ -27,6 +27,12 @@ one-layout-at place a b p q = p ∙ sym q
 
 pub one-layout-row : (place a b : ℕ) → a ≡ placeRowAt place .layout → b ≡ placeRowAt place .layout → a ≡ b
 one-layout-row place a b p q = p ∙ sym q
+
+pub one-primary-at : (place a b : ℕ) → a ≡ primaryAt place → b ≡ primaryAt place → a ≡ b
+one-primary-at place a b p q = p ∙ sym q
+
+pub one-subfield-at : (place a b : ℕ) → (a ≡ subfieldAt place) × (a < layoutCount) → (b ≡ subfieldAt place) × (b < layoutCount) → a ≡ b
+one-subfield-at place a b p q = p .0 ∙ sym (q .0)
 
 pub one-place-at : (place : ℕ) (a b : PlaceRow) → a ≡ placeRowAt place → b ≡ placeRowAt place → a ≡ b
 one-place-at place a b p q = p ∙ sym q

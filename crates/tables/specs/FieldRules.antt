@@ -6,7 +6,8 @@ use mathlib.Core.List.{List, [], _∷_, map}
 use lib.Dec.{leb, eqb}
 use lib.ListN.{length, getD}
 use Rattle.rules.specs.Field.{Field, spare, value, unsigned, signed, bits}
-use Rattle.rules.specs.Layout.{Group, flatten}
+use Rattle.rules.specs.Chain.{flatten}
+use Rattle.rules.specs.Format.{Group}
 use Rattle.rules.specs.Catalogue.{categories}
 use Rattle.tables.specs.declared.tables.LayoutRow.{LayoutRow}
 use Rattle.tables.specs.Tables.{groups, groupRows, groupAt, layoutAt, profileRows, isFree}

@@ -1,4 +1,4 @@
--- The tables of the code, as the rules' profiles give them: every field, group and layout of every item, profile after profile and FRN by FRN,
+-- The tables of the code, as the rules' profiles give them: every field, group and layout of every item and subfield, profile after profile and FRN by FRN,
 -- and the row that the code has for each. A table of the code is one of these lists; nothing is transcribed here. Assumes nothing.
 use Prim.Native.Nat.{ℕ, zero, suc, _+_, _-_, _*_, _^_}
 use mathlib.Core.Bool.{Bool, true, false, cond, _&&_}
@@ -9,7 +9,10 @@ use lib.IntN.{ℤ, pos, negsuc}
 use lib.ListN.{length, getD, replicate}
 use lib.Seq.{slice}
 use Rattle.rules.specs.Field.{Field, spare, value, unsigned, signed, any, half, arity}
-use Rattle.rules.specs.Layout.{Group, Layout, fixed, repeated, led, extended, group, flatten}
+use Rattle.rules.specs.Chain.{flatten}
+use Rattle.rules.specs.Format.{Group, Format, fixed, repeated, led, extended, group}
+use Rattle.rules.specs.Layout.{Layout, plain, compound}
+use Rattle.rules.specs.Presence.{number, present}
 use Rattle.rules.specs.Record.{Place, Category, places, at}
 use Rattle.rules.specs.Catalogue.{categories}
 use Rattle.rules.specs.Entry.{over}
@@ -20,23 +23,43 @@ use Rattle.tables.specs.declared.tables.PlaceRow.{PlaceRow}
 
 -- ---- what the rules have, end to end
 
+-- the subfields that there are
+abbrev pub subfieldsOf : List (Option Format) → List Layout
+subfieldsOf [] = []
+subfieldsOf (none ∷ ps) = subfieldsOf ps
+subfieldsOf (some s ∷ ps) = plain s ∷ subfieldsOf ps
+
+-- an item's layout, and behind a compound one those of its subfields
+abbrev pub withSubfields : Layout → List Layout
+withSubfields (plain s) = plain s ∷ []
+withSubfields (compound ps) = compound ps ∷ subfieldsOf (flatten ps)
+
 abbrev pub layoutsOf : List (Option Place) → List Layout
 layoutsOf [] = []
 layoutsOf (none ∷ ps) = layoutsOf ps
-layoutsOf (some p ∷ ps) = p .layout ∷ layoutsOf ps
+layoutsOf (some p ∷ ps) = withSubfields (p .layout) ++ layoutsOf ps
 
--- the groups of a layout's parts, one for all parts of a list or of a led item's contents
+-- the groups of a layout's parts, one for all parts of a list or of a led item's contents; a compound item has no parts but its subfields'
 abbrev pub groupsOf : Layout → List Group
-groupsOf (fixed g) = g ∷ []
-groupsOf (repeated lo hi g) = g ∷ []
-groupsOf (led lo) = group 1 (any 8 ∷ []) ∷ []
-groupsOf (extended gs) = gs
+groupsOf (plain (fixed g)) = g ∷ []
+groupsOf (plain (repeated lo hi g)) = g ∷ []
+groupsOf (plain (led lo)) = group 1 (any 8 ∷ []) ∷ []
+groupsOf (plain (extended gs)) = gs
+groupsOf (compound ps) = []
+
+-- its primary octets
+abbrev pub primariesOf : Layout → List (List (Option Format))
+primariesOf (plain s) = []
+primariesOf (compound ps) = ps
 
 unfoldable pub layouts : List Layout
 layouts = flatten (map (λ c. layoutsOf (places c)) categories)
 
 unfoldable pub groups : List Group
 groups = flatten (map groupsOf layouts)
+
+unfoldable pub primaries : List (List (Option Format))
+primaries = flatten (map primariesOf layouts)
 
 unfoldable pub fields : List Field
 fields = flatten (map (λ g. g .fields) groups)
@@ -53,10 +76,13 @@ groupCount = length groups
 abbrev pub layoutCount : ℕ
 layoutCount = suc (length layouts)
 
+abbrev pub primaryCount : ℕ
+primaryCount = length primaries
+
 -- the code counts with these two numbers: `profiles-long` has that they are the profiles, `profile-few` that each has room for its FRNs, 0 among them
 -- ---- made by model/make.py: profileCount, frnCount
 abbrev pub profileCount : ℕ
-profileCount = 2
+profileCount = 3
 
 abbrev pub frnCount : ℕ
 frnCount = 36
@@ -91,16 +117,28 @@ groupRows k [] = []
 groupRows k (g ∷ gs) =
     record { octets = g .size; first = k; end = k + length (g .fields); values = arity (g .fields); free = isFree (g .fields) } ∷ groupRows (k + length (g .fields)) gs
 
--- of a layout whose first group stands at a place
-abbrev pub layoutRow : ℕ → Layout → LayoutRow
-layoutRow k (fixed g) = record { kind = 1; least = 1; most = 1; first = k; end = k + 1 }
-layoutRow k (repeated lo hi g) = record { kind = 2; least = lo; most = hi; first = k; end = k + 1 }
-layoutRow k (led lo) = record { kind = 3; least = lo; most = 254; first = k; end = k + 1 }
-layoutRow k (extended gs) = record { kind = 4; least = 1; most = length gs; first = k; end = k + length gs }
+-- of a layout whose first group, or whose first primary octet, stands at a place
+abbrev pub layoutRow : ℕ → ℕ → Layout → LayoutRow
+layoutRow k j (plain (fixed g)) = record { kind = 1; least = 1; most = 1; first = k; end = k + 1 }
+layoutRow k j (plain (repeated lo hi g)) = record { kind = 2; least = lo; most = hi; first = k; end = k + 1 }
+layoutRow k j (plain (led lo)) = record { kind = 3; least = lo; most = 254; first = k; end = k + 1 }
+layoutRow k j (plain (extended gs)) = record { kind = 4; least = 1; most = length gs; first = k; end = k + length gs }
+layoutRow k j (compound ps) = record { kind = 5; least = 0; most = 0; first = j; end = j + length ps }
 
-abbrev pub layoutRows : ℕ → List Layout → List LayoutRow
-layoutRows k [] = []
-layoutRows k (l ∷ ls) = layoutRow k l ∷ layoutRows (k + length (groupsOf l)) ls
+abbrev pub layoutRows : ℕ → ℕ → List Layout → List LayoutRow
+layoutRows k j [] = []
+layoutRows k j (l ∷ ls) = layoutRow k j l ∷ layoutRows (k + length (groupsOf l)) (j + length (primariesOf l)) ls
+
+-- of the bits of primary octets, the first subfield's layout standing at a place: 0 where there is none
+abbrev pub subfieldPlaces : ℕ → List (Option Format) → List ℕ
+subfieldPlaces k [] = []
+subfieldPlaces k (none ∷ ps) = 0 ∷ subfieldPlaces k ps
+subfieldPlaces k (some s ∷ ps) = k ∷ subfieldPlaces (k + 1) ps
+
+-- of all of them, the first layout standing at a place
+abbrev pub subfieldRows : ℕ → List Layout → List ℕ
+subfieldRows k [] = []
+subfieldRows k (l ∷ ls) = subfieldPlaces (k + 1) (flatten (primariesOf l)) ++ subfieldRows (k + 1) ls
 
 -- no item
 abbrev pub nowhere : PlaceRow
@@ -110,7 +148,7 @@ nowhere = record { layout = 0; reference = 0 }
 abbrev pub placeRows : ℕ → List (Option Place) → List PlaceRow
 placeRows k [] = []
 placeRows k (none ∷ ps) = nowhere ∷ placeRows k ps
-placeRows k (some p ∷ ps) = record { layout = k; reference = p .reference } ∷ placeRows (k + 1) ps
+placeRows k (some p ∷ ps) = record { layout = k; reference = p .reference } ∷ placeRows (k + length (withSubfields (p .layout))) ps
 
 -- as many places for each profile, FRN 0 first
 abbrev pub profileRows : ℕ → List Category → List PlaceRow
@@ -135,7 +173,24 @@ groupAt i = getD (groupRows 0 groups) i noGroupRow
 
 -- the first layout is that of no item
 unfoldable pub layoutAt : ℕ → LayoutRow
-layoutAt i = getD (noLayoutRow ∷ layoutRows 0 layouts) i noLayoutRow
+layoutAt i = getD (noLayoutRow ∷ layoutRows 0 0 layouts) i noLayoutRow
+
+-- the bits of a primary octet that have a subfield, FX apart
+unfoldable pub primariesIn : List ℕ
+primariesIn = map (λ p. 2 * number (map present p)) primaries
+
+unfoldable pub primaryAt : ℕ → ℕ
+primaryAt i = getD primariesIn i 0
+
+-- the place of the layout of a subfield: of a bit of a primary octet, seven to an octet
+unfoldable pub subfieldsIn : List ℕ
+subfieldsIn = subfieldRows 1 layouts
+
+unfoldable pub subfieldAt : ℕ → ℕ
+subfieldAt i = getD subfieldsIn i 0
+
+abbrev pub subfieldCount : ℕ
+subfieldCount = length subfieldsIn
 
 unfoldable pub placeRowAt : ℕ → PlaceRow
 placeRowAt i = getD (profileRows 1 categories) i nowhere
@@ -189,7 +244,7 @@ unfoldable pub groupWords : List ℕ
 groupWords = map groupWord (groupRows 0 groups)
 
 unfoldable pub layoutWords : List ℕ
-layoutWords = 0 ∷ map layoutWord (layoutRows 0 layouts)
+layoutWords = 0 ∷ map layoutWord (layoutRows 0 0 layouts)
 
 unfoldable pub layoutsIn : List ℕ
 layoutsIn = map (λ r. r .layout) (profileRows 1 categories)
@@ -202,15 +257,33 @@ referencesIn = map (λ r. r .reference) (profileRows 1 categories)
 abbrev pub groupIs : GroupRow → Group
 groupIs r = group (r .octets) (slice (r .first) (r .end) fields)
 
-unfoldable pub layoutBy : ℕ → ℕ → ℕ → Group → List Group → Option Layout
-layoutBy zero lo hi g gs = none
-layoutBy (suc zero) lo hi g gs = some (fixed g)
-layoutBy (suc (suc zero)) lo hi g gs = some (repeated lo hi g)
-layoutBy (suc (suc (suc zero))) lo hi g gs = some (led lo)
-layoutBy (suc (suc (suc (suc k)))) lo hi g gs = some (extended gs)
+unfoldable pub formatBy : ℕ → ℕ → ℕ → Group → List Group → Option Format
+formatBy zero lo hi g gs = none
+formatBy (suc zero) lo hi g gs = some (fixed g)
+formatBy (suc (suc zero)) lo hi g gs = some (repeated lo hi g)
+formatBy (suc (suc (suc zero))) lo hi g gs = some (led lo)
+formatBy (suc (suc (suc (suc zero)))) lo hi g gs = some (extended gs)
+formatBy (suc (suc (suc (suc (suc k))))) lo hi g gs = none
+
+-- a row of parts has a format
+unfoldable pub formatIs : LayoutRow → Option Format
+formatIs r = formatBy (r .kind) (r .least) (r .most) (groupIs (groupAt (r .first))) (slice (r .first) (r .end) (map groupIs (groupRows 0 groups)))
+
+-- the formats at the bits of so many primary octets, the first of them at a place
+abbrev pub bitsIs : ℕ → ℕ → List (Option Format)
+bitsIs zero i = []
+bitsIs (suc n) i = formatIs (layoutAt (subfieldAt i)) ∷ bitsIs n (i + 1)
+
+abbrev pub primariesIs : ℕ → ℕ → List (List (Option Format))
+primariesIs zero j = []
+primariesIs (suc n) j = bitsIs 7 (7 * j) ∷ primariesIs n (j + 1)
+
+abbrev pub asPlain : Option Format → Option Layout
+asPlain none = none
+asPlain (some s) = some (plain s)
 
 unfoldable pub layoutIs : LayoutRow → Option Layout
-layoutIs r = layoutBy (r .kind) (r .least) (r .most) (groupIs (groupAt (r .first))) (slice (r .first) (r .end) (map groupIs (groupRows 0 groups)))
+layoutIs r = cond (eqb (r .kind) 5) (some (compound (primariesIs (r .end - r .first) (r .first)))) (asPlain (formatIs r))
 
 abbrev pub with : ℕ → Option Layout → Option Place
 with r none = none

@@ -9,7 +9,7 @@ ghost use Rattle.tables.specs.FieldRules.{ruleCount, obeys, allObeyed, r
 
 // Rules, group after group: how many bits stand below the field _ how many it has.
 // ---- made by model/make.py: RULES
-const RULES: [u16; 17] = [
+const RULES: [u16; 32] = [
     0_24, //  I017/140  5.2.7   time of day
     24_24, // I017/045  5.2.4   latitude
     12_01, // I017/070  5.2.6   spare
@@ -27,35 +27,65 @@ const RULES: [u16; 17] = [
     27_05, // I018/022  5.2.22  spare
     12_01, // I018/032  5.2.30  spare
     0_16, //  I018/034  5.2.32  speed
+    0_24, //  I061/020  5.2.5   time of message
+    0_07, //  I061/050  5.2.8   spare
+    32_32, // I061/060  5.2.9   latitude
+    0_32, //  I061/060  5.2.9   longitude
+    0_16, //  I061/070  5.2.10  lower limit
+    0_16, //  I061/080  5.2.11  upper limit
+    15_01, // I061/130  5.2.13  #1 spare
+    18_01, // I061/130  5.2.13  #9 spare
+    0_07, //  I061/130  5.2.13  #9 spare
+    14_02, // I061/220  5.2.15  spare
+    0_06, //  I061/230  5.2.16  spare
+    0_07, //  I061/230  5.2.16  spare
+    5_01, //  I061/240  5.2.17  #1 spare
+    0_16, //  I061/380  5.2.22  #1 refresh period
+    0_07, //  I061/380  5.2.22  #2 spare
 ];
 // ---- end of what is made
 
 // Rules: what is added to the field's code, so that what is legal starts at 0.
 // ---- made by model/make.py: ADDED
-const ADDED: [u32; 17] = [
-    0, //       I017/140  5.2.7   time of day
-    4194304, // I017/045  5.2.4   latitude
-    0, //       I017/070  5.2.6   spare
-    0, //       I017/230  5.2.12  spare
-    0, //       I017/240  5.2.13  spare
-    0, //       I018/018  5.2.18  spare
-    0, //       I018/030  5.2.28  spare
-    0, //       I018/030  5.2.28  spare
-    0, //       I018/002  5.2.3   time of day
-    0, //       I018/007  5.2.7   spare
-    0, //       I018/008  5.2.8   spare
-    0, //       I018/008  5.2.8   spare
-    0, //       I018/009  5.2.9   spare
-    0, //       I018/010  5.2.10  spare
-    0, //       I018/022  5.2.22  spare
-    0, //       I018/032  5.2.30  spare
-    0, //       I018/034  5.2.32  speed
+const ADDED: [u32; 32] = [
+    0, //        I017/140  5.2.7   time of day
+    4194304, //  I017/045  5.2.4   latitude
+    0, //        I017/070  5.2.6   spare
+    0, //        I017/230  5.2.12  spare
+    0, //        I017/240  5.2.13  spare
+    0, //        I018/018  5.2.18  spare
+    0, //        I018/030  5.2.28  spare
+    0, //        I018/030  5.2.28  spare
+    0, //        I018/002  5.2.3   time of day
+    0, //        I018/007  5.2.7   spare
+    0, //        I018/008  5.2.8   spare
+    0, //        I018/008  5.2.8   spare
+    0, //        I018/009  5.2.9   spare
+    0, //        I018/010  5.2.10  spare
+    0, //        I018/022  5.2.22  spare
+    0, //        I018/032  5.2.30  spare
+    0, //        I018/034  5.2.32  speed
+    0, //        I061/020  5.2.5   time of message
+    0, //        I061/050  5.2.8   spare
+    16777216, // I061/060  5.2.9   latitude
+    33554432, // I061/060  5.2.9   longitude
+    60, //       I061/070  5.2.10  lower limit
+    60, //       I061/080  5.2.11  upper limit
+    0, //        I061/130  5.2.13  #1 spare
+    0, //        I061/130  5.2.13  #9 spare
+    0, //        I061/130  5.2.13  #9 spare
+    0, //        I061/220  5.2.15  spare
+    0, //        I061/230  5.2.16  spare
+    0, //        I061/230  5.2.16  spare
+    0, //        I061/240  5.2.17  #1 spare
+    65532, //    I061/380  5.2.22  #1 refresh period
+    0, //        I061/380  5.2.22  #2 spare
 ];
 // ---- end of what is made
 
 // Rules: the greatest sum, in the bits of the field, that is legal.
 // ---- made by model/make.py: LIMITS
-const LIMITS: [u32; 17] = [
+const LIMITS: [u32; 32] = [
     11059199, // I017/140  5.2.7   time of day
     8388607, //  I017/045  5.2.4   latitude
     0, //        I017/070  5.2.6   spare
@@ -73,12 +103,27 @@ const LIMITS: [u32; 17] = [
     0, //        I018/022  5.2.22  spare
     0, //        I018/032  5.2.30  spare
     32768, //    I018/034  5.2.32  speed
+    11059199, // I061/020  5.2.5   time of message
+    0, //        I061/050  5.2.8   spare
+    33554432, // I061/060  5.2.9   latitude
+    67108864, // I061/060  5.2.9   longitude
+    6060, //     I061/070  5.2.10  lower limit
+    6060, //     I061/080  5.2.11  upper limit
+    0, //        I061/130  5.2.13  #1 spare
+    0, //        I061/130  5.2.13  #9 spare
+    0, //        I061/130  5.2.13  #9 spare
+    0, //        I061/220  5.2.15  spare
+    0, //        I061/230  5.2.16  spare
+    0, //        I061/230  5.2.16  spare
+    0, //        I061/240  5.2.17  #1 spare
+    3596, //     I061/380  5.2.22  #1 refresh period
+    0, //        I061/380  5.2.22  #2 spare
 ];
 // ---- end of what is made
 
 // Groups: how many octets.
 // ---- made by model/make.py: SIZES
-const SIZES: [u8; 52] = [
+const SIZES: [u8; 106] = [
     2, // I017/010  5.2.2   Data Source Identifier
     2, // I017/012  5.2.3   Data Destination Identifier
     1, // I017/000  5.2.1   Message Type
@@ -131,12 +176,66 @@ const SIZES: [u8; 52] = [
     2, // I018/035  5.2.33  Aircraft Heading
     1, // I018/012  5.2.12  Aircraft Coverage Quality Factor
     1, // I018/013  5.2.13  Aircraft CQF Calculation Method
+    2, // I061/010  5.2.2   SDPS Identification
+    1, // I061/000  5.2.1   Message Type
+    1, // I061/012  5.2.3   User Identification
+    1, // I061/015  5.2.4   Service Identification
+    3, // I061/020  5.2.5   Time of Message
+    1, // I061/030  5.2.6   Batch Number
+    1, // I061/045  5.2.7   Application Version Number
+    1, // I061/050  5.2.8   Default Geographical Volume
+    8, // I061/060  5.2.9   Geographical Area
+    2, // I061/070  5.2.10  Lower Limit
+    2, // I061/080  5.2.11  Upper Limit
+    1, // I061/100  5.2.12  Connection Related Report
+    2, // I061/130  5.2.13  #1 Track Number Selector
+    3, // I061/130  5.2.13  #2 Aircraft Address Selector
+    6, // I061/130  5.2.13  #3 Aircraft Identification Selector
+    2, // I061/130  5.2.13  #4 Code Family Selector
+    4, // I061/130  5.2.13  #5 Departure Airport Selector
+    4, // I061/130  5.2.13  #6 Destination Airport Selector
+    4, // I061/130  5.2.13  #7 Aircraft Type Selector
+    2, // I061/130  5.2.13  #8 Current Control Position Selector
+    4, // I061/130  5.2.13  #9 Track/Flight Categories Selector
+    1, // I061/210  5.2.14  Item Selector, first part
+    1, // I061/210  5.2.14  Item Selector, extent 1
+    1, // I061/210  5.2.14  Item Selector, extent 2
+    1, // I061/210  5.2.14  Item Selector, extent 3
+    5, // I061/220  5.2.15  Cyclical Update Characteristics
+    3, // I061/230  5.2.16  Radar Synchronisation Characteristics, first part
+    3, // I061/230  5.2.16  Radar Synchronisation Characteristics, extent 1
+    1, // I061/240  5.2.17  #1 Discrete Parameters Flags
+    1, // I061/240  5.2.17  #3 Rate of Climb/Descent Threshold
+    1, // I061/240  5.2.17  #4 Position Threshold
+    1, // I061/240  5.2.17  #5 Rate of Turn Threshold
+    1, // I061/240  5.2.17  #6 Track Angle Threshold
+    1, // I061/240  5.2.17  #7 Ground Speed Threshold
+    1, // I061/240  5.2.17  #8 Longitudinal Acceleration Threshold
+    1, // I061/240  5.2.17  #9 Altitude Threshold
+    1, // I061/240  5.2.17  #10 Factor K
+    1, // I061/240  5.2.17  #11 Refreshment Period
+    1, // I061/240  5.2.17  #12 Minimal Period
+    2, // I061/330  5.2.18  Service Related Report
+    2, // I061/350  5.2.19  Sensor Selector
+    1, // I061/360  5.2.20  Sensor Item Selector, first part
+    1, // I061/360  5.2.20  Sensor Item Selector, extent 1
+    1, // I061/360  5.2.20  Sensor Item Selector, extent 2
+    2, // I061/370  5.2.21  Periodical Characteristics of Sensor Information Service
+    2, // I061/380  5.2.22  #1 Refresh Period
+    1, // I061/380  5.2.22  #2 Discrete Parameters
+    2, // I061/380  5.2.22  #3 Time Stamping Bias Change Threshold
+    2, // I061/380  5.2.22  #4 SSR Range Bias Change Threshold
+    2, // I061/380  5.2.22  #5 SSR Range Gain Change Threshold
+    2, // I061/380  5.2.22  #6 SSR Azimuth Bias Change Threshold
+    2, // I061/380  5.2.22  #7 PSR Range Bias Change Threshold
+    2, // I061/380  5.2.22  #8 PSR Range Gain Change Threshold
+    2, // I061/380  5.2.22  #9 PSR Azimuth Bias Change Threshold
 ];
 // ---- end of what is made
 
 // Groups: the place of the first rule; the next row has the one past the last.
 // ---- made by model/make.py: FIRST_RULES
-const FIRST_RULES: [u8; 53] = [
+const FIRST_RULES: [u8; 107] = [
     0, //  I017/010  5.2.2   Data Source Identifier
     0, //  I017/012  5.2.3   Data Destination Identifier
     0, //  I017/000  5.2.1   Message Type
@@ -189,13 +288,67 @@ const FIRST_RULES: [u8; 53] = [
     17, // I018/035  5.2.33  Aircraft Heading
     17, // I018/012  5.2.12  Aircraft Coverage Quality Factor
     17, // I018/013  5.2.13  Aircraft CQF Calculation Method
-    17, // the end
+    17, // I061/010  5.2.2   SDPS Identification
+    17, // I061/000  5.2.1   Message Type
+    17, // I061/012  5.2.3   User Identification
+    17, // I061/015  5.2.4   Service Identification
+    17, // I061/020  5.2.5   Time of Message
+    18, // I061/030  5.2.6   Batch Number
+    18, // I061/045  5.2.7   Application Version Number
+    18, // I061/050  5.2.8   Default Geographical Volume
+    19, // I061/060  5.2.9   Geographical Area
+    21, // I061/070  5.2.10  Lower Limit
+    22, // I061/080  5.2.11  Upper Limit
+    23, // I061/100  5.2.12  Connection Related Report
+    23, // I061/130  5.2.13  #1 Track Number Selector
+    24, // I061/130  5.2.13  #2 Aircraft Address Selector
+    24, // I061/130  5.2.13  #3 Aircraft Identification Selector
+    24, // I061/130  5.2.13  #4 Code Family Selector
+    24, // I061/130  5.2.13  #5 Departure Airport Selector
+    24, // I061/130  5.2.13  #6 Destination Airport Selector
+    24, // I061/130  5.2.13  #7 Aircraft Type Selector
+    24, // I061/130  5.2.13  #8 Current Control Position Selector
+    24, // I061/130  5.2.13  #9 Track/Flight Categories Selector
+    26, // I061/210  5.2.14  Item Selector, first part
+    26, // I061/210  5.2.14  Item Selector, extent 1
+    26, // I061/210  5.2.14  Item Selector, extent 2
+    26, // I061/210  5.2.14  Item Selector, extent 3
+    26, // I061/220  5.2.15  Cyclical Update Characteristics
+    27, // I061/230  5.2.16  Radar Synchronisation Characteristics, first part
+    28, // I061/230  5.2.16  Radar Synchronisation Characteristics, extent 1
+    29, // I061/240  5.2.17  #1 Discrete Parameters Flags
+    30, // I061/240  5.2.17  #3 Rate of Climb/Descent Threshold
+    30, // I061/240  5.2.17  #4 Position Threshold
+    30, // I061/240  5.2.17  #5 Rate of Turn Threshold
+    30, // I061/240  5.2.17  #6 Track Angle Threshold
+    30, // I061/240  5.2.17  #7 Ground Speed Threshold
+    30, // I061/240  5.2.17  #8 Longitudinal Acceleration Threshold
+    30, // I061/240  5.2.17  #9 Altitude Threshold
+    30, // I061/240  5.2.17  #10 Factor K
+    30, // I061/240  5.2.17  #11 Refreshment Period
+    30, // I061/240  5.2.17  #12 Minimal Period
+    30, // I061/330  5.2.18  Service Related Report
+    30, // I061/350  5.2.19  Sensor Selector
+    30, // I061/360  5.2.20  Sensor Item Selector, first part
+    30, // I061/360  5.2.20  Sensor Item Selector, extent 1
+    30, // I061/360  5.2.20  Sensor Item Selector, extent 2
+    30, // I061/370  5.2.21  Periodical Characteristics of Sensor Information Service
+    30, // I061/380  5.2.22  #1 Refresh Period
+    31, // I061/380  5.2.22  #2 Discrete Parameters
+    32, // I061/380  5.2.22  #3 Time Stamping Bias Change Threshold
+    32, // I061/380  5.2.22  #4 SSR Range Bias Change Threshold
+    32, // I061/380  5.2.22  #5 SSR Range Gain Change Threshold
+    32, // I061/380  5.2.22  #6 SSR Azimuth Bias Change Threshold
+    32, // I061/380  5.2.22  #7 PSR Range Bias Change Threshold
+    32, // I061/380  5.2.22  #8 PSR Range Gain Change Threshold
+    32, // I061/380  5.2.22  #9 PSR Azimuth Bias Change Threshold
+    32, // the end
 ];
 // ---- end of what is made
 
 // Places, of an item with one part: how many octets it has, where it is free; 8 more than the place of its group, where it has a rule. Else 0.
 // ---- made by model/make.py: SINGLE
-const SINGLE: [u8; 72] = [
+const SINGLE: [u8; 108] = [
     0, //  FRN 0   no item
     2, //  FRN 1   I017/010  5.2.2   Data Source Identifier
     2, //  FRN 2   I017/012  5.2.3   Data Destination Identifier
@@ -268,6 +421,42 @@ const SINGLE: [u8; 72] = [
     2, //  FRN 33  I018/035  5.2.33  Aircraft Heading
     1, //  FRN 34  I018/012  5.2.12  Aircraft Coverage Quality Factor
     1, //  FRN 35  I018/013  5.2.13  Aircraft CQF Calculation Method
+    0, //  FRN 0   no item
+    2, //  FRN 1   I061/010  5.2.2   SDPS Identification
+    1, //  FRN 2   I061/000  5.2.1   Message Type
+    1, //  FRN 3   I061/012  5.2.3   User Identification
+    1, //  FRN 4   I061/015  5.2.4   Service Identification
+    64, // FRN 5   I061/020  5.2.5   Time of Message
+    1, //  FRN 6   I061/030  5.2.6   Batch Number
+    1, //  FRN 7   I061/045  5.2.7   Application Version Number
+    67, // FRN 8   I061/050  5.2.8   Default Geographical Volume
+    0, //  FRN 9   I061/060  5.2.9   Geographical Area
+    69, // FRN 10  I061/070  5.2.10  Lower Limit
+    70, // FRN 11  I061/080  5.2.11  Upper Limit
+    0, //  FRN 12  I061/100  5.2.12  Connection Related Report
+    0, //  FRN 13  I061/130  5.2.13  Track Selector
+    0, //  FRN 14  I061/210  5.2.14  Item Selector
+    85, // FRN 15  I061/220  5.2.15  Cyclical Update Characteristics
+    0, //  FRN 16  I061/230  5.2.16  Radar Synchronisation Characteristics
+    0, //  FRN 17  I061/240  5.2.17  Triggering Criteria for Aperiodical Services
+    0, //  FRN 18  I061/330  5.2.18  Service Related Report
+    0, //  FRN 19  I061/350  5.2.19  Sensor Selector
+    0, //  FRN 20  I061/360  5.2.20  Sensor Item Selector
+    2, //  FRN 21  I061/370  5.2.21  Periodical Characteristics of Sensor Information Service
+    0, //  FRN 22  I061/380  5.2.22  Aperiodical Characteristics of Sensor Information Service
+    0, //  FRN 23  no item is printed
+    0, //  FRN 24  no item is printed
+    0, //  FRN 25  no item is printed
+    0, //  FRN 26  no item is printed
+    0, //  FRN 27  Reserved Expansion Field
+    0, //  FRN 28  Special Purpose Field
+    0, //  FRN 29  past the end of the profile
+    0, //  FRN 30  past the end of the profile
+    0, //  FRN 31  past the end of the profile
+    0, //  FRN 32  past the end of the profile
+    0, //  FRN 33  past the end of the profile
+    0, //  FRN 34  past the end of the profile
+    0, //  FRN 35  past the end of the profile
 ];
 // ---- end of what is made
 
@@ -355,17 +544,18 @@ pub fn pow2(k: u64) -> u64
 
 // Whether a number obeys a rule.
 fn is_obeyed(rule: usize, n: u64) -> bool
-    requires { ⌜ (rule < ruleCount) × (n < 2 ^ 56) ⌝ }
+    requires { ⌜ rule < ruleCount ⌝ }
     ensures { λ r. ⌜ r ≡ obeys (ruleAt rule) n ⌝ }
 {
     let w = rule_word(rule);
-    let code = (n >> ((w / 100) as u64)) + added_at(rule) as u64;
-    code % pow2((w % 100) as u64) <= limit_at(rule) as u64
+    let codes = pow2((w % 100) as u64);
+    let code = (n >> ((w / 100) as u64)) % codes + added_at(rule) as u64;
+    code % codes <= limit_at(rule) as u64
 }
 
 // Whether a number obeys each rule from a place to before a place.
 pub fn are_obeyed(n: u64, first: usize, end: usize) -> bool
-    requires { ⌜ (end ≤ ruleCount) × (n < 2 ^ 56) ⌝ }
+    requires { ⌜ end ≤ ruleCount ⌝ }
     ensures { λ r. ⌜ r ≡ allObeyed (slice first end rules) n ⌝ }
 {
     let mut i = first;

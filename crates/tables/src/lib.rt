@@ -1,4 +1,4 @@
-// The tables of the items of categories 017 and 018, a row as one number, and of the fields that have a rule. The contracts tie each table, whole, to
+// The tables of the items of categories 017, 018 and 061, a row as one number, and of the fields that have a rule. The contracts tie each table, whole, to
 // the rules' profiles; what a function requires of a place, its callers meet: they take places from these tables.
 mod field_rules;
 mod profiles;
@@ -13,6 +13,7 @@ pub use field_rules::size_at;
 pub use profiles::ProfileRow;
 pub use profiles::profile_of;
 pub use profiles::profile_row;
+pub use tables::COMPOUND;
 pub use tables::EXTENDED;
 pub use tables::FIXED;
 pub use tables::FRNS;
@@ -31,3 +32,5 @@ pub use tables::group_at;
 pub use tables::layout_at;
 pub use tables::layout_row;
 pub use tables::place_at;
+pub use tables::primary_at;
+pub use tables::subfield_at;

@@ -1,4 +1,4 @@
-// The profiles, one for each category: 0 is category 017, edition 1.3; 1 is category 018, edition 1.6. One table has what the code asks of a profile as
+// The profiles, one for each category: 0 is category 017, edition 1.3; 1 is category 018, edition 1.6; 2 is category 061, edition 1.2. One table has what the code asks of a profile as
 // a whole; its items are in tables.rt.
 use crate::tables::PROFILES;
 ghost use mathlib.Core.Path.{_≡_};
@@ -20,17 +20,21 @@ pub struct ProfileRow {
 // ---- the table, a column to an array: a constant is written out where it is read, so none is written that is not asked for
 
 // ---- made by model/make.py: the columns of profiles
-const CATS: [u8; 2] = [17, 18];
+const CATS: [u8; 3] = [17, 18, 61];
 
-const OCTETS: [u8; 2] = [3, 5];
+const OCTETS: [u8; 3] = [3, 5, 4];
 
-const USABLE: [u64; 2] = [0x7FFF_0000_0000_0000, 0x7FFF_FFFF_F000_0000];
+const USABLE: [u64; 3] = [
+    0x7FFF_0000_0000_0000,
+    0x7FFF_FFFF_F000_0000,
+    0x7FFF_FE00_0000_0000,
+];
 
-const KINDS: [u8; 2] = [3, 3];
+const KINDS: [u8; 3] = [3, 3, 2];
 
-const TIMES: [u8; 2] = [7, 15];
+const TIMES: [u8; 3] = [7, 15, 5];
 
-const UNTIMED: [u8; 2] = [0, 0x41];
+const UNTIMED: [u8; 3] = [0, 0x41, 0];
 // ---- end of what is made
 
 // The row of a profile, all zeros where there is none.

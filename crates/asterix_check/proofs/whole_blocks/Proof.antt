@@ -3,10 +3,10 @@
 use borrow.Author.Needs.{needs}
 use native.Mathlib.Omega.{arith}
 use lib.ListN.{length}
-use Rattle.blocks.proofs.LoopLaws.{to-end}
 use Rattle.asterix_check.proofs.WholeLaws.{Cutting, cut-start, cut-again, cut-less, cut-end}
 use Rattle.asterix_check.proofs.whole_blocks.Statement.{statement}
 use Rattle.asterix_check.proofs.whole_blocks.Tie as tie
+use Rattle.rules.proofs.AnswerLaws.{to-end}
 
 abbrev Inv-loop : tie.InvT-loop
 Inv-loop part rest₀ at₀ n₀ rest at n = Cutting part rest at n

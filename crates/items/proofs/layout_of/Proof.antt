@@ -2,7 +2,7 @@
 use mathlib.Core.Path.{sym, ap, _∙_}
 use native.Mathlib.Omega.{arith}
 use Rattle.items.specs.Answers.{frnOf}
-use Rattle.items.proofs.OneLaws.{layout-found, layout-missed}
+use Rattle.items.proofs.OneLaws.{layout-found, layout-missed, row-found, row-missed}
 use borrow.Author.Needs.{needs}
 use Rattle.items.proofs.layout_of.Statement.{statement}
 use Rattle.items.proofs.layout_of.Tie as tie
@@ -23,10 +23,16 @@ enum-told : tie.Need-enum-told
 enum-told c = search needs
 
 returns : tie.Need-returns
-returns c = (c .place-of .ensures .1, layout-found _ _ _ (c .before .before .before .before .before .profile-of .ensures) _ _ (sym (ap frnOf (c .before .before .frn .given .1)) ∙ c .before .before .before .before .frn-of .ensures) (c .place-of .ensures .0))
+returns c =
+    let p = c .before .before .before .before .before .profile-of .ensures in
+    let f = sym (ap frnOf (c .before .before .frn .given .1)) ∙ c .before .before .before .before .frn-of .ensures in
+    (c .place-of .ensures .1, layout-found _ _ _ p _ _ f (c .place-of .ensures .0), row-found _ _ _ p _ _ f (c .place-of .ensures .2))
 
 returns-2 : tie.Need-returns-2
-returns-2 c = (omega arith, layout-missed _ _ _ (c .before .before .before .profile-of .ensures) (sym (ap frnOf (c .enum-told .given .1)) ∙ c .before .before .frn-of .ensures))
+returns-2 c =
+    let p = c .before .before .before .profile-of .ensures in
+    let f = sym (ap frnOf (c .enum-told .given .1)) ∙ c .before .before .frn-of .ensures in
+    (omega arith, layout-missed _ _ _ p f, row-missed _ _ _ p f)
 
 pub layout-of-spec : {M : Type 1} → statement M
 layout-of-spec =

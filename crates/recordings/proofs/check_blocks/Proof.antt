@@ -5,9 +5,10 @@ use borrow.Author.Needs.{needs}
 use native.Mathlib.Omega.{arith}
 use lib.ListN.{length}
 use Rattle.rules.specs.Answer.{refused}
+use Rattle.rules.proofs.AnswerLaws.{to-end}
 use Rattle.blocks.specs.Read.{Front, checkFront}
 use Rattle.blocks.specs.Answers.{frontOf}
-use Rattle.blocks.proofs.LoopLaws.{octets-each, to-end}
+use Rattle.blocks.proofs.LoopLaws.{octets-each}
 use Rattle.blocks.proofs.InsideLaws.{front-inside}
 use Rattle.recordings.specs.Answers.{frontNumber, frontPlace}
 use Rattle.recordings.proofs.CountLaws.{FrontTaken, front-taken, counts-end, counts-stop, Checking, check-start, check-again}

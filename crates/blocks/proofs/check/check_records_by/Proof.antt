@@ -7,10 +7,11 @@ use native.Mathlib.Omega.{arith}
 use lib.ListN.{length}
 use Rattle.sets.specs.Sets.{categoryAt}
 use Rattle.blocks.specs.Answers.{checkedBy}
-use Rattle.blocks.proofs.LoopLaws.{octets-each, to-end}
+use Rattle.blocks.proofs.LoopLaws.{octets-each}
 use Rattle.blocks.proofs.RecordLaws.{Accepted, ended-accepted, ended-refused, count-end, count-stop, Counting, count-again}
 use Rattle.blocks.proofs.check.check_records_by.Statement.{statement}
 use Rattle.blocks.proofs.check.check_records_by.Tie as tie
+use Rattle.rules.proofs.AnswerLaws.{to-end}
 
 abbrev Inv-loop : tie.InvT-loop
 Inv-loop steps types sets profile part from rest₀ at₀ n₀ rest at n = Counting (categoryAt profile) part from rest at n

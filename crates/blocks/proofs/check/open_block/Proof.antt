@@ -7,10 +7,11 @@ use lib.Dec.{eqb, eqb→eq}
 use lib.ListN.{length}
 use Rattle.rules.specs.Answer.{ok, refused, _>>=_}
 use Rattle.rules.specs.Block.{Head}
+use Rattle.rules.proofs.AnswerLaws.{to-end}
 use Rattle.sets.specs.Sets.{categoryAt}
 use Rattle.blocks.specs.Read.{headBy, opening, openFrom}
 use Rattle.blocks.specs.Answers.{headOf, headNumber, openedBy}
-use Rattle.blocks.proofs.LoopLaws.{octets-each, to-end}
+use Rattle.blocks.proofs.LoopLaws.{octets-each}
 use Rattle.blocks.proofs.HeadLaws.{headed, len-few, opened-refused, opened-less, opened-body, opened-by, opened-any, profile-refused, profile-opened}
 use Rattle.blocks.proofs.check.open_block.Statement.{statement}
 use Rattle.blocks.proofs.check.open_block.Tie as tie

@@ -6,15 +6,15 @@ use borrow.Author.Needs.{needs}
 use native.Mathlib.Omega.{arith}
 use lib.ListN.{length, take, drop, getD}
 use Rattle.rules.specs.Answer.{ok, refused}
-use Rattle.rules.specs.Layout.{flatten}
+use Rattle.rules.specs.Chain.{flatten}
 use Rattle.rules.specs.Record.{places}
-use Rattle.rules.proofs.AnswerLaws.{refused-ok, ok-inj}
+use Rattle.rules.proofs.AnswerLaws.{refused-ok, ok-inj, to-end}
 use Rattle.items.specs.Answers.{frnOf, checkedOf, checkAt}
 use Rattle.tables.specs.Places.{frnAs}
 use Rattle.sets.specs.Sets.{categoryAt}
 use Rattle.blocks.specs.Read.{Opening}
 use Rattle.blocks.specs.Answers.{checkedNumber, checkedPlace, openedBy}
-use Rattle.blocks.proofs.LoopLaws.{octets-each, to-end}
+use Rattle.blocks.proofs.LoopLaws.{octets-each}
 use Rattle.blocks.proofs.OpenLaws.{Opens, opens, opens-records}
 use Rattle.finding.specs.Found.{seekAt, Located, itemSpan}
 use Rattle.tables.proofs.ProfileLaws.{profile-at}

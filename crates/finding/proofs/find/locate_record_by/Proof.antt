@@ -4,10 +4,11 @@ use mathlib.Core.Path.{sym, ap, ap₂, _∙_, subst}
 use borrow.Author.Needs.{needs}
 use native.Mathlib.Omega.{arith}
 use Rattle.rules.specs.Answer.{refused}
+use Rattle.rules.proofs.AnswerLaws.{to-end}
 use Rattle.sets.specs.Sets.{categoryAt}
 use Rattle.blocks.specs.Read.{Opening}
 use Rattle.blocks.specs.Answers.{checkedNumber, checkedPlace, openedBy}
-use Rattle.blocks.proofs.LoopLaws.{octets-each, to-end}
+use Rattle.blocks.proofs.LoopLaws.{octets-each}
 use Rattle.blocks.proofs.OpenLaws.{Opens, opens, opens-records}
 use Rattle.finding.specs.Found.{seekAt, Located}
 use Rattle.finding.proofs.FindLaws.{find-refused, find-record}

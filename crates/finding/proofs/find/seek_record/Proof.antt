@@ -6,12 +6,13 @@ use borrow.Author.Needs.{needs}
 use native.Mathlib.Omega.{arith}
 use lib.ListN.{length}
 use Rattle.sets.specs.Sets.{categoryAt}
-use Rattle.blocks.proofs.LoopLaws.{octets-each, to-end}
+use Rattle.blocks.proofs.LoopLaws.{octets-each}
 use Rattle.blocks.proofs.RecordLaws.{Accepted, ended-accepted, ended-refused, seek-stop}
 use Rattle.finding.specs.Found.{Located}
 use Rattle.finding.proofs.SeekLaws.{seek-end, seek-here, Seeking, seek-again, walked-map, located-at}
 use Rattle.finding.proofs.find.seek_record.Statement.{statement}
 use Rattle.finding.proofs.find.seek_record.Tie as tie
+use Rattle.rules.proofs.AnswerLaws.{to-end}
 
 abbrev Inv-loop : tie.InvT-loop
 Inv-loop t profile part from n rest₀ at₀ left₀ rest at left = Seeking (categoryAt profile) part from n rest at left

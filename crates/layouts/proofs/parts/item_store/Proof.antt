@@ -13,10 +13,10 @@ step-of-requires c κs = search needs
 parts-store-requires : tie.Need-parts-store-requires
 parts-store-requires c κs =
     let s = c .before .before .before .before in
-    store-asks _ _ _ _ (c .before .step-of .ensures .0) (c .before .before .head-of .ensures) _ (c .before .step-of .ensures .1) (s .pre .0 .0) (s .pre .0 .1) (s .pre .1)
+    store-asks _ _ _ _ _ (c .before .step-of .ensures .0) (c .before .before .head-of .ensures) _ (c .before .step-of .ensures .1) (s .pre .0 .0) (s .pre .0 .1) (s .pre .1)
 
 returns : tie.Need-returns
-returns c = store-gives _ _ _ _ (c .before .before .step-of .ensures .0) (c .before .before .before .head-of .ensures) _ _ _ _ (c .parts-store .ensures)
+returns c = store-gives _ _ _ _ _ (c .before .before .step-of .ensures .0) (c .before .before .before .head-of .ensures) _ _ _ _ (c .parts-store .ensures)
 
 pub item-store-spec : {M : Type 1} → statement M
 item-store-spec =

@@ -8,10 +8,10 @@ use Rattle.layouts.proofs.parts.list_of.Statement.{statement}
 use Rattle.layouts.proofs.parts.list_of.Tie as tie
 
 -- the parts are few octets
-small : (c : tie.After-size-at) → c .before .args .n * c .size-at .result ≤ 255 * 7
+small : (c : tie.After-size-at) → c .before .args .n * c .size-at .result ≤ 255 * 8
 small c =
     let g = list-group (c .before .args .l) (rowed _ (c .before .pre .0)) (c .before .pre .1) in
-    mul-le-mul (c .before .pre .2) (subst (λ m. m ≤ 7) (sym (c .size-at .ensures)) (g .sound .short))
+    mul-le-mul (c .before .pre .2) (subst (λ m. m ≤ 8) (sym (c .size-at .ensures)) (g .sound .short))
 
 size-at-requires : tie.Need-size-at-requires
 size-at-requires c κs = list-group (c .args .l) (rowed _ (c .pre .0)) (c .pre .1) .inside

@@ -7,7 +7,7 @@ use Rattle.rules.proofs.AnswerLaws.{Octets}
 use Rattle.tables.proofs.TableLaws.{groups-few}
 use Rattle.tables.proofs.RuleLaws.{rules-few}
 use Rattle.layouts.proofs.OctetLaws.{octets-known}
-use Rattle.layouts.proofs.LegalLaws.{size-few, part-below, part-free, part-ruled}
+use Rattle.layouts.proofs.LegalLaws.{size-few, part-free, part-ruled}
 use borrow.Author.Needs.{needs}
 use Rattle.layouts.proofs.parts.part_legal.Statement.{statement}
 use Rattle.layouts.proofs.parts.part_legal.Tie as tie
@@ -40,10 +40,7 @@ shr-are-obeyed : tie.Need-shr-are-obeyed
 shr-are-obeyed c = search needs
 
 are-obeyed-requires : tie.Need-are-obeyed-requires
-are-obeyed-requires c κs = (
-  rules-few _ (c .before .before .before .before .before .before .pre .1) (c .before .before .before .first-rule2 .ensures),
-  part-below _ _ (c .before .before .before .before .before .before .pre .2) _ _ (c .before .size-at .ensures) (c .number-at .ensures .1),
-)
+are-obeyed-requires c κs = rules-few _ (c .before .before .before .before .before .before .pre .1) (c .before .before .before .first-rule2 .ensures)
 
 returns-2 : tie.Need-returns-2
 returns-2 c =

@@ -5,7 +5,7 @@ use native.Mathlib.Omega.{arith}
 use denote.Ref.{now}
 use lib.ListN.{length, drop, take}
 use lib.Seq.{sets}
-use Rattle.rules.specs.Layout.{joined}
+use Rattle.rules.specs.Chain.{joined}
 use Rattle.tables.specs.declared.tables.GroupRow.{GroupRow}
 use Rattle.tables.specs.Tables.{groupAt}
 use Rattle.layouts.specs.Read.{rows, count, values}

@@ -10,17 +10,17 @@ use Rattle.layouts.proofs.parts.parts_store.Statement.{statement}
 use Rattle.layouts.proofs.parts.parts_store.Tie as tie
 
 abbrev Inv-loop : tie.InvT-loop
-Inv-loop s at parts group step out₀ p₀ g₀ k₀ q₀ out p g k q = StoreParts step group parts s at out₀ p g k q out
+Inv-loop s at parts group step out₀ start p₀ g₀ k₀ q₀ out p g k q = StoreParts step group parts s at out₀ start p g k q out
 
 abbrev μ-loop : tie.MeasureT-loop
-μ-loop s at parts group step out₀ p₀ g₀ k₀ q₀ out p g k q = k
+μ-loop s at parts group step out₀ start p₀ g₀ k₀ q₀ out p g k q = k
 
 first-of : (c : tie.In-loop Inv-loop μ-loop)
     → First (c .before .before .before .args .step) (c .before .loop .g) (c .before .loop .k) (c .before .before .before .args .s .now) (c .before .loop .p)
 first-of c = first-part _ _ _ _ _ (c .loop-test .taken) (c .before .loop .inv .sound)
 
 loop-holds : tie.Need-loop-holds Inv-loop μ-loop
-loop-holds c = store-begun _ _ _ _ _ _ (c .before .pre .0 .1)
+loop-holds c = store-begun _ _ _ _ _ _ _ (c .before .pre .0 .1)
 
 part-store-requires : tie.Need-part-store-requires Inv-loop μ-loop
 part-store-requires c κs =
@@ -50,10 +50,10 @@ loop-less : tie.Need-loop-less Inv-loop μ-loop
 loop-less c = omega arith
 
 loop-again : tie.Need-loop-again Inv-loop μ-loop
-loop-again c = part-stored _ _ _ _ _ _ _ _ _ _ _ _ _ (c .before .before .before .before .before .loop .inv) (c .before .before .before .before .loop-test .taken) (c .before .group-at .ensures) (c .before .before .part-store .ensures)
+loop-again c = part-stored _ _ _ _ _ _ _ _ _ _ _ _ _ _ (c .before .before .before .before .before .loop .inv) (c .before .before .before .before .loop-test .taken) (c .before .group-at .ensures) (c .before .before .part-store .ensures)
 
 returns : tie.Need-returns Inv-loop μ-loop
-returns c = parts-stored _ _ _ _ _ _ _ _ _ _ _ (c .before .loop .inv) (c .loop-test .left)
+returns c = parts-stored _ _ _ _ _ _ _ _ _ _ _ _ (c .before .loop .inv) (c .loop-test .left)
 
 pub parts-store-spec : {M : Type 1} → statement M
 parts-store-spec =

@@ -1,7 +1,8 @@
 -- `record::measure_set` meets its contract: the items before the time and those from it on are all items. Assumes nothing.
-use Prim.Native.Nat.{_+_, _≤_}
+use Prim.Native.Nat.{_+_, _≤_, max}
 use mathlib.Core.Path.{_≡_, sym, subst, _∙_}
 use native.Mathlib.Omega.{arith}
+use lib.ListN.{length}
 use borrow.Author.Needs.{needs}
 use Rattle.sets.proofs.SetLaws.{octets-all}
 use Rattle.measuring.specs.Measure.{startOf, endOf}
@@ -53,9 +54,10 @@ sub-items-from : tie.Need-sub-items-from
 sub-items-from c = early-few _ _ (c .before .before2 .ensures)
 
 -- the time stands not far from the record's start
-near : (c : tie.After-items-from) → c .items-from .result ≤ c .before .before .before .before .before .before .before .args .from + 4_096_638
+near : (c : tie.After-items-from)
+    → c .items-from .result ≤ max (c .before .before .before .before .before .before .before .args .from) (length (c .before .before .before .before .before .before .before .args .part .now)) + 4_096_638
 near c =
-    subst (λ x. x ≤ c .before .before .before .before .before .before .before .args .from + 4_096_638) (sym (c .items-from .ensures))
+    subst (λ x. x ≤ max (c .before .before .before .before .before .before .before .args .from) (length (c .before .before .before .before .before .before .before .args .part .now)) + 4_096_638) (sym (c .items-from .ensures))
     (end-far _ (c .before .before .before .before .before .before .before .args .part .now) (octets-all (c .before .before .before .before .before .before .before .args .part .now) (c .before .before .before .before .before .before .shared-slice-known .given)) _ _)
 
 start-is : (c : tie.After-items-from) → c .items-from .result ≡ startOf (c .before .before .before .before .before .before .before .args .profile) (c .before .before .before .before .before .time-frn .result) (c .before .before .before .before .before .before .before .args .bits) (c .before .before .before .before .before .before .before .args .part .now) (c .before .before .before .before .before .before .before .args .from)

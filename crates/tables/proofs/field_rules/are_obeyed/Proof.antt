@@ -17,10 +17,10 @@ loop-holds : tie.Need-loop-holds Inv-loop μ-loop
 loop-holds c = record { same = refl }
 
 is-obeyed-requires : tie.Need-is-obeyed-requires Inv-loop μ-loop
-is-obeyed-requires c κs = (omega arith, c .before .before .pre .1)
+is-obeyed-requires c κs = omega arith
 
 returns : tie.Need-returns Inv-loop μ-loop
-returns c = asked-bad _ _ _ _ (c .before .before .before .loop .inv) (c .before .before .loop-test .taken) (c .before .before .before .before .pre .0) (c .before .is-obeyed .ensures) (not-true _ (c .if1 .taken))
+returns c = asked-bad _ _ _ _ (c .before .before .before .loop .inv) (c .before .before .loop-test .taken) (c .before .before .before .before .pre) (c .before .is-obeyed .ensures) (not-true _ (c .if1 .taken))
 
 add-i : tie.Need-add-i Inv-loop μ-loop
 add-i c = omega arith
@@ -29,10 +29,10 @@ loop-less : tie.Need-loop-less Inv-loop μ-loop
 loop-less c = omega arith
 
 loop-again : tie.Need-loop-again Inv-loop μ-loop
-loop-again c = asked-good _ _ _ _ (c .before .before .before .loop .inv) (c .before .before .loop-test .taken) (c .before .before .before .before .pre .0) (c .before .is-obeyed .ensures) (not-false _ (c .if1 .left))
+loop-again c = asked-good _ _ _ _ (c .before .before .before .loop .inv) (c .before .before .loop-test .taken) (c .before .before .before .before .pre) (c .before .is-obeyed .ensures) (not-false _ (c .if1 .left))
 
 returns-2 : tie.Need-returns-2 Inv-loop μ-loop
-returns-2 c = asked-none _ _ _ _ (c .before .loop .inv) (c .loop-test .left) (c .before .before .pre .0)
+returns-2 c = asked-none _ _ _ _ (c .before .loop .inv) (c .loop-test .left) (c .before .before .pre)
 
 pub are-obeyed-spec : {M : Type 1} → statement M
 are-obeyed-spec =
