@@ -1,11 +1,11 @@
 -- Primary octets as the code reads them, one after another, are the rules' presence octets.
 --
--- In order: flags end to end; rows of the table; presence octets one after another; the bits that they set. Assumes nothing.
+-- In order: rows of the table; presence octets one after another; the bits that they set. Assumes nothing.
 use Prim.Native.Nat.{ℕ, zero, suc, _+_, _-_, _*_, _/_, _%_, _^_, _≤_, _<_}
 use mathlib.Core.Path.{_≡_, refl, sym, ap, ap₂, _∙_, subst}
 use mathlib.Core.Logic.{⊎-elim}
 use mathlib.Core.Bool.{Bool, true, false, _&&_, false≢true}
-use mathlib.Core.Option.{Option, none, some}
+use mathlib.Core.Option.{Option}
 use mathlib.Core.List.{List, [], _∷_, _++_, map}
 use native.Mathlib.Omega.{arith}
 use lib.Dec.{T, eqb, ltb}
@@ -18,29 +18,10 @@ use Rattle.rules.specs.Format.{Format}
 use Rattle.rules.specs.Presence.{flags, number, present, usable, house, flagRows, readPresence}
 use Rattle.rules.proofs.AnswerLaws.{Octets, Only, only-bind, only-need, only-if, This, ok-inj, refused-ok, bind-in, bind-out, bind-elim, bind-same, bind-assoc, need-elim, if-inv, both-left, both-right}
 use Rattle.rules.proofs.PresenceLaws.{number-append, flags-length, flags-number, number-flags}
-use Rattle.tables.specs.Tests.{allBelow}
+use Rattle.tables.specs.Tests.{allBelow, within}
 use Rattle.tables.specs.Tables.{fields, groups, layouts, groupAt, layoutAt, primaries, primariesIn, primaryAt, primaryCount, subfieldsIn, subfieldAt, formatBy, formatIs, bitsIs, primariesIs}
-use Rattle.tables.proofs.TableLaws.{all-below}
+use Rattle.tables.proofs.TableLaws.{all-below, usable-within}
 use Rattle.compounds.specs.Compound.{Bits, known, lastOf, beforeOf, primary}
-
--- ---- flags end to end
-
--- every flag of the first list that is set is set in the second
-abbrev covers : List Bool → List Bool → Bool
-covers [] us = true
-covers (t ∷ ts) [] = false
-covers (false ∷ ts) (u ∷ us) = covers ts us
-covers (true ∷ ts) (u ∷ us) = u && covers ts us
-
-usable-covers : {P : Type 0} (ps : List (Option P)) (ts : List Bool) → length ts ≡ length ps → usable ps ts ≡ covers ts (map present ps)
-unfolding usable
-usable-covers [] [] h = refl
-usable-covers [] (t ∷ ts) h = absurd (omega arith)
-usable-covers (p ∷ ps) [] h = absurd (omega arith)
-usable-covers (none ∷ ps) (false ∷ ts) h = usable-covers ps ts (omega arith)
-usable-covers (some p ∷ ps) (false ∷ ts) h = usable-covers ps ts (omega arith)
-usable-covers (none ∷ ps) (true ∷ ts) h = refl
-usable-covers (some p ∷ ps) (true ∷ ts) h = usable-covers ps ts (omega arith)
 
 -- ---- rows of the table
 
@@ -72,16 +53,16 @@ unfolding flags number primaryAt primariesIn primaries subfieldAt subfieldsIn fo
 row-flags row h = flags-are _ _ (all-below primaryCount (λ r. sameFlags (map present (bitsIs 7 (7 * r))) (flags 7 (primaryAt r / 2))) row refl h)
 
 -- whether each of seven bits has one, by their numbers
-known-flags : (row n : ℕ) → row < primaryCount → n < 128 → known row n ≡ covers (flags 7 n) (flags 7 (primaryAt row / 2))
+known-flags : (row n : ℕ) → row < primaryCount → n < 128 → known row n ≡ within (flags 7 n) (flags 7 (primaryAt row / 2))
 unfolding flags number primaryAt primariesIn primaries layouts categories
 known-flags row n h k =
     same-is _ _
-    (all-below 128 (λ m. same (known row m) (covers (flags 7 m) (flags 7 (primaryAt row / 2)))) n
-    (all-below primaryCount (λ r. allBelow 128 (λ m. same (known r m) (covers (flags 7 m) (flags 7 (primaryAt r / 2))))) row refl h) k)
+    (all-below 128 (λ m. same (known row m) (within (flags 7 m) (flags 7 (primaryAt row / 2)))) n
+    (all-below primaryCount (λ r. allBelow 128 (λ m. same (known r m) (within (flags 7 m) (flags 7 (primaryAt r / 2))))) row refl h) k)
 
 known-usable : (row n : ℕ) → row < primaryCount → n < 128 → known row n ≡ usable (bitsIs 7 (7 * row)) (flags 7 n)
 known-usable row n h k =
-    known-flags row n h k ∙ ap (covers (flags 7 n)) (sym (row-flags row h)) ∙ sym (usable-covers (bitsIs 7 (7 * row)) (flags 7 n) (flags-length 7 n))
+    known-flags row n h k ∙ ap (within (flags 7 n)) (sym (row-flags row h)) ∙ sym (usable-within (bitsIs 7 (7 * row)) (flags 7 n) (flags-length 7 n))
 
 -- ---- presence octets one after another
 

@@ -21,11 +21,12 @@ use Rattle.rules.specs.Record.{Place, places}
 use Rattle.rules.specs.Entry.{over}
 use Rattle.rules.proofs.AnswerLaws.{bind-in, need-in, need-out, if-true, if-false, T-true, octetsOf-ok, both-left, both-right}
 use Rattle.rules.proofs.PresenceLaws.{flags-length, number-lt, number-flags, usable-length}
+use Rattle.tables.proofs.TableLaws.{usable-within}
 use Rattle.sets.specs.Sets.{categoryAt, bitsOf, frnsFrom, frnsOf, within, fspecAt}
 use Rattle.sets.specs.Steps.{usableBits, rowsLeft}
 use Rattle.sets.proofs.FlagLaws.{number-none, flags-split, over-pad, bits-tail, bits-flags, within-append, within-pad}
 use Rattle.sets.proofs.ProfileLaws.{sevens, profile-sevens, profile-short, places-few}
-use Rattle.sets.proofs.SetLaws.{usable-within, map-append}
+use Rattle.sets.proofs.SetLaws.{map-append}
 use Rattle.sets.proofs.UsableLaws.{RowsUsable, rows-few}
 
 -- ---- a set's FRNs and its flags

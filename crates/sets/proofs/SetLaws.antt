@@ -5,7 +5,7 @@ use Prim.Native.Nat.{ℕ, suc, _+_, _-_, _*_, _/_, _%_, _^_, _≤_, _<_}
 use mathlib.Core.Path.{_≡_, refl, sym, ap, ap₂, _∙_, subst}
 use mathlib.Core.Logic.{⊎-elim}
 use mathlib.Core.Bool.{Bool, true, false, _&&_, not}
-use mathlib.Core.Option.{Option, none, some}
+use mathlib.Core.Option.{Option, some}
 use mathlib.Core.List.{List, [], _∷_, _++_, map}
 use native.Mathlib.Omega.{arith}
 use native.Mathlib.Nat.{mul-le-mul-right, sub-zero}
@@ -21,6 +21,7 @@ use Rattle.rules.specs.Presence.{flags, number, present, usable, house, flagRow
 use Rattle.rules.specs.Record.{Place, places}
 use Rattle.rules.proofs.AnswerLaws.{refused-ok, ok-inj, bind-in, bind-elim, bind-assoc, if-inv, if-true, if-false, both-left, both-right, Octets, bind-same, to-end}
 use Rattle.rules.proofs.PresenceLaws.{flags-length, number-flags, number-append}
+use Rattle.tables.proofs.TableLaws.{usable-within}
 use Rattle.sets.specs.Sets.{categoryAt, bitsOf, within, setAt}
 use Rattle.sets.specs.Steps.{usableBits, ended, setFrom}
 use Rattle.sets.proofs.FlagLaws.{number-none, over-pad, bits-flags, bits-tail, within-pad, within-append}
@@ -127,16 +128,6 @@ weighed-bits ns s h =
     ∙ sym (bits-number (flatten (sevenFlags ns)) (omega arith))
 
 -- ---- which of its FRNs are usable
-
-pub usable-within : (ps : List (Option Place)) (ts : List Bool) → length ts ≡ length ps → usable ps ts ≡ within ts (map present ps)
-unfolding usable
-usable-within [] [] h = refl
-usable-within [] (t ∷ ts) h = absurd (omega arith)
-usable-within (p ∷ ps) [] h = absurd (omega arith)
-usable-within (none ∷ ps) (false ∷ ts) h = usable-within ps ts (omega arith)
-usable-within (some p ∷ ps) (false ∷ ts) h = usable-within ps ts (omega arith)
-usable-within (none ∷ ps) (true ∷ ts) h = refl
-usable-within (some p ∷ ps) (true ∷ ts) h = usable-within ps ts (omega arith)
 
 pub map-append : {A B : Type 0} (f : A → B) (xs ys : List A) → map f (xs ++ ys) ≡ map f xs ++ map f ys
 map-append f [] ys = refl

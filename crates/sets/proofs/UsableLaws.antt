@@ -17,9 +17,10 @@ use Rattle.rules.specs.Record.{Place}
 use Rattle.rules.proofs.AnswerLaws.{refused-ok, ok-inj, bind-elim, need-elim, Octets, Split, after}
 use Rattle.rules.proofs.PresenceLaws.{usable-length, presence-laws}
 use Rattle.rules.proofs.EntryLaws.{presence-count}
+use Rattle.tables.proofs.TableLaws.{usable-within}
 use Rattle.sets.specs.Sets.{categoryAt, bitsOf, within, setAt}
 use Rattle.sets.proofs.FlagLaws.{bits-lt, within-append}
-use Rattle.sets.proofs.SetLaws.{usable-within, map-append}
+use Rattle.sets.proofs.SetLaws.{map-append}
 
 -- ---- rows of flags
 

@@ -1,12 +1,14 @@
 -- Sets of FRNs as the code holds them: FRN f, 0 to 63, is bit 63 - f of a number of 64 bits, so that `flags 64` of the number has at index f
 -- whether FRN f is in the set. FRN 0 is none. Assumes nothing.
 use Prim.Native.Nat.{ℕ, suc, _-_}
-use mathlib.Core.Bool.{Bool, true, false, _&&_}
+use mathlib.Core.Bool.{Bool, true, false}
 use mathlib.Core.List.{List, [], _∷_}
 use lib.ListN.{length}
 use Rattle.rules.specs.Answer.{Answer, ok, _>>=_, need_or_then_, octetsOf}
 use Rattle.rules.specs.Chain.{flatten}
 use Rattle.rules.specs.Presence.{flags, writePresence, readPresence, allUsable, setFlags}
+-- every flag that is set in the first list is set in the second
+pub use Rattle.tables.specs.Tests.{within}
 pub use Rattle.tables.specs.Profiles.{categoryIn}
 unfoldable pub use Rattle.tables.specs.Profiles.{categoryAt, bitsOf}
 
@@ -19,14 +21,6 @@ frnsFrom f (true ∷ ts) = f ∷ frnsFrom (suc f) ts
 -- the FRNs of a set
 unfoldable pub frnsOf : ℕ → List ℕ
 frnsOf bits = frnsFrom 0 (flags 64 bits)
-
--- every flag that is set in the first list is set in the second
-abbrev pub within : List Bool → List Bool → Bool
-within [] us = true
-within (false ∷ ts) [] = within ts []
-within (true ∷ ts) [] = false
-within (false ∷ ts) (u ∷ us) = within ts us
-within (true ∷ ts) (u ∷ us) = u && within ts us
 
 -- the FSPEC that starts octets, of the category with an index: 5, 6, 7, 8
 unfoldable pub setAt : ℕ → List ℕ → Answer (ℕ × ℕ)

@@ -4,8 +4,8 @@
 use Prim.Native.Nat.{ℕ, zero, suc, _+_, _*_, _/_, _%_, _≤_, _<_}
 use mathlib.Core.Path.{_≡_, refl, sym, ap, _∙_}
 use mathlib.Core.Logic.{⊎-elim}
-use mathlib.Core.Bool.{Bool, true, _&&_}
-use mathlib.Core.Option.{Option, none}
+use mathlib.Core.Bool.{Bool, true, false, _&&_}
+use mathlib.Core.Option.{Option, none, some}
 use mathlib.Core.List.{List, [], _∷_, map}
 use native.Mathlib.Omega.{arith}
 use native.Mathlib.Nat.{le-of-suc-le-suc, not-suc-le-zero, le-trans}
@@ -19,14 +19,14 @@ use Rattle.rules.specs.Chain.{flatten}
 use Rattle.rules.specs.Format.{Group}
 use Rattle.rules.proofs.AnswerLaws.{both-left, both-right, below-or}
 use Rattle.rules.proofs.EntryLaws.{length-over}
-use Rattle.rules.specs.Presence.{present, placeAt}
+use Rattle.rules.specs.Presence.{present, usable, placeAt}
 use Rattle.rules.specs.Record.{Place, Category, places}
 use Rattle.rules.specs.Catalogue.{categories}
 use Rattle.rules.specs.Entry.{profileAt, over}
 use Rattle.tables.specs.declared.tables.GroupRow.{GroupRow}
 use Rattle.tables.specs.declared.tables.LayoutRow.{LayoutRow}
 use Rattle.tables.specs.declared.tables.FieldRow.{FieldRow}
-use Rattle.tables.specs.Tests.{allBelow}
+use Rattle.tables.specs.Tests.{allBelow, within}
 use Rattle.tables.specs.Tables.{fieldCount, groupCount, layoutCount, profileCount, frnCount, rangeCount, fields, fieldRow, noFieldRow, noGroupRow, noLayoutRow, fieldAt, ranges, least, greatest, fieldWord, fieldWords, groupWord, groupWords, layoutWord, layoutWords, layoutsIn, referencesIn, isFree, groups, layouts, groupRows, groupAt, layoutRows, formatBy, formatIs, layoutIs, layoutAt, primaries, primaryCount, subfieldsIn, subfieldAt, subfieldCount, nowhere, profileRows, placeRowAt, placeIs}
 
 -- ---- what holds of each row of a table, by one test
@@ -48,6 +48,17 @@ all-below (suc n) p j h l =
     (λ m. all-below n p j (both-right (p n) (allBelow n p) h) m)
     (λ m. let e : j ≡ n = omega arith in ap p e ∙ both-left (p n) (allBelow n p) h)
     (below-or j n)
+
+-- bits that may be set, as flags within flags
+pub usable-within : {P : Type 0} (ps : List (Option P)) (ts : List Bool) → length ts ≡ length ps → usable ps ts ≡ within ts (map present ps)
+unfolding usable
+usable-within [] [] h = refl
+usable-within [] (t ∷ ts) h = absurd (omega arith)
+usable-within (p ∷ ps) [] h = absurd (omega arith)
+usable-within (none ∷ ps) (false ∷ ts) h = usable-within ps ts (omega arith)
+usable-within (some p ∷ ps) (false ∷ ts) h = usable-within ps ts (omega arith)
+usable-within (none ∷ ps) (true ∷ ts) h = refl
+usable-within (some p ∷ ps) (true ∷ ts) h = usable-within ps ts (omega arith)
 
 -- what holds of a whole table holds of each row
 pub at-row : {A B : Type 0} (f g : A → B) (l : List A) (i : ℕ) (d : A) → f d ≡ g d → map f l ≡ map g l → f (getD l i d) ≡ g (getD l i d)
