@@ -7,6 +7,8 @@ import rows
 from rows import FRNS, PROFILES
 from tables import SIGNED, SPARE
 
+PLACES_CUT = FRNS * (len(PROFILES) - 1)  # where the places of the last category begin
+
 KINDS = {"fixed": 1, "list": 2, "led": 3, "extended": 4, "compound": 5}  # how parts lie, in `LAYOUTS`
 
 
@@ -21,6 +23,16 @@ def constant(name, kind, table):
     return ["const %s: [%s; %d] = [" % (name, kind, len(table))] + aligned(table) + ["];"]
 
 
+def constants(name, kind, table, cut):
+    """A table in two, each with its size: so many rows, and the rest."""
+    return ["const %s_CUT: usize = %d;" % (name, cut), ""] + constant(name, kind, table[:cut]) + [""] + constant("LAST_" + name, kind, table[cut:])
+
+
+def is_last(place):
+    """Whether it is of the last category."""
+    return place.profile == len(PROFILES) - 1
+
+
 # ---- crates/tables/src/tables.rt
 
 def sizes():
@@ -30,9 +42,9 @@ def sizes():
 def fields():
     range_at = {span: n for n, span in enumerate(rows.ranges())}
     holds = {SIGNED: 1, SPARE: 2}
-    return constant("FIELDS", "u16", [
+    return constants("FIELDS", "u16", [
         ("%d_%d_%02d" % (field.width, holds.get(field.kind, 0), range_at[rows.range_of(field)]), rows.named(group, field))
-        for group, field in rows.fields()])
+        for group, field in rows.fields()], sum(not is_last(group.place) for group, _ in rows.fields()))
 
 
 def ranged(group, field):
@@ -65,7 +77,7 @@ def groups():
         word = "%d_%03d_%02d_%02d_%d" % (group.place.item.octets, first, len(group.fields), values, not rows.rules_of(group))
         out.append((word, group_title(group)))
         first += len(group.fields)
-    return constant("GROUPS", "u32", out)
+    return constants("GROUPS", "u32", out, sum(not is_last(group.place) for group in rows.groups()))
 
 
 def layouts():
@@ -79,7 +91,7 @@ def layouts():
             columns = (item.least, item.greatest, group, len(item.parts))
         out.append(("%d_%d_%03d_%03d_%d" % (KINDS[item.form], *columns), rows.titled(place)))
         group, primary = group + len(item.parts), primary + len(item.primaries)
-    return constant("LAYOUTS", "u32", out)
+    return constants("LAYOUTS", "u32", out, 1 + sum(not is_last(place) for place in rows.layouts()))
 
 
 def layout_places():
@@ -89,7 +101,7 @@ def layout_places():
 
 def places():
     at = layout_places()
-    return constant("PLACES", "u8", [(str(at.get((p.profile, p.frn, 0), 0)), rows.at_frn(p)) for p in rows.places()])
+    return constants("PLACES", "u8", [(str(at.get((p.profile, p.frn, 0), 0)), rows.at_frn(p)) for p in rows.places()], PLACES_CUT)
 
 
 def primary_octets():
@@ -115,7 +127,7 @@ def subfields():
 
 
 def references():
-    return constant("REFERENCES", "u16", [(str(int(p.item.reference)) if p.item else "0", rows.at_frn(p)) for p in rows.places()])
+    return constants("REFERENCES", "u16", [(str(int(p.item.reference)) if p.item else "0", rows.at_frn(p)) for p in rows.places()], PLACES_CUT)
 
 
 # ---- crates/tables/src/field_rules.rt

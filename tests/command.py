@@ -17,7 +17,7 @@ import time
 
 root = pathlib.Path(__file__).resolve().parent.parent
 sample = (root / "samples" / "messages.rec").read_bytes()
-accepted = b"accepted 37 blocks 70 records\n"
+accepted = b"accepted 53 blocks 100 records\n"
 failures = []
 trials = 0
 

@@ -1,7 +1,7 @@
 -- What holds of the tables, by computed tests over each whole table: the rows of groups and places stand for what the rules have there.
 --
 -- In order: a test of each row; places; fields; groups; rows as one number; layouts. Assumes nothing.
-use Prim.Native.Nat.{ℕ, zero, suc, _+_, _*_, _/_, _%_, _≤_, _<_}
+use Prim.Native.Nat.{ℕ, zero, suc, _+_, _-_, _*_, _/_, _%_, _≤_, _<_}
 use mathlib.Core.Path.{_≡_, refl, sym, ap, _∙_}
 use mathlib.Core.Logic.{⊎-elim}
 use mathlib.Core.Bool.{Bool, true, false, _&&_}
@@ -11,8 +11,8 @@ use native.Mathlib.Omega.{arith}
 use native.Mathlib.Nat.{le-of-suc-le-suc, not-suc-le-zero, le-trans}
 use lib.Dec.{leb, ltb, eqb, lit≤}
 use lib.IntN.{pos}
-use lib.ListN.{length, getD, drop, replicate, length-map, List·getD-map, List·getD-append, List·getD-eq-default}
-use lib.Seq.{slice, getD-append-add}
+use lib.ListN.{length, getD, take, drop, replicate, length-map, List·getD-map, List·getD-append, List·getD-eq-default}
+use lib.Seq.{slice, getD-append-add, getD-take, getD-drop}
 use borrow.Author.Tests.{ltb-true, leb-true}
 use Rattle.rules.specs.Field.{Field}
 use Rattle.rules.specs.Chain.{flatten}
@@ -48,6 +48,13 @@ all-below (suc n) p j h l =
     (λ m. all-below n p j (both-right (p n) (allBelow n p) h) m)
     (λ m. let e : j ≡ n = omega arith in ap p e ∙ both-left (p n) (allBelow n p) h)
     (below-or j n)
+
+-- a list in two parts, the first with so many
+pub first-part : (k : ℕ) (xs : List ℕ) (i : ℕ) → i < k → getD (take k xs) i 0 ≡ getD xs i 0
+first-part k xs i h = getD-take k xs i 0 h
+
+pub last-part : (k : ℕ) (xs : List ℕ) (i : ℕ) → k ≤ i → getD (drop k xs) (i - k) 0 ≡ getD xs i 0
+last-part k xs i h = getD-drop k xs (i - k) 0 ∙ ap (λ j. getD xs j 0) (omega arith)
 
 -- bits that may be set, as flags within flags
 pub usable-within : {P : Type 0} (ps : List (Option P)) (ts : List Bool) → length ts ≡ length ps → usable ps ts ≡ within ts (map present ps)

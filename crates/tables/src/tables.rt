@@ -74,7 +74,9 @@ pub const FRNS: usize = 36;
 
 // Fields: bits _ what it holds _ the place of its range.
 // ---- made by model/make.py: FIELDS
-const FIELDS: [u16; 275] = [
+const FIELDS_CUT: usize = 114;
+
+const FIELDS: [u16; 114] = [
     8_0_00, //  I017/010  5.2.2   SAC
     8_0_00, //  I017/010  5.2.2   SIC
     8_0_00, //  I017/012  5.2.3   SAC
@@ -189,6 +191,9 @@ const FIELDS: [u16; 275] = [
     1_0_06, //  I018/012  5.2.12  FS
     7_0_20, //  I018/012  5.2.12  CQF
     8_0_00, //  I018/013  5.2.13  CQF calculation method
+];
+
+const LAST_FIELDS: [u16; 161] = [
     8_0_00, //  I061/010  5.2.2   SAC
     8_0_00, //  I061/010  5.2.2   SIC
     4_0_11, //  I061/000  5.2.1   family
@@ -421,7 +426,9 @@ const GREATEST: [i64; 27] = [
 
 // Groups: octets _ place of the first field _ how many fields _ how many values _ whether it is free.
 // ---- made by model/make.py: GROUPS
-const GROUPS: [u32; 106] = [
+const GROUPS_CUT: usize = 52;
+
+const GROUPS: [u32; 52] = [
     2_000_02_02_1, // I017/010  5.2.2   Data Source Identifier
     2_002_02_02_1, // I017/012  5.2.3   Data Destination Identifier
     1_004_01_01_1, // I017/000  5.2.1   Message Type
@@ -474,6 +481,9 @@ const GROUPS: [u32; 106] = [
     2_110_01_01_1, // I018/035  5.2.33  Aircraft Heading
     1_111_02_02_1, // I018/012  5.2.12  Aircraft Coverage Quality Factor
     1_113_01_01_1, // I018/013  5.2.13  Aircraft CQF Calculation Method
+];
+
+const LAST_GROUPS: [u32; 54] = [
     2_114_02_02_1, // I061/010  5.2.2   SDPS Identification
     1_116_02_02_1, // I061/000  5.2.1   Message Type
     1_118_01_01_1, // I061/012  5.2.3   User Identification
@@ -533,7 +543,9 @@ const GROUPS: [u32; 106] = [
 
 // Layouts: how the parts lie _ the least _ and the greatest number of parts _ place of the first group _ how many groups.
 // ---- made by model/make.py: LAYOUTS
-const LAYOUTS: [u32; 102] = [
+const LAYOUTS_CUT: usize = 51;
+
+const LAYOUTS: [u32; 51] = [
     0, //             no item
     1_1_001_000_1, // I017/010  5.2.2   Data Source Identifier
     1_1_001_001_1, // I017/012  5.2.3   Data Destination Identifier
@@ -585,6 +597,9 @@ const LAYOUTS: [u32; 102] = [
     1_1_001_049_1, // I018/035  5.2.33  Aircraft Heading
     1_1_001_050_1, // I018/012  5.2.12  Aircraft Coverage Quality Factor
     1_1_001_051_1, // I018/013  5.2.13  Aircraft CQF Calculation Method
+];
+
+const LAST_LAYOUTS: [u32; 51] = [
     1_1_001_052_1, // I061/010  5.2.2   SDPS Identification
     1_1_001_053_1, // I061/000  5.2.1   Message Type
     1_1_001_054_1, // I061/012  5.2.3   User Identification
@@ -641,7 +656,9 @@ const LAYOUTS: [u32; 102] = [
 
 // Places: the place of the layout.
 // ---- made by model/make.py: PLACES
-const PLACES: [u8; 108] = [
+const PLACES_CUT: usize = 72;
+
+const PLACES: [u8; 72] = [
     0, //  FRN 0   no item
     1, //  FRN 1   I017/010  5.2.2   Data Source Identifier
     2, //  FRN 2   I017/012  5.2.3   Data Destination Identifier
@@ -714,6 +731,9 @@ const PLACES: [u8; 108] = [
     48, // FRN 33  I018/035  5.2.33  Aircraft Heading
     49, // FRN 34  I018/012  5.2.12  Aircraft Coverage Quality Factor
     50, // FRN 35  I018/013  5.2.13  Aircraft CQF Calculation Method
+];
+
+const LAST_PLACES: [u8; 36] = [
     0, //  FRN 0   no item
     51, // FRN 1   I061/010  5.2.2   SDPS Identification
     52, // FRN 2   I061/000  5.2.1   Message Type
@@ -755,7 +775,9 @@ const PLACES: [u8; 108] = [
 
 // Places: the number after the slash of the reference.
 // ---- made by model/make.py: REFERENCES
-const REFERENCES: [u16; 108] = [
+const REFERENCES_CUT: usize = 72;
+
+const REFERENCES: [u16; 72] = [
     0, //   FRN 0   no item
     10, //  FRN 1   I017/010  5.2.2   Data Source Identifier
     12, //  FRN 2   I017/012  5.2.3   Data Destination Identifier
@@ -828,6 +850,9 @@ const REFERENCES: [u16; 108] = [
     35, //  FRN 33  I018/035  5.2.33  Aircraft Heading
     12, //  FRN 34  I018/012  5.2.12  Aircraft Coverage Quality Factor
     13, //  FRN 35  I018/013  5.2.13  Aircraft CQF Calculation Method
+];
+
+const LAST_REFERENCES: [u16; 36] = [
     0, //   FRN 0   no item
     10, //  FRN 1   I061/010  5.2.2   SDPS Identification
     0, //   FRN 2   I061/000  5.2.1   Message Type
@@ -928,12 +953,17 @@ const SUBFIELDS: [u8; 42] = [
 // ---- end of what is made
 
 // ---- the rows
+//
+// A constant array is written out where it is read; so that the last category's rows cost the others nothing, the long tables are in two.
 
 fn field_word(place: usize) -> u16
     requires { ⌜ place < fieldCount ⌝ }
     ensures { λ r. ⌜ r ≡ getD fieldWords place 0 ⌝ }
 {
-    FIELDS[place]
+    if place < FIELDS_CUT {
+        return FIELDS[place];
+    }
+    LAST_FIELDS[place - FIELDS_CUT]
 }
 
 fn least_at(place: usize) -> i64
@@ -954,28 +984,40 @@ fn group_word(place: usize) -> u32
     requires { ⌜ place < groupCount ⌝ }
     ensures { λ r. ⌜ r ≡ getD groupWords place 0 ⌝ }
 {
-    GROUPS[place]
+    if place < GROUPS_CUT {
+        return GROUPS[place];
+    }
+    LAST_GROUPS[place - GROUPS_CUT]
 }
 
 fn layout_word(place: usize) -> u32
     requires { ⌜ place < layoutCount ⌝ }
     ensures { λ r. ⌜ r ≡ getD layoutWords place 0 ⌝ }
 {
-    LAYOUTS[place]
+    if place < LAYOUTS_CUT {
+        return LAYOUTS[place];
+    }
+    LAST_LAYOUTS[place - LAYOUTS_CUT]
 }
 
 fn layout_in(place: usize) -> u8
     requires { ⌜ place < placeCount ⌝ }
     ensures { λ r. ⌜ r ≡ getD layoutsIn place 0 ⌝ }
 {
-    PLACES[place]
+    if place < PLACES_CUT {
+        return PLACES[place];
+    }
+    LAST_PLACES[place - PLACES_CUT]
 }
 
 fn reference_in(place: usize) -> u16
     requires { ⌜ place < placeCount ⌝ }
     ensures { λ r. ⌜ r ≡ getD referencesIn place 0 ⌝ }
 {
-    REFERENCES[place]
+    if place < REFERENCES_CUT {
+        return REFERENCES[place];
+    }
+    LAST_REFERENCES[place - REFERENCES_CUT]
 }
 
 fn primary_in(place: usize) -> u8
