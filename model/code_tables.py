@@ -7,6 +7,8 @@ import rows
 from rows import FRNS, PROFILES
 from tables import SIGNED, SPARE
 
+PLACES_CUT = FRNS * (len(PROFILES) - 1)  # where the places of the last category begin
+
 KINDS = {"fixed": 1, "list": 2, "led": 3, "extended": 4, "compound": 5}  # how parts lie, in `LAYOUTS`
 
 
@@ -21,17 +23,17 @@ def constant(name, kind, table):
     return ["const %s: [%s; %d] = [" % (name, kind, len(table))] + aligned(table) + ["];"]
 
 
-def arms(table):
-    """A table as the arms of a match, by place."""
-    return aligned([("%d => %s" % (place, word), says) for place, (word, says) in enumerate(table)], 8)
+def constants(name, kind, table, cut):
+    """A table in two, each with its size: so many rows, and the rest."""
+    return ["const %s_CUT: usize = %d;" % (name, cut), ""] + constant(name, kind, table[:cut]) + [""] + constant("LAST_" + name, kind, table[cut:])
 
 
-def lines(line, arms):
-    """The proof of a match has the same line for each arm, and the tool asks for one by one."""
-    return [line % arm for arm in range(1, 1 + arms)]
+def is_last(place):
+    """Whether it is of the last category."""
+    return place.profile == len(PROFILES) - 1
 
 
-# ---- crates/tables/src/tables.rt: of a table its rows, each a word and what stands beside it
+# ---- crates/tables/src/tables.rt
 
 def sizes():
     return ["pub const PROFILES: usize = %d;" % len(PROFILES), "", "pub const FRNS: usize = %d;" % FRNS]
@@ -40,8 +42,9 @@ def sizes():
 def fields():
     range_at = {span: n for n, span in enumerate(rows.ranges())}
     holds = {SIGNED: 1, SPARE: 2}
-    return [("%d_%d_%02d" % (field.width, holds.get(field.kind, 0), range_at[rows.range_of(field)]), rows.named(group, field))
-            for group, field in rows.fields()]
+    return constants("FIELDS", "u16", [
+        ("%d_%d_%02d" % (field.width, holds.get(field.kind, 0), range_at[rows.range_of(field)]), rows.named(group, field))
+        for group, field in rows.fields()], sum(not is_last(group.place) for group, _ in rows.fields()))
 
 
 def ranged(group, field):
@@ -55,11 +58,11 @@ def ranged(group, field):
 
 
 def least():
-    return [(str(low), ranged(*first)) for (low, _), first in rows.ranges().items()]
+    return constant("LEAST", "i64", [(str(low), ranged(*first)) for (low, _), first in rows.ranges().items()])
 
 
 def greatest():
-    return [(str(high), ranged(*first)) for (_, high), first in rows.ranges().items()]
+    return constant("GREATEST", "i64", [(str(high), ranged(*first)) for (_, high), first in rows.ranges().items()])
 
 
 def group_title(group):
@@ -74,7 +77,7 @@ def groups():
         word = "%d_%03d_%02d_%02d_%d" % (group.place.item.octets, first, len(group.fields), values, not rows.rules_of(group))
         out.append((word, group_title(group)))
         first += len(group.fields)
-    return out
+    return constants("GROUPS", "u32", out, sum(not is_last(group.place) for group in rows.groups()))
 
 
 def layouts():
@@ -88,7 +91,7 @@ def layouts():
             columns = (item.least, item.greatest, group, len(item.parts))
         out.append(("%d_%d_%03d_%03d_%d" % (KINDS[item.form], *columns), rows.titled(place)))
         group, primary = group + len(item.parts), primary + len(item.primaries)
-    return out
+    return constants("LAYOUTS", "u32", out, 1 + sum(not is_last(place) for place in rows.layouts()))
 
 
 def layout_places():
@@ -98,7 +101,7 @@ def layout_places():
 
 def places():
     at = layout_places()
-    return [("%d_%03d" % (at[p.profile, p.frn, 0], int(p.item.reference)) if p.item else "0", rows.at_frn(p)) for p in rows.places()]
+    return constants("PLACES", "u8", [(str(at.get((p.profile, p.frn, 0), 0)), rows.at_frn(p)) for p in rows.places()], PLACES_CUT)
 
 
 def primary_octets():
@@ -111,7 +114,7 @@ def primaries():
     for place, n, row in primary_octets():
         bits = sum(128 >> bit for bit, some in enumerate(row) if some)
         out.append(("0x%02X" % bits, "%s  octet %d: %s" % (rows.cited(place), n, ", ".join("#%d" % some.number for some in row if some))))
-    return out
+    return constant("PRIMARIES", "u8", out)
 
 
 def subfields():
@@ -120,25 +123,33 @@ def subfields():
         for bit, some in enumerate(row):
             says = rows.numbered(some) + some.title if some else "none"
             out.append((str(at[place.profile, place.frn, some.number] if some else 0), "%s  octet %d, bit %d  %s" % (rows.cited(place), n, 8 - bit, says)))
-    return out
+    return constant("SUBFIELDS", "u8", out)
 
 
-# ---- crates/tables/src/field_rules.rt: the same
+def references():
+    return constants("REFERENCES", "u16", [(str(int(p.item.reference)) if p.item else "0", rows.at_frn(p)) for p in rows.places()], PLACES_CUT)
 
-def rules(word):
-    return [(word(rule), rows.named(group, rule.field)) for group in rows.groups() for rule in rows.rules_of(group)]
+
+# ---- crates/tables/src/field_rules.rt
+
+def rules(name, kind, word):
+    return constant(name, kind, [(word(rule), rows.named(group, rule.field)) for group in rows.groups() for rule in rows.rules_of(group)])
 
 
 def field_rules():
-    return rules(lambda rule: "%d_%02d" % (rule.shift, rule.width))
+    return rules("RULES", "u16", lambda rule: "%d_%02d" % (rule.shift, rule.width))
 
 
 def added():
-    return rules(lambda rule: str(rule.added))
+    return rules("ADDED", "u32", lambda rule: str(rule.added))
 
 
 def limits():
-    return rules(lambda rule: str(rule.limit))
+    return rules("LIMITS", "u32", lambda rule: str(rule.limit))
+
+
+def group_sizes():
+    return constant("SIZES", "u8", [(str(group.place.item.octets), group_title(group)) for group in rows.groups()])
 
 
 def first_rules():
@@ -146,10 +157,28 @@ def first_rules():
     for group in rows.groups():
         out.append((str(first), group_title(group)))
         first += len(rows.rules_of(group))
-    return out + [(str(first), "the end")]
+    return constant("FIRST_RULES", "u8", out + [(str(first), "the end")])
+
+
+def single():
+    group_at = {(group.place.profile, group.place.frn): n for n, group in reversed(list(enumerate(rows.groups())))}
+    out = []
+    for place in rows.places():
+        word = 0
+        if place.item and place.item.form == "fixed":
+            word = place.item.octets if rows.all_free(place) else 8 + group_at[place.profile, place.frn]
+        out.append((str(word), rows.at_frn(place)))
+    return constant("SINGLE", "u8", out)
 
 
 # ---- crates/tables/src/profiles.rt and specs/Tables.antt
+
+def short(name, kind, words):
+    """A table of few words, as `rt fmt` has it: in one line where they take 60 columns at most, else each in its own."""
+    text = ", ".join(words)
+    head = "const %s: [%s; %d] = [" % (name, kind, len(words))
+    return [head + text + "];"] if len(text) <= 60 else [head] + ["    %s," % word for word in words] + ["];"]
+
 
 def usable(profile):
     return rows.quads(rows.bits(place.frn for place in rows.places_of(profile) if place.item))
@@ -160,17 +189,17 @@ def untimed(category):
     return "0x%02X" % (1 + category.untimed[0]) if category.untimed else "0"
 
 
-def profile_rows():
-    out = []
-    for profile, category in enumerate(PROFILES):
-        columns = [("cat", category.number), ("octets", category.octets), ("usable", usable(profile)),
-                   ("kind", rows.type_frn(profile)), ("time", rows.time_frn(profile)), ("untimed", untimed(category))]
-        out += ["%d => ProfileRow {" % profile] + ["    %s: %s," % column for column in columns] + ["},"]
-    return [" " * 8 + line for line in out]
-
-
-def profile_lines():
-    return lines("    (λ c. arm profileRowAt (c .match .keys%d) refl)", len(PROFILES))
+def profiles():
+    each = range(len(PROFILES))
+    columns = [
+        short("CATS", "u8", [str(category.number) for category in PROFILES]),
+        short("OCTETS", "u8", [str(category.octets) for category in PROFILES]),
+        short("USABLE", "u64", [usable(profile) for profile in each]),
+        short("KINDS", "u8", [str(rows.type_frn(profile)) for profile in each]),
+        short("TIMES", "u8", [str(rows.time_frn(profile)) for profile in each]),
+        short("UNTIMED", "u8", [untimed(category) for category in PROFILES]),
+    ]
+    return columns[0] + [line for some in columns[1:] for line in [""] + some]
 
 
 def number_spec(name, number):
@@ -195,8 +224,10 @@ def messages():
     return [" " * 8 + line for line in out]
 
 
-def message_lines():
-    return lines("    (λ c. row-key _ _ (c .before .before .fits .kind .fits) (c .match .keys%d))", sum(len(category.messages) for category in PROFILES))
+def message_arms():
+    """The proof has the same line for each arm of the match, and the tool asks for one by one."""
+    line = "    (λ c. row-key _ _ (c .before .before .fits .kind .fits) (c .match .keys%d))"
+    return [line % arm for arm in range(1, 1 + sum(len(category.messages) for category in PROFILES))]
 
 
 # ---- crates/lengths
@@ -240,6 +271,7 @@ def sums_arms():
 
 
 def sums_lines():
-    """That the table of an arm passes the test, and then that the answer is the callee's."""
-    count = len(list(fspec_octets()))
-    return lines("    (λ c κs. exact-at _ (c .match .keys%d) refl)", count) + ["    (λ c. search needs)"] * count
+    """The proof has the same lines for each arm of the match, and the tool asks for one by one: that the
+    table passes the test, and then that the answer is the callee's."""
+    arms = [1 + arm for arm, _ in enumerate(fspec_octets())]
+    return ["    (λ c κs. exact-at _ (c .match .keys%d) refl)" % arm for arm in arms] + ["    (λ c. search needs)" for _ in arms]

@@ -34,9 +34,9 @@ ROOT = pathlib.Path(__file__).resolve().parents[1]
 Region = namedtuple("Region", "file name lines")
 
 TABLES = "crates/tables/src/tables.rt"
+FIELD_RULES = "crates/tables/src/field_rules.rt"
 TABLES_SPECS = "crates/tables/specs/Tables.antt"
 PROFILES = "crates/tables/src/profiles.rt"
-PROFILES_PROOF = "crates/tables/proofs/profiles/profile_row/Proof.antt"
 MESSAGES = "crates/sets/src/messages.rt"
 MESSAGES_PROOF = "crates/sets/proofs/messages/row_of/Proof.antt"
 SUMS = "crates/lengths/src/sums.rt"
@@ -44,45 +44,29 @@ SUMS_PROOF = "crates/lengths/proofs/sums/sum_at/Proof.antt"
 QUICK_ITEMS = "crates/quick_items/src/lib.rt"
 LENT = "crates/quick_records/src/lent.rt"
 LENT_SPECS = "crates/quick_records/specs/Record.antt"
-TYPE_SETS = "crates/quick_records/src/record.rt"
-TYPE_SETS_PROOF = "crates/quick_records/proofs/record/sets_of/Proof.antt"
 SHAPES = "crates/measuring/src/shape.rt"
 
-# A table that is a match with an arm to a row, by the name of its function: the rows, the list that the proof holds them to, and what the list has past its end.
-Table = namedtuple("Table", "module name rows list none", defaults=["0"])
-
-TABLES_BY_MATCH = [
-    Table("tables", "field_word", code.fields, "fieldWords"),
-    Table("tables", "least_at", code.least, "least", "(pos 0)"),
-    Table("tables", "greatest_at", code.greatest, "greatest", "(pos 0)"),
-    Table("tables", "group_word", code.groups, "groupWords"),
-    Table("tables", "layout_word", code.layouts, "layoutWords"),
-    Table("tables", "place_word", code.places, "placeWords"),
-    Table("tables", "primary_in", code.primaries, "primariesIn"),
-    Table("tables", "subfield_in", code.subfields, "subfieldsIn"),
-    Table("field_rules", "rule_word", code.field_rules, "ruleWords"),
-    Table("field_rules", "added_at", code.added, "addedTo"),
-    Table("field_rules", "limit_at", code.limits, "limits"),
-    Table("field_rules", "first_in", code.first_rules, "(firstRules 0 groups)"),
-]
-
-
-def by_match(table):
-    """The arms of the code, and of the proof a line to each."""
-    line = "    (λ c. in-arm %s %s (c .match .keys%%d) refl)" % (table.list, table.none)
-    return [
-        Region("crates/tables/src/%s.rt" % table.module, table.name, lambda: code.arms(table.rows())),
-        Region("crates/tables/proofs/%s/%s/Proof.antt" % (table.module, table.name), "a line to an arm", lambda: code.lines(line, len(table.rows()))),
-    ]
-
-
-REGIONS = [region for table in TABLES_BY_MATCH for region in by_match(table)] + [
+REGIONS = [
     Region(TABLES, "PROFILES, FRNS", code.sizes),
+    Region(TABLES, "FIELDS", code.fields),
+    Region(TABLES, "LEAST", code.least),
+    Region(TABLES, "GREATEST", code.greatest),
+    Region(TABLES, "GROUPS", code.groups),
+    Region(TABLES, "LAYOUTS", code.layouts),
+    Region(TABLES, "PLACES", code.places),
+    Region(TABLES, "REFERENCES", code.references),
+    Region(TABLES, "PRIMARIES", code.primaries),
+    Region(TABLES, "SUBFIELDS", code.subfields),
+    Region(FIELD_RULES, "RULES", code.field_rules),
+    Region(FIELD_RULES, "ADDED", code.added),
+    Region(FIELD_RULES, "LIMITS", code.limits),
+    Region(FIELD_RULES, "SIZES", code.group_sizes),
+    Region(FIELD_RULES, "FIRST_RULES", code.first_rules),
+    Region(FIELD_RULES, "SINGLE", code.single),
     Region(TABLES_SPECS, "profileCount, frnCount", code.profile_counts),
-    Region(PROFILES, "profile_row", code.profile_rows),
-    Region(PROFILES_PROOF, "a line to an arm", code.profile_lines),
+    Region(PROFILES, "the columns of profiles", code.profiles),
     Region(MESSAGES, "the rows of message types", code.messages),
-    Region(MESSAGES_PROOF, "a line to an arm", code.message_lines),
+    Region(MESSAGES_PROOF, "a line to an arm", code.message_arms),
     Region(SUMS, "a table to an octet", code.sums),
     Region(SUMS, "an arm to a table", code.sums_arms),
     Region(SUMS_PROOF, "a line to an arm", code.sums_lines),
@@ -91,8 +75,6 @@ REGIONS = [region for table in TABLES_BY_MATCH for region in by_match(table)] + 
     Region(LENT_SPECS, "kindCount, rowCount", quick.lent_sizes_spec),
     Region(LENT, "TYPES", quick.types),
     Region(LENT, "SETS", quick.sets),
-    Region(TYPE_SETS, "the sets of message types", quick.set_arms),
-    Region(TYPE_SETS_PROOF, "a line to an arm", quick.set_lines),
     Region(SHAPES, "SHAPES", quick.measured_shapes),
 ]
 

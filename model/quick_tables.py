@@ -14,7 +14,7 @@ import re
 from collections import namedtuple
 
 import rows
-from code_tables import aligned, lines, number_spec
+from code_tables import aligned, number_spec
 from rows import PROFILES
 
 CRATES = pathlib.Path(__file__).resolve().parents[1] / "crates"
@@ -110,12 +110,10 @@ class Rules:
         return row
 
     def rows(self, which):
-        """The first or the second words of all, each in two numbers, the lower one first."""
+        """The first or the second words of all."""
         out = [(words[which], "; ".join(says)) for words, says in zip(self.words, self.says)]
         out += [(ANY_BITS[which], "none: any bits")] * (RULES - len(out))
-        return [row for n, (word, says) in enumerate(out) for row in (
-            ("0x%04X" % (word & 0xFFFF), "rule %X   %02X_%06X  %s" % (n, word >> 24, word & 0xFFFFFF, says)),
-            ("0x%02X_%02X" % (word >> 24, word >> 16 & 0xFF), "rule %X" % n))]
+        return [("0x%02X_%06X" % (word >> 24, word & 0xFFFFFF), "rule %X   %s" % (n, says)) for n, (word, says) in enumerate(out)]
 
 
 def step(place, rules):
@@ -137,7 +135,7 @@ def steps():
     return aligned(out + rules.rows(0) + rules.rows(1), 8)
 
 
-# ---- message types and their sets, crates/quick_records/src/lent.rt and record.rt
+# ---- message types and their sets, crates/quick_records/src/lent.rt
 
 KINDS = 1 + max(message.number for category in PROFILES for message in category.messages)
 ROWS = 1 + max(len(category.messages) for category in PROFILES)
@@ -199,28 +197,19 @@ def types():
     return ["const TYPES: Types = ["] + list(type_rows()) + list(first_octets()) + list(type_places()) + ["];"]
 
 
-def type_sets(profile):
-    """What each message type of a profile must have, what it must or may have, and its name: ROWS of them,
-    the first of which is no type's."""
+def set_rows(profile):
+    """The sets of a profile's message types, ROWS pairs of them, the first of which is no type's."""
     category = PROFILES[profile]
-    out = [("0", "0", "category %03d: no message type" % category.number)]
+    out = ["    0, // category %03d: no message type" % category.number, "    0,"]
     for message in category.messages:
         must, may = map(rows.quads, rows.must_and_may(profile, message))
-        out.append((must, may, "I%03d/000 type %s  %s" % (category.number, rows.kind(category, message.number), rows.message_name(message))))
-    return out + [("0", "0", "category %03d: no more" % category.number)] * (ROWS - len(out))
-
-
-def set_arms():
-    sets = [row for profile in range(len(PROFILES)) for row in type_sets(profile)]
-    return ["        %d => TypeSets(%s, %s), // %s" % (row, must, may, says) for row, (must, may, says) in enumerate(sets)]
-
-
-def set_lines():
-    return lines("    (λ c. in-arm typeSets (0, 0) (c .match .keys%d) refl)", len(PROFILES) * ROWS)
+        out += ["    %s, // I%03d/000 type %s  %s" % (must, category.number, rows.kind(category, message.number), rows.message_name(message)), "    %s," % may]
+    over = 2 * ROWS - len(out)
+    return out + ["    0, // category %03d: no more" % category.number] * (over > 0) + ["    0,"] * (over - 1)
 
 
 def sets():
-    return ["const SETS: Sets = ["] + shape_lines(checked) + ["];"]
+    return ["const SETS: Sets = ["] + [line for profile in range(len(PROFILES)) for line in set_rows(profile)] + shape_lines(checked) + ["];"]
 
 
 # ---- shapes: FSPECs that are legal for some message type of at most six optional items; each stands where

@@ -8,9 +8,10 @@ use mathlib.Core.Logic.{⊎_elim}
 use mathlib.Core.Option.{Option, none, some}
 use mathlib.Core.List.{List, []}
 use native.Mathlib.Omega.{arith}
+use native.Mathlib.Nat.{add-zero}
 use lib.Dec.{eqb, lit<}
 use lib.ListN.{length, get_or, drop, get_or-map}
-use borrow.Author.Tests.{le-leb, lt-leb, eqb-true}
+use borrow.Author.Tests.{le-leb, lt-leb, lt-ltb, eqb-true}
 use Rattle.rules.specs.Answer.{ok, refused, ◌>>=◌, need◌or◌then◌, expect◌or◌}
 use Rattle.rules.specs.Layout.{Layout, readItem}
 use Rattle.rules.specs.Presence.{placeAt}
@@ -22,12 +23,12 @@ use Rattle.tables.specs.declared.tables.PlaceRow.{PlaceRow}
 use Rattle.tables.specs.Tables.{groupCount, layoutCount, profileCount, frnCount, groupAt, layoutIs, layoutAt, nowhere, profileRows, placeRowAt, placeIs}
 use Rattle.tables.specs.FieldRules.{singleOf, singles}
 use Rattle.tables.proofs.TableLaws.{place_is, place-row, place_none}
-use Rattle.layouts.specs.Read.{rows_at, part_at, legal, partSound, partsSound, partsLegal, faultAt, need◌or◌further◌then◌, Shaped, step_of, shape_by, shape_of, wholeOf, wholeSize, rowSound, singleSize}
+use Rattle.layouts.specs.Read.{rows_at, part_at, legal, span, partSound, partsSound, partsLegal, faultAt, need◌or◌further◌then◌, Shaped, step_of, shape_by, shape_of, wholeOf, wholeSize, rowSound, singleSize}
 use Rattle.layouts.proofs.PartLaws.{First, first_part}
 use Rattle.layouts.proofs.ReadLaws.{le-or-lt}
-use Rattle.layouts.proofs.ShapeLaws.{Rowed, rowed, fixed-one, fixed-there}
+use Rattle.layouts.proofs.ShapeLaws.{Rowed, rowed, fixed-one, fixed-short, fixed-cut, fixed-there}
 use Rattle.layouts.proofs.SoundLaws.{layout-sound}
-use Rattle.layouts.proofs.WholeLaws.{equal-free}
+use Rattle.layouts.proofs.WholeLaws.{whole-stopped, equal-free}
 use Rattle.compounds.specs.Compound.{Told, itemSize, itemSound}
 use Rattle.compounds.proofs.ItemLaws.{item-told, no_row, row-item}
 use Rattle.compounds.proofs.SizeLaws.{whole_item, no_whole}
@@ -66,7 +67,17 @@ pub record Free (l : LayoutRow) (n : ℕ) : Type 0 where
   pub free : (groupAt l.first).free ≡ true
   pub size : (groupAt l.first).octets ≡ n
 
--- the number in the table says it
+-- the number in the table says which
+pub single_of : (l : LayoutRow) (n : ℕ) → rowSound l ≡ true → n ≡ singleOf l → 8 ≤ n → Single l (n - 8)
+single_of l n s e h = go (eqb l.kind 1) refl (groupAt l.first).free e
+  where
+    go : (t : Bool) → eqb l.kind 1 ≡ t → (u : Bool) → n ≡ cond t (cond u (groupAt l.first).octets (8 + l.first)) 0 → Single l (n - 8)
+    go true q true r =
+        let k : l.kind ≡ 1 = eqb-true l.kind 1 q in
+        absurd (omega (arith, fixed-short l (rowed l s) k))
+    go true q false r = record { kind = eqb-true l.kind 1 q; group = omega arith }
+    go false q u r = absurd (omega arith)
+
 pub free_of : (l : LayoutRow) (n : ℕ) → n ≡ singleOf l → 0 < n → n < 8 → Free l n
 free_of l n e h k = go (eqb l.kind 1) refl (groupAt l.first).free refl e
   where
@@ -80,8 +91,16 @@ pub check-whole : (l : LayoutRow) (bs : List ℕ) (c long : ℕ) → ok (c, long
 unfolding wholeSize ◌>>=◌
 check-whole l bs c long e = rw (← e)
 
+-- an item with one part is not compound
+pub one-part : (l : LayoutRow) (bs : List ℕ) → l.kind ≡ 1 → wholeSize l bs ≡ itemSize l bs
+one-part l bs h = whole_item l bs (λ e. absurd (omega (arith, h, e)))
+
 -- it needs no look
 module _ (l : LayoutRow) (n : ℕ) (bs : List ℕ) (s : rowSound l ≡ true) (o : Octets bs) (f : Free l n) where
+  pub free-cut : length bs < n → refused 9 0 ≡ wholeSize l bs
+  unfolding wholeSize ◌>>=◌
+  free-cut h = sym (rw (whole-stopped l bs 9 0 (sym (fixed-cut l bs f.kind (sym f.size) h))))
+
   pub free-there : n ≤ length bs → ok n ≡ wholeSize l bs
   free-there h =
       check-whole l bs 1 n
@@ -108,10 +127,23 @@ single-sound l g s h =
     subst (λ x. (x < groupCount) × (partSound 0 (groupAt x) ≡ true)) h.group (f.inside, f.sound)
 
 module _ (g : ℕ) (bs : List ℕ) {m : ℕ} (em : m ≡ (groupAt g).octets) where
+  pub single-cut : length bs < m → refused 9 0 ≡ singleSize g bs
+  unfolding singleSize need◌or◌then◌
+  single-cut h = rw (← em, lt-leb m (length bs) h)
+
   module _ (h : m ≤ length bs) {t : Bool} (et : t ≡ legal (rows_at g) (part_at 0 g (drop 0 bs))) where
     pub single-legal : t ≡ true → ok m ≡ singleSize g bs
     unfolding singleSize need◌or◌then◌ need◌or◌further◌then◌
     single-legal e = let d : legal (rows_at g) (part_at 0 g bs) ≡ true = sym et ∙ e in rw (le-leb (groupAt g).octets (length bs) (omega arith), d, em)
+
+    pub single-barred : t ≡ false → {p : ℕ} → p ≡ faultAt 0 g 1 0 bs → refused 11 p ≡ singleSize g bs
+    unfolding singleSize need◌or◌then◌ need◌or◌further◌then◌
+    single-barred e ep = let d : legal (rows_at g) (part_at 0 g bs) ≡ false = sym et ∙ e in rw (le-leb (groupAt g).octets (length bs) (omega arith), d, ep)
+
+    -- what the place of the fault asks
+    pub single-walk : partSound 0 (groupAt g) ≡ true → g < groupCount → (partsSound 0 g 1 ≡ true) × (0 + span 0 g 1 ≤ length bs)
+    unfolding partsSound span
+    single-walk s k = (rw (lt-ltb g groupCount k, s), omega (arith, add-zero (groupAt g).octets))
 
 -- ---- the place of an item
 

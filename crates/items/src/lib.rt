@@ -1,18 +1,21 @@
 // One item of categories 017, 018 and 061, over its layout: where a profile has it, its check, and its fields read.
-ghost use Rattle.std.specs.Prelude.{◌≡◌, ◌<◌, ◌+◌};
+ghost use Rattle.std.specs.Prelude.{◌≡◌, true, ◌<◌, ◌+◌};
 ghost use Rattle.rules.specs.Chain.{flatten};
 ghost use Rattle.rules.specs.Presence.{placeAt};
 ghost use Rattle.rules.specs.Answer.{expect◌or◌};
 ghost use Rattle.rules.specs.Catalogue.{categories};
 ghost use Rattle.rules.specs.Entry.{profileAt, layout_of, readOne, leaves};
-ghost use Rattle.tables.specs.Tables.{layoutCount, placeCount, placeIs, layoutIs, layoutAt, placeRowAt};
+ghost use Rattle.tables.specs.Tables.{groupCount, layoutCount, placeCount, placeIs, layoutIs, layoutAt, groupAt, placeRowAt};
 ghost use Rattle.tables.specs.Places.{isNamed, frnAs};
+ghost use Rattle.layouts.specs.Read.{partSound, singleSize};
 ghost use Rattle.compounds.specs.Compound.{itemSize};
 ghost use Rattle.items.specs.Answers.{referenceIn, frnOf, placeRow, rowNamed, checkedOf, checkAt, read_of, count_of};
 
 use compounds::{item_fields, item_of};
-use layouts::Shape;
-use tables::{FRNS, PROFILES, PlaceRow, layout_at, layout_row, place_at, profile_of};
+use layouts::{Shape, fault_at, part_legal};
+use tables::{
+    FRNS, PROFILES, PlaceRow, layout_at, layout_row, place_at, profile_of, single_at, size_at,
+};
 
 // ---- where an item stands
 
@@ -86,11 +89,45 @@ pub enum ItemCheck {
     Refused { number: u8, place: usize },
 }
 
-// How many octets the item at a place of the tables takes.
+// How many octets an item with one part takes, by the group of the part, which has a rule.
+fn check_single(group: usize, part: &[u8]) -> ItemCheck
+    requires { (group < groupCount) × (partSound 0 (groupAt group) ≡ true) }
+    ensures { checkedOf result ≡ singleSize group part.now }
+{
+    let size = size_at(group);
+    if part.len() < size {
+        return ItemCheck::Refused {
+            number: 9,
+            place: 0,
+        };
+    }
+    if part_legal(part, 0, group, 0) {
+        return ItemCheck::Whole(size);
+    }
+    ItemCheck::Refused {
+        number: 11,
+        place: fault_at(part, 0, 1, group, 0),
+    }
+}
+
+// How many octets the item at a place of the tables takes: most items have one part, and most of these are free.
 fn check_at(place: usize, part: &[u8]) -> ItemCheck
     requires { place < placeCount }
     ensures { checkedOf result ≡ itemSize (layoutAt (placeRowAt place).layout) part.now }
 {
+    let single = single_at(place);
+    if 8 <= single {
+        return check_single(single - 8, part);
+    }
+    if 0 < single {
+        if part.len() < single {
+            return ItemCheck::Refused {
+                number: 9,
+                place: 0,
+            };
+        }
+        return ItemCheck::Whole(single);
+    }
     match item_of(layout_at(layout_row(place)), part) {
         Shape::Parts { count: _, long } => ItemCheck::Whole(long),
         Shape::Refused { number, place } => ItemCheck::Refused { number, place },

@@ -1,6 +1,7 @@
 -- For each function that another crate can call, no two distinct results meet its statement, nor two outputs. Assumes nothing.
 use Prim.Native.Nat.{ℕ, ◌+◌}
 use mathlib.Core.Path.{◌≡◌, sym, ap, ap₂, ◌∙◌}
+use mathlib.Core.Bool.{Bool}
 use mathlib.Core.List.{List}
 use native.Mathlib.Omega.{arith}
 use lib.IntN.{ℤ}
@@ -11,7 +12,14 @@ use Rattle.rules.proofs.AnswerLaws.{ok-inj}
 use Rattle.tables.specs.declared.tables.LayoutRow.{LayoutRow}
 use Rattle.layouts.specs.declared.parts.Shape.{Shape}
 use Rattle.layouts.specs.declared.parts.Shape.TheVariants.{Parts, Refused}
-use Rattle.layouts.specs.Read.{holds, partValues, Shaped, shapeIs, head_of, step_of, wholeOf}
+use Rattle.layouts.specs.Read.{rows_at, part_at, legal, faultAt, holds, partValues, Shaped, shapeIs, head_of, step_of, wholeOf}
+
+pub one-part-legal : (s : List ℕ) (at group step : ℕ) (a b : Bool)
+    → a ≡ legal (rows_at group) (part_at step group (drop at s)) → b ≡ legal (rows_at group) (part_at step group (drop at s)) → a ≡ b
+one-part-legal s at group step a b p q = p ∙ sym q
+
+pub one-fault-at : (s : List ℕ) (at count group step a b : ℕ) → a ≡ faultAt step group count at s → b ≡ faultAt step group count at s → a ≡ b
+one-fault-at s at count group step a b p q = p ∙ sym q
 
 pub shape-told : (a b : Shape) → shapeIs a ≡ shapeIs b → a ≡ b
 shape-told (Parts k m) (Parts l n) e =

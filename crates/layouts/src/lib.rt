@@ -3,4 +3,4 @@
 mod fields;
 mod parts;
 
-pub use parts::{Shape, item_store, whole_of};
+pub use parts::{Shape, fault_at, item_store, part_legal, whole_of};

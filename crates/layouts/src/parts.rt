@@ -27,7 +27,7 @@ fn number_at(s: &[u8], at: usize, size: usize) -> u64
 }
 
 // Whether the fields of the part at a place, by a group, are legal: those that have a rule obey it.
-fn part_legal(s: &[u8], at: usize, group: usize, step: usize) -> bool
+pub fn part_legal(s: &[u8], at: usize, group: usize, step: usize) -> bool
     requires { (step ≤ 1) × (group < groupCount) × (partSound step (groupAt group) ≡ true) × (at + (groupAt group).octets ≤ length s.now) }
     ensures { result ≡ legal (rows_at group) (part_at step group (drop at s.now)) }
 {
@@ -61,7 +61,7 @@ pub fn parts_legal(s: &[u8], at: usize, count: usize, group: usize, step: usize)
 
 // Where the first field at fault among so many parts stands, which start at a place, counted from the item's first octet. It is asked on refusal
 // alone. Whichever field it is, the refusal is at the item's start, so nothing is looked at.
-fn fault_at(s: &[u8], at: usize, count: usize, group: usize, step: usize) -> usize
+pub fn fault_at(s: &[u8], at: usize, count: usize, group: usize, step: usize) -> usize
     requires { (step ≤ 1) × (partsSound step group count ≡ true) × (at + span step group count ≤ length s.now) }
     ensures { result ≡ faultAt step group count at s.now }
 {

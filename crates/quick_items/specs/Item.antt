@@ -51,23 +51,19 @@ same_rules low high step size (r ∷ (q ∷ rs)) = false
 unfoldable pub soundRule : ℕ → ℕ → ℕ → ℕ → Bool
 soundRule low high step g = same_rules low high step (groupAt g).octets (slice (firstRule g) (firstRule (g + 1)) rules)
 
--- how many rules the table has rows for, and how many numbers it has: one for each place, two for each of the two words of a rule
+-- how many rules the table has rows for, and how many words it has: one for each place, two for each rule
 abbrev pub ruleRows : ℕ
 ruleRows = 16
 
 abbrev pub stepCount : ℕ
-stepCount = placeCount + 4 * ruleRows
-
--- two numbers of 16 bits as one, the lower one first
-unfoldable pub twoAt : List ℕ → ℕ → ℕ
-twoAt t i = get_or t i 0 + get_or t (i + 1) 0 * 65_536
+stepCount = placeCount + 2 * ruleRows
 
 -- the rules of the table
 abbrev pub lowAt : List ℕ → ℕ → ℕ
-lowAt t i = twoAt t (placeCount + 2 * i)
+lowAt t i = get_or t (placeCount + i) 0
 
 abbrev pub highAt : List ℕ → ℕ → ℕ
-highAt t i = twoAt t (placeCount + 2 * ruleRows + 2 * i)
+highAt t i = get_or t (placeCount + ruleRows + i) 0
 
 abbrev pub asked : List ℕ → ℕ → ℕ → Bool
 asked t i n = asks (lowAt t i) (highAt t i) n

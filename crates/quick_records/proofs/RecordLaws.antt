@@ -66,7 +66,7 @@ module _ (ts : List ℕ) (i : ℕ) (s : soundTypes ts ≡ true) (h : i < profile
   row-sound t r k e n =
       other (eqb r 0) _ (subst (λ x. soundRow i t x ≡ true) e (all-below kindCount rows_of t (both_left (all_below kindCount rows_of) (sums && soundPlace ts i) sound-all) k)) (λ q. n (eqb-true r 0 q))
 
-  row-few : (t r : ℕ) → t < kindCount → row_in ts i t ≡ r → (r ≡ 0 → ⊥) → r < rowCount
+  pub row-few : (t r : ℕ) → t < kindCount → row_in ts i t ≡ r → (r ≡ 0 → ⊥) → r < rowCount
   row-few t r k e n = ltb-true r rowCount (both_left (ltb r rowCount) _ (row-sound t r k e n))
 
   pub row_under : (t r : ℕ) → t < kindCount → row_in ts i t ≡ r → r < rowCount

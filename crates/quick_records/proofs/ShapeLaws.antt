@@ -33,8 +33,8 @@ use Rattle.sets.proofs.SetLaws.{set-law, octets-all}
 use Rattle.records.proofs.WalkLaws.{walk_none, walk-skip}
 use Rattle.tables.specs.Tests.{all_below}
 use Rattle.quick_items.specs.Item.{Plainly, firstThree, asks, soundSingle, soundCounted}
-use Rattle.quick_records.specs.Record.{kindCount, rowCount, mustAt, may_at, soundTypes, free, hasFront, frontOctets, type_at, Content, Goes, Later, Walks, Passed, end_at}
-use Rattle.quick_records.specs.Shape.{shapeCount, lowNumber, lowOctets, usedOf, start_of, tailOf, profileOf, types_of, word_of, place_of, soundType, soundMask, isFree, runSum, runLeft, soundSpecial, soundFirst, soundThen, soundItems, soundFront, shape_by, bounded, soundShape, soundShapeAt, soundSets, Front, Fronts, Listed, OfType}
+use Rattle.quick_records.specs.Record.{kindCount, rowCount, typeSets, mustAt, may_at, soundTypes, free, hasFront, frontOctets, type_at, Content, Goes, Later, Walks, Passed, end_at}
+use Rattle.quick_records.specs.Shape.{shapeCount, setCount, lowNumber, lowOctets, usedOf, start_of, tailOf, profileOf, types_of, word_of, place_of, soundType, soundMask, isFree, runSum, runLeft, soundSpecial, soundFirst, soundThen, soundItems, soundFront, shape_by, bounded, soundShape, soundShapeAt, soundSets, Front, Fronts, Listed, OfType}
 use Rattle.quick_items.proofs.ItemLaws.{octet-at, cut, free-check, ruled-told, counted-told, told, other}
 use Rattle.quick_records.proofs.RecordLaws.{row_under, row_read, front-some, one, none_here, kind-stays, Skipped, third, first_three, third-here, third-kind, seven, content, quick-whole}
 
@@ -481,7 +481,19 @@ module _ (a b rule left : ℕ) (s : soundShape a b rule left ≡ true) where
 
 -- ---- the table
 
-pub shape-read : (t : List ℕ) → soundSets t ≡ true → (k : ℕ) {a b rule left : ℕ} → k < shapeCount → a ≡ get_or t (4 * k) 0 → b ≡ get_or t (4 * k + 1) 0 → rule ≡ get_or t (4 * k + 2) 0 → left ≡ get_or t (4 * k + 3) 0
-    → soundShape a b rule left ≡ true
-unfolding soundSets
-shape-read t s k l ea eb er el = rw (ea, eb, er, el) (all-below shapeCount (λ j. soundShapeAt t (4 * j)) k s l)
+module _ (t : List ℕ) (s : soundSets t ≡ true) where
+  abbrev sameSet : ℕ → Bool
+  sameSet k = eqb (get_or t k 0) (get_or typeSets k 0)
+
+  abbrev shapeIn : ℕ → Bool
+  shapeIn k = soundShapeAt t (setCount + 4 * k)
+
+  -- what message types must and may have
+  pub sets-read : (k : ℕ) → k < setCount → get_or t k 0 ≡ get_or typeSets k 0
+  unfolding soundSets
+  sets-read k l = eqb-true _ _ (all-below setCount sameSet k (both_left (all_below setCount sameSet) (all_below shapeCount shapeIn) s) l)
+
+  pub shape-read : (k : ℕ) {a b rule left : ℕ} → k < shapeCount → a ≡ get_or t (setCount + 4 * k) 0 → b ≡ get_or t (setCount + 4 * k + 1) 0 → rule ≡ get_or t (setCount + 4 * k + 2) 0 → left ≡ get_or t (setCount + 4 * k + 3) 0
+      → soundShape a b rule left ≡ true
+  unfolding soundSets
+  shape-read k l ea eb er el = rw (ea, eb, er, el) (all-below shapeCount shapeIn k (both_right (all_below setCount sameSet) (all_below shapeCount shapeIn) s) l)

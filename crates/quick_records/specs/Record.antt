@@ -1,6 +1,7 @@
 -- Records that are plainly legal: what the lent tables have, and what the answers tell. Assumes nothing.
 use Rattle.std.specs.Prelude.{ℕ, zero, suc, ◌+◌, ◌-◌, ◌*◌, ◌≤◌, ◌≡◌, Bool, true, false, ◌&&◌, ◌||◌, List, [], ◌∷◌, ◌++◌, map, ltb, eqb, length, get_or, replicate}
 use Rattle.rules.specs.Answer.{Answer, ok, refused, ◌>>=◌}
+use Rattle.rules.specs.Chain.{flatten}
 use Rattle.rules.specs.Presence.{flags}
 use Rattle.rules.specs.Record.{Category}
 use Rattle.rules.specs.Catalogue.{categories}
@@ -12,9 +13,8 @@ use Rattle.records.specs.Walk.{Came, walk, start_at}
 use Rattle.sets.specs.Sets.{categoryAt}
 use Rattle.records.specs.Answers.{recordAt}
 use Rattle.tables.specs.Tests.{all_below}
-use Rattle.quick_records.specs.declared.record.TypeSets.{TypeSets}
 
--- ---- the tables, and the rows of message types
+-- ---- the tables
 
 -- how many message types a profile has a place for, by number; how many rows, one for each type after one that is no type's; how many ways FRN 4 to 7 can
 -- be there or not
@@ -31,27 +31,23 @@ abbrev pub wayCount : ℕ
 wayCount = 16
 
 -- what each message type of a profile must have, and must or may have
-abbrev pub setsIn : ℕ → List (ℕ × ℕ)
-setsIn i = map (λ m. (markBits i m.compulsory, markBits i (m.compulsory ++ m.optional))) (categoryAt i).messages
+abbrev pub setsIn : ℕ → List ℕ
+setsIn i = flatten (map (λ m. markBits i m.compulsory ∷ markBits i (m.compulsory ++ m.optional) ∷ []) (categoryAt i).messages)
 
 -- the rows of the profiles, the first one's index given
-abbrev pub setsFrom : ℕ → List Category → List (ℕ × ℕ)
+abbrev pub setsFrom : ℕ → List Category → List ℕ
 setsFrom i [] = []
-setsFrom i (c ∷ cs) = over ((0, 0) ∷ setsIn i) (replicate rowCount (0, 0)) ++ setsFrom (i + 1) cs
+setsFrom i (c ∷ cs) = over (0 ∷ 0 ∷ setsIn i) (replicate (2 * rowCount) 0) ++ setsFrom (i + 1) cs
 
-unfoldable pub typeSets : List (ℕ × ℕ)
+unfoldable pub typeSets : List ℕ
 typeSets = setsFrom 0 categories
-
--- the same two sets, as the code answers them
-abbrev pub setsOf : TypeSets → ℕ × ℕ
-setsOf r = (r.0, r.1)
 
 -- what the row of a profile has
 abbrev pub mustAt : ℕ → ℕ → ℕ
-mustAt i r = (get_or typeSets (i * rowCount + r) (0, 0)).0
+mustAt i r = get_or typeSets (2 * (i * rowCount + r)) 0
 
 abbrev pub may_at : ℕ → ℕ → ℕ
-may_at i r = (get_or typeSets (i * rowCount + r) (0, 0)).1
+may_at i r = get_or typeSets (2 * (i * rowCount + r) + 1) 0
 
 abbrev pub is_row : Answer (ℕ × ℕ) → ℕ → ℕ → Bool
 is_row (ok x) must may = eqb x.0 must && eqb x.1 may

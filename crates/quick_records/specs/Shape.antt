@@ -9,7 +9,7 @@ use Rattle.sets.specs.Sets.{categoryAt, within}
 use Rattle.sets.specs.Steps.{setFrom, row_at}
 use Rattle.tables.specs.Tests.{all_below}
 use Rattle.quick_items.specs.Item.{firstThree, asks, soundSingle, soundCounted}
-use Rattle.quick_records.specs.Record.{rowCount, mustAt, may_at, free, hasFront, frontOctets, type_at}
+use Rattle.quick_records.specs.Record.{rowCount, typeSets, mustAt, may_at, free, hasFront, frontOctets, type_at}
 
 -- ---- octets as a number, the first one lowest
 
@@ -108,16 +108,19 @@ soundShape a b rule left =
     bounded a b left
     && shape_by (profileOf a) a b rule left (setFrom (profileOf a) (length (categoryAt (profileOf a)).profile) (lowOctets (usedOf a) a) 0 0)
 
--- ---- the table
+-- ---- the table: what message types must and may have, then shapes
 
 abbrev pub shapeCount : ℕ
 shapeCount = 64
+
+abbrev pub setCount : ℕ
+setCount = profileCount * (2 * rowCount)
 
 abbrev pub soundShapeAt : List ℕ → ℕ → Bool
 soundShapeAt t at = soundShape (get_or t at 0) (get_or t (at + 1) 0) (get_or t (at + 2) 0) (get_or t (at + 3) 0)
 
 unfoldable pub soundSets : List ℕ → Bool
-soundSets t = all_below shapeCount (λ k. soundShapeAt t (4 * k))
+soundSets t = all_below setCount (λ k. eqb (get_or t k 0) (get_or typeSets k 0)) && all_below shapeCount (λ k. soundShapeAt t (setCount + 4 * k))
 
 -- ---- what the answers tell
 

@@ -28,7 +28,7 @@ pub fn record_end(
     if m != 0 {
         return RecordChecked::Ends { end: at + m };
     }
-    let n = quick_record(steps, types, profile, part);
+    let n = quick_record(steps, types, sets, profile, part);
     if n != 0 {
         return RecordChecked::Ends { end: at + n };
     }

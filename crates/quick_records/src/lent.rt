@@ -1,4 +1,4 @@
-// The tables that are lent: message types, the octets of the first items, shapes.
+// The tables that are lent: message types and what they ask for, the octets of the first items, shapes.
 ghost use Rattle.std.specs.Prelude.{◌≡◌, true};
 ghost use Rattle.quick_records.specs.Record.{soundTypes};
 ghost use Rattle.quick_records.specs.Shape.{soundSets};
@@ -17,14 +17,16 @@ pub const WAYS: usize = 16;
 
 pub const SLOTS: usize = 64;
 
-// Where the ways and the places of the message type start in their table.
+// Where the ways and the places of the message type start in the one table, and the shapes in the other.
 pub const FIRST_WAY: usize = PROFILES * KINDS;
 
 pub const FIRST_PLACE: usize = FIRST_WAY + PROFILES * WAYS;
 
+pub const FIRST_SHAPE: usize = PROFILES * 2 * ROWS;
+
 pub type Types = [u8; FIRST_PLACE + PROFILES];
 
-pub type Sets = [u64; 4 * SLOTS];
+pub type Sets = [u64; FIRST_SHAPE + 4 * SLOTS];
 
 // Message types, and the octets of the first items. A type's row in its profile, 0 where it is unknown, by profile and type; then, by
 // profile and the presence bits of FRN 4 to 7, the octets of FRN 1 to 7 where FRN 1 to 3 are there, one of them the message type, and all
@@ -140,12 +142,159 @@ const TYPES: Types = [
 ];
 // ---- end of what is made
 
-// Shapes, made by model/make.py, each where `slot_of` looks for it: FSPECs that are legal for some message type of at most six optional items, with what
+// Rows of message types, by profile: what the type must have; what it must or may have. The first row is no type's. They say what those of `sets` say, by
+// whose row a record is judged exactly; here they are lent, and found with no search.
+//
+// Then shapes, made by model/make.py, each where `slot_of` looks for it: FSPECs that are legal for some message type of at most six optional items, with what
 // follows from them. A shape has four words, with columns, the right one first: the FSPEC, its first octet lowest; its octets; where in the record the item
 // stands that is looked into; how many octets the free items after it take; the profile _ the message types, bit n for row n; the item's word,
 // as in `quick_items::steps`; where in the record the message type stands _ the item's rule, as there _ the items that are left then. Where no item is looked into, the place is that of FRN 1, the word 0, the rule any bits.
 // ---- made by model/make.py: SETS
 const SETS: Sets = [
+    0, // category 017: no message type
+    0,
+    0x7800_0000_0000_0000, // I017/000 type 0  Network information
+    0x7800_0000_0000_0000,
+    0x75F8_0000_0000_0000, // I017/000 type 10  Track data
+    0x77FC_0000_0000_0000,
+    0x7400_0000_0000_0000, // I017/000 type 20  Track data request
+    0x7400_0000_0000_0000,
+    0x7400_0000_0000_0000, // I017/000 type 21  Track data stop
+    0x7400_0000_0000_0000,
+    0x7400_0000_0000_0000, // I017/000 type 22  Cancel track data request ("Cancellation of Track Data")
+    0x7600_0000_0000_0000,
+    0x7400_0000_0000_0000, // I017/000 type 23  Track data stop acknowledgement
+    0x7400_0000_0000_0000,
+    0x7002_0000_0000_0000, // I017/000 type 30  New Node / Change-over, initial or intermediate message segment
+    0x7002_0000_0000_0000,
+    0x7002_0000_0000_0000, // I017/000 type 31  New Node / Change-over, final or only message segment
+    0x7002_0000_0000_0000,
+    0x7002_0000_0000_0000, // I017/000 type 32  New Node / Change-over, initial or intermediate message segment reply
+    0x7002_0000_0000_0000,
+    0x7002_0000_0000_0000, // I017/000 type 33  New Node / Change-over, final or only message segment reply
+    0x7002_0000_0000_0000,
+    0x7001_0000_0000_0000, // I017/000 type 110  Move node to new cluster state
+    0x7001_0000_0000_0000,
+    0x7001_0000_0000_0000, // I017/000 type 111  Move node to new cluster state acknowledgement
+    0x7001_0000_0000_0000,
+    0, // category 017: no more
+    0,
+    0,
+    0,
+    0,
+    0,
+    0,
+    0,
+    0,
+    0,
+    0,
+    0,
+    0,
+    0,
+    0,
+    0,
+    0,
+    0,
+    0,
+    0,
+    0,
+    0,
+    0, // category 018: no message type
+    0,
+    0x7000_0000_0000_0000, // I018/000 type 0x00  Associate_req
+    0x7000_0008_0000_0000,
+    0x7800_0000_0000_0000, // I018/000 type 0x01  Associate_resp
+    0x7800_0008_0000_0000,
+    0x7000_0000_0000_0000, // I018/000 type 0x02  Release_req
+    0x7000_0000_0000_0000,
+    0x7800_0000_0000_0000, // I018/000 type 0x03  Release_resp
+    0x7800_0000_0000_0000,
+    0x7000_0000_0000_0000, // I018/000 type 0x04  Abort_req
+    0x7800_0000_0000_0000,
+    0x7000_0000_0000_0000, // I018/000 type 0x05  Keep_alive
+    0x7000_0000_0000_0000,
+    0x7400_2000_0000_0000, // I018/000 type 0x10  Aircraft_report
+    0x7400_2F07_F000_0000,
+    0x7400_5000_0000_0000, // I018/000 type 0x11  Aircraft_command
+    0x7400_5000_1000_0000,
+    0x7000_0008_0000_0000, // I018/000 type 0x12  II_code_change
+    0x7000_0008_0000_0000,
+    0x76C0_0000_0000_0000, // I018/000 type 0x20  Uplink_packet
+    0x76C0_0000_0000_0000,
+    0x7400_0000_0000_0000, // I018/000 type 0x21  Cancel_uplink_packet
+    0x7600_0000_0000_0000,
+    0x7C00_0000_0000_0000, // I018/000 type 0x22  Uplink_packet_ack
+    0x7D00_0000_0000_0000,
+    0x7440_0000_0000_0000, // I018/000 type 0x23  Downlink_packet
+    0x7C40_0000_0000_0000,
+    0x7000_8000_0000_0000, // I018/000 type 0x26  Data_XON
+    0x7000_8000_0000_0000,
+    0x7000_8000_0000_0000, // I018/000 type 0x27  Data_XOFF
+    0x7000_8000_0000_0000,
+    0x7000_00B0_0000_0000, // I018/000 type 0x30  Uplink_broadcast
+    0x7000_00F0_0000_0000,
+    0x7000_0000_0000_0000, // I018/000 type 0x31  Cancel_uplink_broadcast
+    0x7000_0080_0000_0000,
+    0x7800_0000_0000_0000, // I018/000 type 0x32  Uplink_broadcast_ack
+    0x7800_0080_0000_0000,
+    0x7401_0010_0000_0000, // I018/000 type 0x34  Downlink_broadcast
+    0x7401_0010_0000_0000,
+    0x740C_0000_0000_0000, // I018/000 type 0x40  GICB_extraction
+    0x743D_0000_0000_0000,
+    0x7400_0000_0000_0000, // I018/000 type 0x41  Cancel_GICB_extraction
+    0x7408_0000_0000_0000,
+    0x7C00_0000_0000_0000, // I018/000 type 0x42  GICB_extraction_ack
+    0x7C08_0000_0000_0000,
+    0x7C0D_0000_0000_0000, // I018/000 type 0x43  GICB_response
+    0x7C0F_0000_0000_0000,
+    0, // category 061: no message type
+    0,
+    0x7400_0000_0000_0000, // I061/000 type 0x11  Request for Connection
+    0x7600_0000_0000_0000,
+    0x7400_0000_0000_0000, // I061/000 type 0x12  Request for Disconnection
+    0x7608_0000_0000_0000,
+    0x7500_0000_0000_0000, // I061/000 type 0x13  Connection Acknowledgement
+    0x7700_0000_0000_0000,
+    0x7400_0000_0000_0000, // I061/000 type 0x14  Connection Rejection
+    0x7608_0000_0000_0000,
+    0x7400_0000_0000_0000, // I061/000 type 0x15  Disconnection Acknowledgement
+    0x7608_0000_0000_0000,
+    0x7400_0000_0000_0000, // I061/000 type 0x16  Disconnection Rejection
+    0x7608_0000_0000_0000,
+    0x7400_0000_0000_0000, // I061/000 type 0x21  Service Definition Request
+    0x7EF7_DE00_0000_0000,
+    0x7C00_0000_0000_0000, // I061/000 type 0x22  Service Modification Request
+    0x7EF7_DE00_0000_0000,
+    0x7C00_0000_0000_0000, // I061/000 type 0x23  Service Suspension Request
+    0x7E00_2000_0000_0000,
+    0x7C00_0000_0000_0000, // I061/000 type 0x24  Service Resumption Request
+    0x7E00_2000_0000_0000,
+    0x7C00_0000_0000_0000, // I061/000 type 0x25  Service Termination Request
+    0x7E00_2000_0000_0000,
+    0x7C00_0000_0000_0000, // I061/000 type 0x26  Service Acknowledgement
+    0x7E00_2000_0000_0000,
+    0x7400_0000_0000_0000, // I061/000 type 0x27  Service Rejection
+    0x7E00_2000_0000_0000,
+    0x7C00_0000_0000_0000, // I061/000 type 0x28  Service Report
+    0x7E00_2000_0000_0000,
+    0x7C00_2000_0000_0000, // I061/000 type 0x2F  End of Batch
+    0x7E00_2000_0000_0000,
+    0, // category 061: no more
+    0,
+    0,
+    0,
+    0,
+    0,
+    0,
+    0,
+    0,
+    0,
+    0,
+    0,
+    0,
+    0,
+    0,
+    0,
     0x1_05_01_1_00000000E0, // no shape: category 018, FSPEC E0 again
     0x05_0000_000002006A,
     0x28_FFFFFF_00_000000,

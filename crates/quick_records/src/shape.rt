@@ -5,7 +5,7 @@ ghost use Rattle.quick_records.specs.Record.{soundTypes, end_at};
 ghost use Rattle.quick_records.specs.Shape.{shapeCount, lowNumber, soundShape, soundSets, Fronts, OfType};
 ghost use Rattle.tables.specs.Tables.{profileCount};
 
-use super::lent::{KINDS, SLOTS, Sets, Types};
+use super::lent::{FIRST_SHAPE, KINDS, SLOTS, Sets, Types};
 use super::record::later_items;
 use numbers::octet;
 use quick_items::{Steps, is_kept};
@@ -138,7 +138,7 @@ pub fn shaped_record(
         return 0;
     }
     let five = first_five(part);
-    let at = 4 * slot_of(five, profile);
+    let at = FIRST_SHAPE + 4 * slot_of(five, profile);
     let shape = long(sets[at]);
     let item = long(sets[at + 1]);
     let rule = long(sets[at + 2]);

@@ -2,8 +2,8 @@
 --
 -- In order: the category with an index; the columns; the rows; the search for a CAT; the category that is found. Assumes nothing.
 use Prim.Native.Nat.compare
-use Prim.Native.Nat.{ℕ, zero, suc, ◌+◌, ◌-◌, ◌≤◌, ◌<◌}
-use mathlib.Core.Path.{◌≡◌, refl, sym, ap, ◌∙◌}
+use Prim.Native.Nat.{ℕ, zero, suc, ◌+◌, ◌≤◌, ◌<◌}
+use mathlib.Core.Path.{◌≡◌, refl, sym, ap, ◌∙◌, subst}
 use mathlib.Core.Bool.{Bool, true, false, ◌&&◌, ◌||◌, false≢true}
 use mathlib.Core.Option.{Option, none, some}
 use mathlib.Core.List.{List, [], ◌∷◌, map}
@@ -131,48 +131,40 @@ row-past i h =
     )
     refl
 
--- ---- the search for a CAT, from the last index down: so far it says what the search from an index on says
+-- ---- the search for a CAT: from an index on it says what the whole search says
 
-pub record Seeking (n : ℕ) (cs : List Category) (found i : ℕ) : Type 0 where
+pub record Seeking (n : ℕ) (cs : List Category) (i : ℕ) : Type 0 where
   pub inside : i ≤ length cs
-  pub same : found ≡ i + profileIn n (drop i cs)
+  pub same : profileIn n cs ≡ i + profileIn n (drop i cs)
 
--- the CAT of the category with an index
-abbrev catIn : List Category → ℕ → ℕ
-catIn cs i = get_or (map (λ c. c.cat) cs) i 0
-
-seek-step : (n : ℕ) (cs : List Category) (i : ℕ) → i < length cs → profileIn n (drop i cs) ≡ (if eqb n (catIn cs i) then 0 else suc (profileIn n (drop (suc i) cs)))
+seek-step : (n : ℕ) (cs : List Category) (i : ℕ) → i < length cs
+    → profileIn n (drop i cs) ≡ (if eqb n (get_or (map (λ c. c.cat) cs) i 0) then 0 else suc (profileIn n (drop (suc i) cs)))
 unfolding profileIn
 seek-step n [] i h = absurd (omega arith)
 seek-step n (c ∷ cs) zero h = refl
 seek-step n (c ∷ cs) (suc i) h = seek-step n cs i (omega arith)
 
-pub seek-first : (n : ℕ) (cs : List Category) → Seeking n cs (length cs) (length cs)
-unfolding profileIn
-seek-first n cs =
-    let z : profileIn n (drop (length cs) cs) ≡ 0 = ap (profileIn n) (drop-length cs) in
-    record { inside = omega arith; same = omega arith }
+pub seek-first : (n : ℕ) (cs : List Category) → Seeking n cs 0
+seek-first n cs = record { inside = omega arith; same = omega arith }
 
-module _ {n : ℕ} {cs : List Category} {found i : ℕ} (s : Seeking n cs found i) (p : 0 < i) where
-  before-it : suc (i - 1) ≡ i
-  before-it = omega arith
+module _ {n : ℕ} {cs : List Category} {i : ℕ} (s : Seeking n cs i) where
+  pub seek_found : i < length cs → get_or (map (λ c. c.cat) cs) i 0 ≡ n → i ≡ profileIn n cs
+  seek_found h e =
+      let z : profileIn n (drop i cs) ≡ 0 = seek-step n cs i h ∙ if-true _ (eq-eqb _ _ (sym e)) refl in
+      omega (arith, s.same)
 
-  pub seek_found : catIn cs (i - 1) ≡ n → Seeking n cs (i - 1) (i - 1)
-  seek_found e =
-      let z : profileIn n (drop (i - 1) cs) ≡ 0 = seek-step n cs (i - 1) (omega (arith, s.inside)) ∙ if-true _ (eq-eqb _ _ (sym e)) refl in
-      record { inside = omega (arith, s.inside); same = omega arith }
+  pub seek-next : i < length cs → ¬ (get_or (map (λ c. c.cat) cs) i 0 ≡ n) → Seeking n cs (i + 1)
+  seek-next h e =
+      let z : profileIn n (drop i cs) ≡ suc (profileIn n (drop (suc i) cs)) = seek-step n cs i h ∙ if-false _ (ne_eqb _ _ (λ p. e (sym p))) refl in
+      let k : suc i ≡ i + 1 = omega arith in
+      subst (Seeking n cs) k (record { inside = omega arith; same = omega (arith, s.same) })
 
-  pub seek-on : ¬ (catIn cs (i - 1) ≡ n) → Seeking n cs found (i - 1)
-  seek-on e =
-      let z : profileIn n (drop (i - 1) cs) ≡ suc (profileIn n (drop (suc (i - 1)) cs)) = seek-step n cs (i - 1) (omega (arith, s.inside)) ∙ if-false _ (ne_eqb _ _ (λ q. e (sym q))) refl in
-      let y : profileIn n (drop (suc (i - 1)) cs) ≡ profileIn n (drop i cs) = ap (λ k. profileIn n (drop k cs)) before-it in
-      record { inside = omega (arith, s.inside); same = omega (arith, s.same, y, z) }
-
-pub seek-end : {n : ℕ} {cs : List Category} {found i : ℕ} → Seeking n cs found i → i ≤ 0 → found ≡ profileIn n cs
-seek-end {n} {cs} {found} {i} s h =
-    let e : i ≡ 0 = omega arith in
-    let y : profileIn n (drop i cs) ≡ profileIn n cs = ap (λ k. profileIn n (drop k cs)) e in
-    omega (arith, s.same)
+  pub seek-end : length cs ≤ i → length cs ≡ profileIn n cs
+  unfolding profileIn
+  seek-end h =
+      let e : i ≡ length cs = omega (arith, s.inside) in
+      let z : profileIn n (drop i cs) ≡ 0 = ap (λ k. profileIn n (drop k cs)) e ∙ ap (profileIn n) (drop-length cs) in
+      omega (arith, s.same, s.inside)
 
 -- ---- the category that is found
 

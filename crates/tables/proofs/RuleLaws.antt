@@ -9,17 +9,21 @@ use native.Mathlib.Omega.{arith}
 use native.Mathlib.Nat.{add-zero, mod-add-mod, mod-lt, le_of_suc-le-suc, not-suc-le-zero, zero-add}
 use native.Mathlib.Numerals.{add-one}
 use lib.Dec.{leb, ltb}
-use lib.ListN.{length, get_or, take, drop_of_length-le}
+use lib.ListN.{length, get_or, take, get_or-map, drop_of_length-le}
 use lib.Seq.{slice, slice-cons, length-take-le}
 use lib.Pow.{pow_pos, pow_mono}
 use borrow.Author.Tests.{leb-true, ltb-true}
 use Rattle.rules.specs.Field.{Field, spare, value, unsigned, signed, half}
 use Rattle.rules.specs.Catalogue.{categories}
-use Rattle.tables.specs.Tables.{groupCount, fields, groups, layouts, groupAt}
-use Rattle.tables.specs.FieldRules.{ruleCount, Rule, rulesOf, obeys, allObeyed, rules, firstRule, ruleAt, ruleWords, addedTo, limits}
+use Rattle.tables.specs.Tables.{groupCount, fields, groups, layouts, groupRows, noGroupRow, groupAt}
+use Rattle.tables.specs.FieldRules.{ruleCount, Rule, rulesOf, obeys, allObeyed, rules, firstRule, ruleAt, ruleWords, addedTo, limits, sizes}
 use Rattle.tables.proofs.TableLaws.{in_row, each, every, fields_at, getD-map-in}
 
 -- ---- the tables
+
+pub size_of : (g : ℕ) → get_or sizes g 0 ≡ (groupAt g).octets
+unfolding sizes groupAt
+size_of g = get_or-map (λ r. r.octets) (groupRows 0 groups) g noGroupRow
 
 rules-long : length rules ≡ ruleCount
 unfolding rules groups layouts categories
@@ -146,6 +150,11 @@ group-sane g h = below (λ i. every sane (fields_at i)) (λ i. true) groupCount 
 pub first-few : (g : ℕ) → g ≤ groupCount → firstRule g ≤ ruleCount
 unfolding firstRule rules groups layouts categories
 first-few g h = leb-true _ _ (below (λ i. leb (firstRule i) ruleCount) (λ i. true) (suc groupCount) refl g (omega arith))
+
+-- a group without a rule says that it is free
+pub group-said : (g : ℕ) → g < groupCount → leb (firstRule (g + 1)) (firstRule g) ≡ (groupAt g).free
+unfolding firstRule groupAt fields groups layouts categories
+group-said g h = rw (add-one g) (below (λ i. leb (firstRule (suc i)) (firstRule i)) (λ i. (groupAt i).free) groupCount refl g h)
 
 pub rules-few : (g : ℕ) → g < groupCount → {e : ℕ} → e ≡ firstRule (g + 1) → e ≤ ruleCount
 rules-few g h ee = subst (λ x. x ≤ ruleCount) (sym ee) (first-few (g + 1) (omega arith))

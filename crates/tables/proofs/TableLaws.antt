@@ -11,8 +11,8 @@ use native.Mathlib.Omega.{arith}
 use native.Mathlib.Nat.{le_of_suc-le-suc, not-suc-le-zero, le_trans}
 use lib.Dec.{leb, ltb, eqb, lit≤}
 use lib.IntN.{pos}
-use lib.ListN.{length, get_or, drop, replicate, length-map, get_or-map, get_or-append, get_or-eq_default}
-use lib.Seq.{slice, get_or-append-add}
+use lib.ListN.{length, get_or, take, drop, replicate, length-map, get_or-map, get_or-append, get_or-eq_default}
+use lib.Seq.{slice, get_or-append-add, get_or-take, get_or-drop}
 use borrow.Author.Tests.{ltb-true, leb-true}
 use Rattle.rules.specs.Field.{Field}
 use Rattle.rules.specs.Chain.{flatten}
@@ -26,9 +26,8 @@ use Rattle.rules.specs.Entry.{profileAt, over}
 use Rattle.tables.specs.declared.tables.GroupRow.{GroupRow}
 use Rattle.tables.specs.declared.tables.LayoutRow.{LayoutRow}
 use Rattle.tables.specs.declared.tables.FieldRow.{FieldRow}
-use Rattle.tables.specs.declared.tables.PlaceRow.{PlaceRow}
 use Rattle.tables.specs.Tests.{all_below, within}
-use Rattle.tables.specs.Tables.{fieldCount, groupCount, layoutCount, profileCount, frnCount, fields, fieldRow, noFieldRow, noGroupRow, noLayoutRow, field_at, ranges, least, greatest, fieldWord, fieldWords, groupWord, groupWords, layoutWord, layoutWords, placeWord, placeWords, isFree, groups, layouts, groupRows, groupAt, layoutRows, formatBy, formatIs, layoutIs, layoutAt, primaries, primaryCount, subfieldsIn, subfieldAt, subfieldCount, nowhere, profileRows, placeRowAt, placeIs}
+use Rattle.tables.specs.Tables.{fieldCount, groupCount, layoutCount, profileCount, frnCount, rangeCount, fields, fieldRow, noFieldRow, noGroupRow, noLayoutRow, field_at, ranges, least, greatest, fieldWord, fieldWords, groupWord, groupWords, layoutWord, layoutWords, layoutsIn, referencesIn, isFree, groups, layouts, groupRows, groupAt, layoutRows, formatBy, formatIs, layoutIs, layoutAt, primaries, primaryCount, subfieldsIn, subfieldAt, subfieldCount, nowhere, profileRows, placeRowAt, placeIs}
 
 -- ---- what holds of each row of a table, by one test
 
@@ -49,6 +48,13 @@ all-below (suc n) p j h l =
     (λ m. all-below n p j (both_right (p n) (all_below n p) h) m)
     (λ m. let e : j ≡ n = omega arith in ap p e ∙ both_left (p n) (all_below n p) h)
     (below_or j n)
+
+-- a list in two parts, the first with so many
+pub first_part : (k : ℕ) (xs : List ℕ) (i : ℕ) → i < k → get_or (take k xs) i 0 ≡ get_or xs i 0
+first_part k xs i h = get_or-take k xs i 0 h
+
+pub last-part : (k : ℕ) (xs : List ℕ) (i : ℕ) → k ≤ i → get_or (drop k xs) (i - k) 0 ≡ get_or xs i 0
+last-part k xs i h = get_or-drop k xs (i - k) 0 ∙ ap (λ j. get_or xs j 0) (omega arith)
 
 -- bits that may be set, as flags within flags
 pub usable-within : {P : Type 0} (ps : List (Option P)) (ts : List Bool) → length ts ≡ length ps → usable ps ts ≡ within ts (map present ps)
@@ -222,14 +228,15 @@ groupDigits w = record { octets = w / 100_000_000; first = w / 100_000 % 1_000; 
 abbrev pub layoutDigits : ℕ → LayoutRow
 layoutDigits w = record { kind = w / 100_000_000; least = w / 10_000_000 % 10; most = w / 10_000 % 1_000; first = w / 10 % 1_000; end = w / 10 % 1_000 + w % 10 }
 
-abbrev pub placeDigits : ℕ → PlaceRow
-placeDigits w = record { layout = w / 1_000; reference = w % 1_000 }
-
 pub field-digits : (i : ℕ) → i < fieldCount → fieldDigits (get_or fieldWords i 0) ≡ field_at i
 unfolding fieldWords field_at least greatest ranges fields groups layouts categories
 field-digits i h =
     ap fieldDigits (getD-map-in fieldWord (map fieldRow fields) i noFieldRow 0 h)
     ∙ in_row (λ r. fieldDigits (fieldWord r)) (λ r. r) (map fieldRow fields) i noFieldRow h refl
+
+pub field-range : (i : ℕ) → i < fieldCount → get_or fieldWords i 0 % 100 < rangeCount
+unfolding fieldWords ranges fields groups layouts categories
+field-range i h = ltb-true _ rangeCount (each (λ w. ltb (w % 100) rangeCount) fieldWords 0 refl i h)
 
 pub group-digits : (i : ℕ) → i < groupCount → groupDigits (get_or groupWords i 0) ≡ groupAt i
 unfolding groupWords groupAt fields groups layouts categories
@@ -244,12 +251,13 @@ layout-digits (suc i) h =
     ap layoutDigits (getD-map-in layoutWord (layoutRows 0 0 layouts) i noLayoutRow 0 (le_of_suc-le-suc h))
     ∙ in_row (λ r. layoutDigits (layoutWord r)) (λ r. r) (layoutRows 0 0 layouts) i noLayoutRow (le_of_suc-le-suc h) refl
 
--- past its end a table has no item, which is 0
-pub place-digits : (i : ℕ) → placeDigits (get_or placeWords i 0) ≡ placeRowAt i
-unfolding placeWords placeRowAt categories
-place-digits i =
-    ap placeDigits (get_or-map placeWord (profileRows 1 categories) i nowhere)
-    ∙ at_row (λ r. placeDigits (placeWord r)) (λ r. r) (profileRows 1 categories) i nowhere refl refl
+pub layout-in : (i : ℕ) → get_or layoutsIn i 0 ≡ (placeRowAt i).layout
+unfolding layoutsIn placeRowAt
+layout-in i = get_or-map (λ r. r.layout) (profileRows 1 categories) i nowhere
+
+pub reference-in : (i : ℕ) → get_or referencesIn i 0 ≡ (placeRowAt i).reference
+unfolding referencesIn placeRowAt
+reference-in i = get_or-map (λ r. r.reference) (profileRows 1 categories) i nowhere
 
 -- ---- compound items
 

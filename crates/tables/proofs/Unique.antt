@@ -2,6 +2,7 @@
 use Prim.Native.Nat.{ℕ, ◌^◌, ◌<◌}
 use mathlib.Core.Path.{◌≡◌, sym, ◌∙◌}
 use mathlib.Core.Bool.{Bool}
+use lib.ListN.{get_or}
 use lib.Seq.{slice}
 use Rattle.rules.specs.Catalogue.{categories}
 use Rattle.tables.specs.declared.profiles.ProfileRow.{ProfileRow}
@@ -11,7 +12,7 @@ use Rattle.tables.specs.declared.tables.LayoutRow.{LayoutRow}
 use Rattle.tables.specs.declared.tables.PlaceRow.{PlaceRow}
 use Rattle.tables.specs.Tables.{layoutCount, field_at, groupAt, layoutAt, placeRowAt, primaryAt, subfieldAt}
 use Rattle.tables.specs.Profiles.{profileIn, profileRowAt}
-use Rattle.tables.specs.FieldRules.{allObeyed, rules, firstRule}
+use Rattle.tables.specs.FieldRules.{allObeyed, rules, firstRule, singles}
 
 -- ---- rows
 
@@ -52,6 +53,9 @@ one-first-rule group a b p q = p ∙ sym q
 
 pub one-is-free : (group : ℕ) (a b : Bool) → a ≡ (groupAt group).free → b ≡ (groupAt group).free → a ≡ b
 one-is-free group a b p q = p ∙ sym q
+
+pub one-single-at : (place a b : ℕ) → a ≡ get_or singles place 0 → b ≡ get_or singles place 0 → a ≡ b
+one-single-at place a b p q = p ∙ sym q
 
 pub one-pow2 : (k a b : ℕ) → a ≡ 2 ^ k → b ≡ 2 ^ k → a ≡ b
 one-pow2 k a b p q = p ∙ sym q

@@ -6,7 +6,7 @@ use Rattle.rules.specs.Chain.{flatten}
 use Rattle.rules.specs.Format.{Group}
 use Rattle.rules.specs.Catalogue.{categories}
 use Rattle.tables.specs.declared.tables.LayoutRow.{LayoutRow}
-use Rattle.tables.specs.Tables.{groups, groupAt, layoutAt, profileRows, isFree}
+use Rattle.tables.specs.Tables.{groups, groupRows, groupAt, layoutAt, profileRows, isFree}
 
 -- how many bits stand below the field, how many it has, what is added to its code, and the limit
 pub record Rule : Type 0 where
@@ -60,6 +60,9 @@ addedTo = map (λ r. r.added) rules
 
 unfoldable pub limits : List ℕ
 limits = map (λ r. r.limit) rules
+
+unfoldable pub sizes : List ℕ
+sizes = map (λ r. r.octets) (groupRows 0 groups)
 
 -- of an item with one part, its octets where it is free, and else 8 more than the place of its group; of any other item 0
 abbrev pub singleOf : LayoutRow → ℕ

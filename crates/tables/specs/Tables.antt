@@ -211,6 +211,9 @@ rangesOf rs (f ∷ fs) = rangesOf (cond (eqb (rangeIn rs f.least f.greatest) (le
 unfoldable pub ranges : List (ℤ × ℤ)
 ranges = rangesOf [] (map fieldRow fields)
 
+abbrev pub rangeCount : ℕ
+rangeCount = length ranges
+
 unfoldable pub least : List ℤ
 least = map (λ r. r.0) ranges
 
@@ -229,10 +232,6 @@ groupWord r = r.octets * 100_000_000 + r.first * 100_000 + (r.end - r.first) * 1
 abbrev pub layoutWord : LayoutRow → ℕ
 layoutWord r = r.kind * 100_000_000 + r.least * 10_000_000 + r.most * 10_000 + r.first * 10 + (r.end - r.first)
 
--- the place of the layout, the reference: 3 and 3 digits
-abbrev pub placeWord : PlaceRow → ℕ
-placeWord r = r.layout * 1_000 + r.reference
-
 unfoldable pub fieldWords : List ℕ
 fieldWords = map fieldWord (map fieldRow fields)
 
@@ -242,8 +241,11 @@ groupWords = map groupWord (groupRows 0 groups)
 unfoldable pub layoutWords : List ℕ
 layoutWords = 0 ∷ map layoutWord (layoutRows 0 0 layouts)
 
-unfoldable pub placeWords : List ℕ
-placeWords = map placeWord (profileRows 1 categories)
+unfoldable pub layoutsIn : List ℕ
+layoutsIn = map (λ r. r.layout) (profileRows 1 categories)
+
+unfoldable pub referencesIn : List ℕ
+referencesIn = map (λ r. r.reference) (profileRows 1 categories)
 
 -- ---- what the rows stand for
 

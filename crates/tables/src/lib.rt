@@ -4,10 +4,10 @@ mod field_rules;
 mod profiles;
 mod tables;
 
-pub use field_rules::{are_obeyed, first_rule, pow2};
+pub use field_rules::{are_obeyed, first_rule, is_free, pow2, single_at, size_at};
 pub use profiles::{ProfileRow, profile_of, profile_row};
 pub use tables::{
     COMPOUND, EXTENDED, FIXED, FRNS, FieldRow, GroupRow, LED, LayoutRow, NONE, PROFILES, PlaceRow,
-    REPEATED, SPARE, TWOS, field_at, group_at, is_free, layout_at, layout_row, place_at,
-    primary_at, size_at, subfield_at,
+    REPEATED, SPARE, TWOS, field_at, group_at, layout_at, layout_row, place_at, primary_at,
+    subfield_at,
 };

@@ -1,6 +1,6 @@
 // The profiles, one for each category: 0 is category 017, edition 1.3; 1 is category 018, edition 1.6; 2 is category 061, edition 1.2. One table has what the code asks of a profile as
 // a whole; its items are in tables.rt.
-ghost use Rattle.std.specs.Prelude.{◌≡◌};
+ghost use Rattle.std.specs.Prelude.{◌≡◌, ◌≤◌};
 ghost use Rattle.rules.specs.Catalogue.{categories};
 ghost use Rattle.tables.specs.Profiles.{profileIn, profileRowAt};
 
@@ -18,61 +18,60 @@ pub struct ProfileRow {
     pub untimed: u8,
 }
 
+// ---- the table, a column to an array: a constant is written out where it is read, so none is written that is not asked for
+
+// ---- made by model/make.py: the columns of profiles
+const CATS: [u8; 3] = [17, 18, 61];
+
+const OCTETS: [u8; 3] = [3, 5, 4];
+
+const USABLE: [u64; 3] = [
+    0x7FFF_0000_0000_0000,
+    0x7FFF_FFFF_F000_0000,
+    0x7FFF_FE00_0000_0000,
+];
+
+const KINDS: [u8; 3] = [3, 3, 2];
+
+const TIMES: [u8; 3] = [7, 15, 5];
+
+const UNTIMED: [u8; 3] = [0, 0x41, 0];
+// ---- end of what is made
+
 // The row of a profile, all zeros where there is none.
 pub fn profile_row(profile: usize) -> ProfileRow
     ensures { result ≡ profileRowAt profile }
 {
-    match profile {
-        // ---- made by model/make.py: profile_row
-        0 => ProfileRow {
-            cat: 17,
-            octets: 3,
-            usable: 0x7FFF_0000_0000_0000,
-            kind: 3,
-            time: 7,
-            untimed: 0,
-        },
-        1 => ProfileRow {
-            cat: 18,
-            octets: 5,
-            usable: 0x7FFF_FFFF_F000_0000,
-            kind: 3,
-            time: 15,
-            untimed: 0x41,
-        },
-        2 => ProfileRow {
-            cat: 61,
-            octets: 4,
-            usable: 0x7FFF_FE00_0000_0000,
-            kind: 2,
-            time: 5,
-            untimed: 0,
-        },
-        // ---- end of what is made
-        _ => ProfileRow {
-            cat: 0,
-            octets: 0,
-            usable: 0,
-            kind: 0,
-            time: 0,
-            untimed: 0,
-        },
+    if profile < PROFILES {
+        return ProfileRow {
+            cat: CATS[profile],
+            octets: OCTETS[profile],
+            usable: USABLE[profile],
+            kind: KINDS[profile],
+            time: TIMES[profile],
+            untimed: UNTIMED[profile],
+        };
+    }
+    ProfileRow {
+        cat: 0,
+        octets: 0,
+        usable: 0,
+        kind: 0,
+        time: 0,
+        untimed: 0,
     }
 }
 
-// The profile of a category, by its CAT: past the last for any other category. It asks all of them, so that no jump hangs on the CAT, which is hard to
-// guess where logs have several.
+// The profile of a category, by its CAT: past the last for any other category.
 pub fn profile_of(cat: u8) -> usize
     ensures { result ≡ profileIn cat categories }
 {
-    let mut found = PROFILES;
-    let mut left = PROFILES;
-    while 0 < left {
-        left = left - 1;
-        let row = profile_row(left);
-        if row.cat == cat {
-            found = left;
+    let mut profile: usize = 0;
+    while profile < PROFILES {
+        if CATS[profile] == cat {
+            return profile;
         }
+        profile += 1;
     }
-    found
+    PROFILES
 }

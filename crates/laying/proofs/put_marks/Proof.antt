@@ -32,7 +32,7 @@ put-mark-requires c κs =
 
 add-p : tie.Need-overflow-add-p invariant-loop decreases-loop
 add-p c =
-    omega (arith, laid-room _ c.before.before.before.before.before.before.before.before.before.before.args.shape _ _ _ _ _ _ _ c.before.before.before.before.before.before.loop.invariant c.before.before.before.before.before.loop-test.true c.before.before.before.before.before.before.before.before.before.before.requires.1, c.before.before.before.before.before.before.loop.invariant.long, c.before.before.before.before.before.before.before.type_size.ensures.0, c.before.before.before.before.before.before.before.before.before.before.well-formed.0)
+    omega (arith, laid-room _ c.before.before.before.before.before.before.before.before.before.before.args.shape _ _ _ _ _ _ _ c.before.before.before.before.before.before.loop.invariant c.before.before.before.before.before.loop-test.true c.before.before.before.before.before.before.before.before.before.before.requires.1, c.before.before.before.before.before.before.loop.invariant.long, c.before.before.before.before.before.before.before.size_of.ensures.0, c.before.before.before.before.before.before.before.before.before.before.well-formed.0)
 
 add-j : tie.Need-overflow-add-j invariant-loop decreases-loop
 add-j c =
@@ -44,7 +44,7 @@ loop-less c =
 
 loop-again : tie.Need-loop-preserved invariant-loop decreases-loop
 loop-again c =
-    laid_more _ _ _ _ _ _ _ _ _ _ _ _ c.before.before.before.before.before.before.loop.invariant c.before.before.before.before.before.loop-test.true c.before.before.before.before.before.before.before.type_size.ensures.0 c.before.before.before.before.new-mark.ensures c.before.before.put-mark.ensures
+    laid_more _ _ _ _ _ _ _ _ _ _ _ _ c.before.before.before.before.before.before.loop.invariant c.before.before.before.before.before.loop-test.true c.before.before.before.before.before.before.before.size_of.ensures.0 c.before.before.before.before.new-mark.ensures c.before.before.put-mark.ensures
 
 same_length : tie.Need-same-length invariant-loop decreases-loop
 same_length c =

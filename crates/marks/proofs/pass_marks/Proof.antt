@@ -35,18 +35,18 @@ mark-in-requires c κs = passed-size _ _ _ _ _ _ _ _ _ _ c.before.before.loop.in
 
 sub-mark-fits : tie.Need-overflow-sub-mark-fits invariant-loop decreases-loop
 sub-mark-fits c =
-    omega (arith, c.before.before.before.before.type_size.ensures.0, size-least c.before.before.before.before.before.before.args.shape)
+    omega (arith, c.before.before.before.before.size_of.ensures.0, size-least c.before.before.before.before.before.before.args.shape)
 
 shared-slice-read-mark-fits : tie.Need-shared-slice-read-mark-fits invariant-loop decreases-loop
 shared-slice-read-mark-fits c =
-    omega (arith, c.before.before.before.before.before.type_size.ensures.0, size-least c.before.before.before.before.before.before.before.args.shape, passed-size _ _ _ _ _ _ _ _ _ _ c.before.before.before.before.loop.invariant c.before.before.before.before.before.before.before.requires c.before.before.before.loop-test.true)
+    omega (arith, c.before.before.before.before.before.size_of.ensures.0, size-least c.before.before.before.before.before.before.before.args.shape, passed-size _ _ _ _ _ _ _ _ _ _ c.before.before.before.before.loop.invariant c.before.before.before.before.before.before.before.requires c.before.before.before.loop-test.true)
 
 mark-fits-requires : tie.Need-mark-fits-requires invariant-loop decreases-loop
 mark-fits-requires c κs = search rules
 
 returns : tie.Need-returns invariant-loop decreases-loop
 returns c =
-    passed-fault _ _ _ _ _ _ _ _ _ _ c.before.before.before.before.before.before.loop.invariant _ _ c.before.before.before.before.before.loop-test.true c.before.before.before.before.before.before.before.type_size.ensures.0 c.before.before.before.mark-in.ensures (sym c.before.mark-fits.ensures ∙ not-true _ c.if1.true)
+    passed-fault _ _ _ _ _ _ _ _ _ _ c.before.before.before.before.before.before.loop.invariant _ _ c.before.before.before.before.before.loop-test.true c.before.before.before.before.before.before.before.size_of.ensures.0 c.before.before.before.mark-in.ensures (sym c.before.mark-fits.ensures ∙ not-true _ c.if1.true)
 
 key-of-requires : tie.Need-key-of-requires invariant-loop decreases-loop
 key-of-requires c κs = search rules
@@ -74,7 +74,7 @@ add-least c =
 
 add_at : tie.Need-overflow-add-at invariant-loop decreases-loop
 add_at c =
-    omega (arith, passed-at _ _ _ _ _ _ _ _ _ _ c.before.before.before.before.before.before.before.before.before.before.before.loop.invariant c.before.before.before.before.before.before.before.before.before.before.before.before.before.before.requires c.before.before.before.before.before.before.before.before.before.before.loop-test.true, c.before.before.before.before.before.before.before.before.before.before.before.before.type_size.ensures.0)
+    omega (arith, passed-at _ _ _ _ _ _ _ _ _ _ c.before.before.before.before.before.before.before.before.before.before.before.loop.invariant c.before.before.before.before.before.before.before.before.before.before.before.before.before.before.requires c.before.before.before.before.before.before.before.before.before.before.loop-test.true, c.before.before.before.before.before.before.before.before.before.before.before.before.size_of.ensures.0)
 
 add-i : tie.Need-overflow-add-i invariant-loop decreases-loop
 add-i c =
@@ -86,7 +86,7 @@ loop-less c =
 
 loop-again : tie.Need-loop-preserved invariant-loop decreases-loop
 loop-again c =
-    passed-more _ _ _ _ _ _ _ _ _ _ c.before.before.before.before.before.before.before.before.before.before.before.loop.invariant _ _ _ _ _ _ c.before.before.before.before.before.before.before.before.before.before.loop-test.true c.before.before.before.before.before.before.before.before.before.before.before.before.type_size.ensures.0 c.before.before.before.before.before.before.before.before.mark-in.ensures (sym c.before.before.before.before.before.before.mark-fits.ensures ∙ not-false _ c.before.before.before.before.before.if1.false) c.before.before.before.before.key_of.ensures.0
+    passed-more _ _ _ _ _ _ _ _ _ _ c.before.before.before.before.before.before.before.before.before.before.before.loop.invariant _ _ _ _ _ _ c.before.before.before.before.before.before.before.before.before.before.loop-test.true c.before.before.before.before.before.before.before.before.before.before.before.before.size_of.ensures.0 c.before.before.before.before.before.before.before.before.mark-in.ensures (sym c.before.before.before.before.before.before.mark-fits.ensures ∙ not-false _ c.before.before.before.before.before.if1.false) c.before.before.before.before.key_of.ensures.0
     c.before.before.one-if.ensures c.before.one-if2.ensures c.either.ensures
 
 returns-2 : tie.Need-returns-2 invariant-loop decreases-loop

@@ -26,19 +26,19 @@ size-of-requires c κs = search rules
 
 rem-part : tie.Need-nonzero-rem-part
 rem-part c =
-    omega (arith, c.type_size.ensures.0, size-least c.before.before.before.before.before.before.args.shape)
+    omega (arith, c.size_of.ensures.0, size-least c.before.before.before.before.before.before.args.shape)
 
 div-c : tie.Need-nonzero-div-c
 div-c c =
-    omega (arith, c.type_size.ensures.0, size-least c.before.before.before.before.before.before.args.shape)
+    omega (arith, c.size_of.ensures.0, size-least c.before.before.before.before.before.before.args.shape)
 
 returns-2 : tie.Need-returns-2
 returns-2 c =
-    list_length _ _ _ _ _ _ _ (ap countAnswer (sym c.before.before.before.n.given.1) ∙ c.before.before.before.before.before.field-length.ensures) c.before.type_size.ensures.0 c.if1.true
+    list_length _ _ _ _ _ _ _ (ap countAnswer (sym c.before.before.before.n.given.1) ∙ c.before.before.before.before.before.field-length.ensures) c.before.size_of.ensures.0 c.if1.true
 
 returns-3 : tie.Need-returns-3
 returns-3 c =
-    list-many _ _ _ _ _ _ _ (ap countAnswer (sym c.before.before.before.before.n.given.1) ∙ c.before.before.before.before.before.before.field-length.ensures) c.before.before.type_size.ensures.0 c.before.if1.false c.if2.true
+    list-many _ _ _ _ _ _ _ (ap countAnswer (sym c.before.before.before.before.n.given.1) ∙ c.before.before.before.before.before.before.field-length.ensures) c.before.before.size_of.ensures.0 c.before.if1.false c.if2.true
 
 add-e : tie.Need-overflow-add-e
 add-e c =
@@ -58,23 +58,23 @@ part-pass-marks-end c =
 
 pass-marks-requires : tie.Need-pass-marks-requires
 pass-marks-requires c κs =
-    list-room _ c.before.before.before.before.before.before.before.before.before.args.shape c.before.before.before.before.before.before.before.before.before.args.limit c.before.before.before.before.before.before.before.before.before.args.key _ _ _ (ap countAnswer (sym c.before.before.before.before.before.n.given.1) ∙ c.before.before.before.before.before.before.before.field-length.ensures) c.before.before.before.type_size.ensures.0
+    list-room _ c.before.before.before.before.before.before.before.before.before.args.shape c.before.before.before.before.before.before.before.before.before.args.limit c.before.before.before.before.before.before.before.before.before.args.key _ _ _ (ap countAnswer (sym c.before.before.before.before.before.n.given.1) ∙ c.before.before.before.before.before.before.before.field-length.ensures) c.before.before.before.size_of.ensures.0
 
 mul-place : tie.Need-overflow-mul-place
 mul-place c =
-    omega (arith, list-place _ c.before.before.before.before.before.before.before.before.before.before.before.args.shape c.before.before.before.before.before.before.before.before.before.before.before.args.limit c.before.before.before.before.before.before.before.before.before.before.before.args.key c.before.before.before.before.before.before.before.before.before.before.before.args.bs.now _ _ _ (ap countAnswer (sym c.before.before.before.before.before.before.before.n.given.1) ∙ c.before.before.before.before.before.before.before.before.before.field-length.ensures) c.before.before.before.before.before.type_size.ensures.0 c.if3.true)
+    omega (arith, list-place _ c.before.before.before.before.before.before.before.before.before.before.before.args.shape c.before.before.before.before.before.before.before.before.before.before.before.args.limit c.before.before.before.before.before.before.before.before.before.before.before.args.key c.before.before.before.before.before.before.before.before.before.before.before.args.bs.now _ _ _ (ap countAnswer (sym c.before.before.before.before.before.before.before.n.given.1) ∙ c.before.before.before.before.before.before.before.before.before.field-length.ensures) c.before.before.before.before.before.size_of.ensures.0 c.if3.true)
 
 add-place : tie.Need-overflow-add-place
 add-place c =
-    omega (arith, list-place _ c.before.before.before.before.before.before.before.before.before.before.before.args.shape c.before.before.before.before.before.before.before.before.before.before.before.args.limit c.before.before.before.before.before.before.before.before.before.before.before.args.key c.before.before.before.before.before.before.before.before.before.before.before.args.bs.now _ _ _ (ap countAnswer (sym c.before.before.before.before.before.before.before.n.given.1) ∙ c.before.before.before.before.before.before.before.before.before.field-length.ensures) c.before.before.before.before.before.type_size.ensures.0 c.if3.true)
+    omega (arith, list-place _ c.before.before.before.before.before.before.before.before.before.before.before.args.shape c.before.before.before.before.before.before.before.before.before.before.before.args.limit c.before.before.before.before.before.before.before.before.before.before.before.args.key c.before.before.before.before.before.before.before.before.before.before.before.args.bs.now _ _ _ (ap countAnswer (sym c.before.before.before.before.before.before.before.n.given.1) ∙ c.before.before.before.before.before.before.before.before.before.field-length.ensures) c.before.before.before.before.before.size_of.ensures.0 c.if3.true)
 
 returns-4 : tie.Need-returns-4
 returns-4 c =
-    list-fault _ _ _ _ _ _ _ _ (ap countAnswer (sym c.before.before.before.before.before.before.before.n.given.1) ∙ c.before.before.before.before.before.before.before.before.before.field-length.ensures) c.before.before.before.before.before.type_size.ensures.0 c.before.before.before.before.if1.false c.before.before.before.if2.false c.before.pass-marks.ensures c.if3.true
+    list-fault _ _ _ _ _ _ _ _ (ap countAnswer (sym c.before.before.before.before.before.before.before.n.given.1) ∙ c.before.before.before.before.before.before.before.before.before.field-length.ensures) c.before.before.before.before.before.size_of.ensures.0 c.before.before.before.before.if1.false c.before.before.before.if2.false c.before.pass-marks.ensures c.if3.true
 
 returns-5 : tie.Need-returns-5
 returns-5 c =
-    list-told _ _ _ _ _ _ _ _ (ap countAnswer (sym c.before.before.before.before.before.before.before.n.given.1) ∙ c.before.before.before.before.before.before.before.before.before.field-length.ensures) c.before.before.before.before.before.type_size.ensures.0 c.before.before.before.before.if1.false c.before.before.before.if2.false c.before.pass-marks.ensures c.if3.false
+    list-told _ _ _ _ _ _ _ _ (ap countAnswer (sym c.before.before.before.before.before.before.before.n.given.1) ∙ c.before.before.before.before.before.before.before.before.before.field-length.ensures) c.before.before.before.before.before.size_of.ensures.0 c.before.before.before.before.if1.false c.before.before.before.if2.false c.before.pass-marks.ensures c.if3.false
 
 pub read-list-spec : {M : Type 1} → statement M
 read-list-spec =

@@ -1,4 +1,4 @@
--- `quick_records::lent::set_table` meets its contract: no shape says what the rules do not have. Assumes nothing.
+-- `quick_records::lent::set_table` meets its contract: the rows are those of the rules' messages, and no shape says what the rules do not have. Assumes nothing.
 use mathlib.Core.Path.{refl}
 use Rattle.rules.specs.Answer.{need◌or◌then◌, if◌then◌else◌}
 use Rattle.rules.specs.Presence.{number, flags}

@@ -1,12 +1,13 @@
 -- `quick_records::record::is_content` meets its contract: the table's row is the rules' row. Assumes nothing.
-use Prim.Native.Nat.{◌+◌, ◌*◌}
-use mathlib.Core.Path.{◌≡◌, sym, ap, ◌∙◌}
+use Prim.Native.Nat.{◌+◌, ◌*◌, ◌<◌}
+use mathlib.Core.Path.{◌≡◌, sym, ap, ap₂, ◌∙◌}
 use native.Mathlib.Omega.{arith}
 use lib.ListN.{get_or}
 use Rattle.rules.specs.Answer.{ok}
 use Rattle.sets.specs.Steps.{row_at}
-use Rattle.quick_records.specs.Record.{setsOf, kindCount}
-use Rattle.quick_records.proofs.RecordLaws.{row_read, content}
+use Rattle.quick_records.specs.Record.{kindCount, rowCount}
+use Rattle.quick_records.proofs.RecordLaws.{row-few, row_read, content}
+use Rattle.quick_records.proofs.ShapeLaws.{sets-read}
 use borrow.Author.Rules.{rules}
 use Rattle.quick_records.proofs.record.is_content.Statement.{statement}
 use Rattle.quick_records.proofs.record.is_content.Tie as tie
@@ -32,14 +33,26 @@ octet-requires-2 c κs = search rules
 returns-2 : tie.Need-returns-2
 returns-2 c = search rules
 
-mul-sets-of : tie.Need-overflow-mul-sets-of
-mul-sets-of c = search rules
+mul_at : tie.Need-overflow-mul-at
+mul_at c = search rules
 
-add-sets-of : tie.Need-overflow-add-sets-of
-add-sets-of c = search rules
+add_at : tie.Need-overflow-add-at
+add_at c = search rules
 
-sets-of-requires : tie.Need-sets-of-requires
-sets-of-requires c κs = search rules
+mul-at-2 : tie.Need-overflow-mul-at-2
+mul-at-2 c = search rules
+
+mul-t11 : tie.Need-overflow-mul-t11
+mul-t11 c = search rules
+
+-- the row that the table has for the type
+few : (c : tie.Else2) → c.before.octet2.result < rowCount
+few c =
+    row-few c.before.before.before.before.before.args.types.now _ c.before.before.before.before.before.requires.0 c.before.before.before.before.before.requires.2 c.before.before.before.before.before.args.kind _ (omega (arith, c.before.before.before.before.octet.ensures.0, c.before.before.before.if1.false))
+    (ap (λ x. get_or c.before.before.before.before.before.args.types.now (c.before.before.before.before.before.args.profile * kindCount + x) 0) (sym c.before.before.before.before.octet.ensures.0) ∙ sym c.before.octet2.ensures.0) c.if2.false
+
+element-copy-out-t18 : tie.Need-element-copy-out-t18
+element-copy-out-t18 c = omega (arith, few c, c.before.before.before.before.before.requires.2)
 
 is-within-requires : tie.Need-is-within-requires
 is-within-requires c κs = search rules
@@ -47,18 +60,29 @@ is-within-requires c κs = search rules
 returns-3 : tie.Need-returns-3
 returns-3 c = search rules
 
+add-t12 : tie.Need-overflow-add-t12
+add-t12 c = search rules
+
+mul-t11-2 : tie.Need-overflow-mul-t11-2
+mul-t11-2 c = search rules
+
+element-copy-out-t18-2 : tie.Need-element-copy-out-t18-2
+element-copy-out-t18-2 c = omega (arith, few c.before.before.before, c.before.before.before.before.before.before.before.before.requires.2)
+
 is-within-requires-2 : tie.Need-is-within-requires-2
 is-within-requires-2 c κs = search rules
 
 -- the row, in the rules' terms
-row : (c : tie.After-is-within2) → row_at c.before.before.before.before.before.before.before.before.before.args.profile c.before.before.before.before.before.before.before.before.before.args.kind ≡ ok (setsOf c.before.before.before.sets_of.result)
+row : (c : tie.After-is-within2)
+    → row_at c.before.before.before.before.before.before.before.before.before.before.args.profile c.before.before.before.before.before.before.before.before.before.before.args.kind
+    ≡ ok (get_or c.before.before.before.before.before.before.before.before.before.before.args.sets.now (2 * (c.before.before.before.before.before.before.before.before.before.before.args.profile * rowCount + c.before.before.before.before.before.before.octet2.result)) 0, get_or c.before.before.before.before.before.before.before.before.before.before.args.sets.now (2 * (c.before.before.before.before.before.before.before.before.before.before.args.profile * rowCount + c.before.before.before.before.before.before.octet2.result) + 1) 0)
 row c =
-    row_read c.before.before.before.before.before.before.before.before.before.args.types.now _ c.before.before.before.before.before.before.before.before.before.requires.0 c.before.before.before.before.before.before.before.before.before.requires.1 _ _ (omega (arith, c.before.before.before.before.before.before.before.before.octet.ensures.0, c.before.before.before.before.before.before.before.if1.false))
-    (ap (λ x. get_or c.before.before.before.before.before.before.before.before.before.args.types.now (c.before.before.before.before.before.before.before.before.before.args.profile * kindCount + x) 0) (sym c.before.before.before.before.before.before.before.before.octet.ensures.0) ∙ sym c.before.before.before.before.before.octet2.ensures.0) c.before.before.before.before.if2.false
-    ∙ ap ok (sym c.before.before.before.sets_of.ensures)
+    row_read c.before.before.before.before.before.before.before.before.before.before.args.types.now _ c.before.before.before.before.before.before.before.before.before.before.requires.0 c.before.before.before.before.before.before.before.before.before.before.requires.2 _ _ (omega (arith, c.before.before.before.before.before.before.before.before.before.octet.ensures.0, c.before.before.before.before.before.before.before.before.if1.false))
+    (ap (λ x. get_or c.before.before.before.before.before.before.before.before.before.before.args.types.now (c.before.before.before.before.before.before.before.before.before.before.args.profile * kindCount + x) 0) (sym c.before.before.before.before.before.before.before.before.before.octet.ensures.0) ∙ sym c.before.before.before.before.before.before.octet2.ensures.0) c.before.before.before.before.before.if2.false
+    ∙ ap₂ (λ x y. ok (x, y)) (sym (sets-read _ c.before.before.before.before.before.before.before.before.before.before.requires.1 _ (omega (arith, few c.before.before.before.before.before, c.before.before.before.before.before.before.before.before.before.before.requires.2)))) (sym (sets-read _ c.before.before.before.before.before.before.before.before.before.before.requires.1 _ (omega (arith, few c.before.before.before.before.before, c.before.before.before.before.before.before.before.before.before.before.requires.2))))
 
 returns-4 : tie.Need-returns-4
-returns-4 c = content _ _ _ _ _ c.before.before.before.before.before.before.before.before.before.requires.2 c.before.before.before.before.before.before.before.before.before.requires.3 (row c) c.before.before.is_Within.ensures c.before.if3.false c.is-within2.ensures
+returns-4 c = content _ _ _ _ _ c.before.before.before.before.before.before.before.before.before.before.requires.3 c.before.before.before.before.before.before.before.before.before.before.requires.4 (row c) c.before.before.before.is_Within.ensures c.before.before.if3.false c.is-within2.ensures
 
 pub is-content-spec : {M : Type 1} → statement M
 is-content-spec =
@@ -71,10 +95,15 @@ is-content-spec =
     element-copy-out-octet
     octet-requires-2
     returns-2
-    mul-sets-of
-    add-sets-of
-    sets-of-requires
+    mul_at
+    add_at
+    mul-at-2
+    mul-t11
+    element-copy-out-t18
     is-within-requires
     returns-3
+    add-t12
+    mul-t11-2
+    element-copy-out-t18-2
     is-within-requires-2
     returns-4)

@@ -85,24 +85,24 @@ shared-slice-read-is-content : tie.Need-shared-slice-read-is-content
 shared-slice-read-is-content c = omega (arith, place c.before, front c.before.before.before.before.before.before.before.before.before.before, type-within _ (fronted c.before.before.before.before.before.before.before.before.before.before), c.before.before.before.before.if3.false)
 
 is-content-requires : tie.Need-is-content-requires
-is-content-requires c κs = (c.before.before.before.before.before.before.before.before.before.before.before.before.before.before.before.requires.1, c.before.before.before.before.before.before.before.before.before.before.before.before.before.if1.false, fronted c.before.before.before.before.before.before.before.before.before.before, c.before.before.before.if4.false)
+is-content-requires c κs = (c.before.before.before.before.before.before.before.before.before.before.before.before.before.before.before.requires.1, c.before.before.before.before.before.before.before.before.before.before.before.before.before.before.before.requires.2, c.before.before.before.before.before.before.before.before.before.before.before.before.before.if1.false, fronted c.before.before.before.before.before.before.before.before.before.before, c.before.before.before.if4.false)
 
 returns-6 : tie.Need-returns-6
 returns-6 c = search rules
 
 quick-items-requires : tie.Need-quick-items-requires
-quick-items-requires c κs = (c.before.before.before.before.before.before.before.before.before.before.before.before.before.before.before.before.before.requires.0, c.before.before.before.before.before.before.before.before.before.before.before.before.before.before.before.before.before.requires.1, c.before.before.before.before.before.before.before.before.before.before.before.before.before.before.before.if1.false, fronted c.before.before.before.before.before.before.before.before.before.before.before.before, front c.before.before.before.before.before.before.before.before.before.before.before.before, c.before.before.before.before.before.if4.false, omega (arith, c.before.before.before.before.before.before.before.items.given.2, c.before.before.before.before.before.before.before.before.before.before.before.before.before.before.before.before.before.requires.2))
+quick-items-requires c κs = (c.before.before.before.before.before.before.before.before.before.before.before.before.before.before.before.before.before.requires.0, c.before.before.before.before.before.before.before.before.before.before.before.before.before.before.before.before.before.requires.1, c.before.before.before.before.before.before.before.before.before.before.before.before.before.before.before.if1.false, fronted c.before.before.before.before.before.before.before.before.before.before.before.before, front c.before.before.before.before.before.before.before.before.before.before.before.before, c.before.before.before.before.before.if4.false, omega (arith, c.before.before.before.before.before.before.before.items.given.2, c.before.before.before.before.before.before.before.before.before.before.before.before.before.before.before.before.before.requires.3))
 
 returns-7 : tie.Need-returns-7
 returns-7 c = search rules
 
 whole : (c : tie.Else6) → end_at c.before.before.before.before.before.before.before.before.before.before.before.before.before.before.before.before.before.before.before.args.profile 0 c.before.before.before.before.before.before.before.before.before.before.before.before.before.before.before.before.before.before.before.args.part.now ≡ ok (c.before.before.before.before.before.before.before.before.before.before.before.set.given.0.1.0 + c.before.quick-items.result)
 whole c =
-    quick-whole _ _ c.before.before.before.before.before.before.before.before.before.before.before.before.before.before.before.before.before.before.shared-slice-known.given c.before.before.before.before.before.before.before.before.before.before.before.before.before.before.before.before.before.before.before.requires.2 _ _ _ _ c.before.before.before.before.before.before.before.before.before.before.before.before.before.from-octets.ensures c.before.before.before.before.before.before.before.before.before.before.before.set.given.1
+    quick-whole _ _ c.before.before.before.before.before.before.before.before.before.before.before.before.before.before.before.before.before.before.shared-slice-known.given c.before.before.before.before.before.before.before.before.before.before.before.before.before.before.before.before.before.before.before.requires.3 _ _ _ _ c.before.before.before.before.before.before.before.before.before.before.before.before.before.from-octets.ensures c.before.before.before.before.before.before.before.before.before.before.before.set.given.1
     _ _ refl (place c.before.before.before.before.before) (right c.before.before.before.is-content.result _ c.before.before.before.is-content.ensures c.before.before.if5.false) c.if6.false c.before.quick-items.ensures
 
 add-result : tie.Need-overflow-add-result
-add-result c = record { fits = omega (arith, end-within _ _ c.before.before.before.before.before.before.before.before.before.before.before.before.before.before.before.before.before.before.shared-slice-known.given c.before.before.before.before.before.before.before.before.before.before.before.before.before.before.before.before.before.before.before.requires.2 _ (whole c), c.before.before.before.before.before.before.before.before.before.before.before.before.before.before.before.before.before.before.before.requires.2) }
+add-result c = record { fits = omega (arith, end-within _ _ c.before.before.before.before.before.before.before.before.before.before.before.before.before.before.before.before.before.before.shared-slice-known.given c.before.before.before.before.before.before.before.before.before.before.before.before.before.before.before.before.before.before.before.requires.3 _ (whole c), c.before.before.before.before.before.before.before.before.before.before.before.before.before.before.before.before.before.before.before.requires.3) }
 
 returns-8 : tie.Need-returns-8
 returns-8 c = tell _ _ (whole c)

@@ -17,6 +17,9 @@ slot-of-requires c κs = search rules
 mul_at : tie.Need-overflow-mul-at
 mul_at c = search rules
 
+add_at : tie.Need-overflow-add-at
+add_at c = search rules
+
 mul-long : tie.Need-overflow-mul-long
 mul-long c = search rules
 
@@ -73,6 +76,7 @@ shaped-record-spec =
     first-five-requires
     slot-of-requires
     mul_at
+    add_at
     mul-long
     element-copy-out-long
     long-requires

@@ -1,8 +1,10 @@
 -- `tables::tables::field_at` meets its contract: the row is read from its digits, and its range from the ranges. Assumes nothing.
-use mathlib.Core.Path.{ap, ◌∙◌}
+use mathlib.Core.Path.{ap, sym, ◌∙◌, subst}
+use Prim.Native.Nat.{◌<◌, ◌%◌}
 use mir.Syntax.{w64}
 use mir.ValLaws.{to_z-of_z}
-use Rattle.tables.proofs.TableLaws.{fieldDigits, field-digits}
+use Rattle.tables.specs.Tables.{rangeCount}
+use Rattle.tables.proofs.TableLaws.{fieldDigits, field-digits, field-range}
 use borrow.Author.Rules.{rules}
 use Rattle.tables.proofs.tables.field_at.Statement.{statement}
 use Rattle.tables.proofs.tables.field_at.Tie as tie
@@ -20,10 +22,10 @@ cast-t8 : tie.Need-overflow-cast-t8
 cast-t8 c = search rules
 
 least-at-requires : tie.Need-least-at-requires
-least-at-requires c κs = search rules
+least-at-requires c κs = subst (λ w. w % 100 < rangeCount) (sym c.field-word.ensures) (field-range c.before.args.place c.before.requires)
 
 greatest-at-requires : tie.Need-greatest-at-requires
-greatest-at-requires c κs = search rules
+greatest-at-requires c κs = subst (λ w. w % 100 < rangeCount) (sym c.before.field-word.ensures) (field-range c.before.before.args.place c.before.before.requires)
 
 returns : tie.Need-returns
 returns c =

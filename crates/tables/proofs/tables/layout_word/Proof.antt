@@ -1,118 +1,34 @@
--- `tables::tables::layout_word` meets its contract: the code's table is, row by row, the one that the rules' profiles give. Assumes nothing.
-use mathlib.Core.Path.{refl}
+-- `tables::tables::layout_word` meets its contract: the code's table, in two parts, is, row by row, the one that the rules' profiles give. Assumes nothing.
+use borrow.Author.Rules.{rules}
 use Rattle.rules.specs.Catalogue.{categories}
 use Rattle.tables.specs.Tables.{layoutWords, layouts}
-use Rattle.tables.proofs.MatchLaws.{in-arm, no_arm}
+use Rattle.tables.proofs.TableLaws.{first_part, last-part}
 use Rattle.tables.proofs.tables.layout_word.Statement.{statement}
 use Rattle.tables.proofs.tables.layout_word.Tie as tie
 
-pub layout-word-spec : {M : Type 1} → statement M
+mul-result : tie.Need-overflow-mul-result
+mul-result c = search rules
+
+array-read-result : tie.Need-array-read-result
+array-read-result c = search rules
+
+-- a row of the categories before the last
+returns : tie.Need-returns
 unfolding layoutWords layouts categories
-layout-word-spec =
-    tie.close
-    (tie.spec
-    -- ---- made by model/make.py: a line to an arm
-    (λ c. in-arm layoutWords 0 c.match.keys1 refl)
-    (λ c. in-arm layoutWords 0 c.match.keys2 refl)
-    (λ c. in-arm layoutWords 0 c.match.keys3 refl)
-    (λ c. in-arm layoutWords 0 c.match.keys4 refl)
-    (λ c. in-arm layoutWords 0 c.match.keys5 refl)
-    (λ c. in-arm layoutWords 0 c.match.keys6 refl)
-    (λ c. in-arm layoutWords 0 c.match.keys7 refl)
-    (λ c. in-arm layoutWords 0 c.match.keys8 refl)
-    (λ c. in-arm layoutWords 0 c.match.keys9 refl)
-    (λ c. in-arm layoutWords 0 c.match.keys10 refl)
-    (λ c. in-arm layoutWords 0 c.match.keys11 refl)
-    (λ c. in-arm layoutWords 0 c.match.keys12 refl)
-    (λ c. in-arm layoutWords 0 c.match.keys13 refl)
-    (λ c. in-arm layoutWords 0 c.match.keys14 refl)
-    (λ c. in-arm layoutWords 0 c.match.keys15 refl)
-    (λ c. in-arm layoutWords 0 c.match.keys16 refl)
-    (λ c. in-arm layoutWords 0 c.match.keys17 refl)
-    (λ c. in-arm layoutWords 0 c.match.keys18 refl)
-    (λ c. in-arm layoutWords 0 c.match.keys19 refl)
-    (λ c. in-arm layoutWords 0 c.match.keys20 refl)
-    (λ c. in-arm layoutWords 0 c.match.keys21 refl)
-    (λ c. in-arm layoutWords 0 c.match.keys22 refl)
-    (λ c. in-arm layoutWords 0 c.match.keys23 refl)
-    (λ c. in-arm layoutWords 0 c.match.keys24 refl)
-    (λ c. in-arm layoutWords 0 c.match.keys25 refl)
-    (λ c. in-arm layoutWords 0 c.match.keys26 refl)
-    (λ c. in-arm layoutWords 0 c.match.keys27 refl)
-    (λ c. in-arm layoutWords 0 c.match.keys28 refl)
-    (λ c. in-arm layoutWords 0 c.match.keys29 refl)
-    (λ c. in-arm layoutWords 0 c.match.keys30 refl)
-    (λ c. in-arm layoutWords 0 c.match.keys31 refl)
-    (λ c. in-arm layoutWords 0 c.match.keys32 refl)
-    (λ c. in-arm layoutWords 0 c.match.keys33 refl)
-    (λ c. in-arm layoutWords 0 c.match.keys34 refl)
-    (λ c. in-arm layoutWords 0 c.match.keys35 refl)
-    (λ c. in-arm layoutWords 0 c.match.keys36 refl)
-    (λ c. in-arm layoutWords 0 c.match.keys37 refl)
-    (λ c. in-arm layoutWords 0 c.match.keys38 refl)
-    (λ c. in-arm layoutWords 0 c.match.keys39 refl)
-    (λ c. in-arm layoutWords 0 c.match.keys40 refl)
-    (λ c. in-arm layoutWords 0 c.match.keys41 refl)
-    (λ c. in-arm layoutWords 0 c.match.keys42 refl)
-    (λ c. in-arm layoutWords 0 c.match.keys43 refl)
-    (λ c. in-arm layoutWords 0 c.match.keys44 refl)
-    (λ c. in-arm layoutWords 0 c.match.keys45 refl)
-    (λ c. in-arm layoutWords 0 c.match.keys46 refl)
-    (λ c. in-arm layoutWords 0 c.match.keys47 refl)
-    (λ c. in-arm layoutWords 0 c.match.keys48 refl)
-    (λ c. in-arm layoutWords 0 c.match.keys49 refl)
-    (λ c. in-arm layoutWords 0 c.match.keys50 refl)
-    (λ c. in-arm layoutWords 0 c.match.keys51 refl)
-    (λ c. in-arm layoutWords 0 c.match.keys52 refl)
-    (λ c. in-arm layoutWords 0 c.match.keys53 refl)
-    (λ c. in-arm layoutWords 0 c.match.keys54 refl)
-    (λ c. in-arm layoutWords 0 c.match.keys55 refl)
-    (λ c. in-arm layoutWords 0 c.match.keys56 refl)
-    (λ c. in-arm layoutWords 0 c.match.keys57 refl)
-    (λ c. in-arm layoutWords 0 c.match.keys58 refl)
-    (λ c. in-arm layoutWords 0 c.match.keys59 refl)
-    (λ c. in-arm layoutWords 0 c.match.keys60 refl)
-    (λ c. in-arm layoutWords 0 c.match.keys61 refl)
-    (λ c. in-arm layoutWords 0 c.match.keys62 refl)
-    (λ c. in-arm layoutWords 0 c.match.keys63 refl)
-    (λ c. in-arm layoutWords 0 c.match.keys64 refl)
-    (λ c. in-arm layoutWords 0 c.match.keys65 refl)
-    (λ c. in-arm layoutWords 0 c.match.keys66 refl)
-    (λ c. in-arm layoutWords 0 c.match.keys67 refl)
-    (λ c. in-arm layoutWords 0 c.match.keys68 refl)
-    (λ c. in-arm layoutWords 0 c.match.keys69 refl)
-    (λ c. in-arm layoutWords 0 c.match.keys70 refl)
-    (λ c. in-arm layoutWords 0 c.match.keys71 refl)
-    (λ c. in-arm layoutWords 0 c.match.keys72 refl)
-    (λ c. in-arm layoutWords 0 c.match.keys73 refl)
-    (λ c. in-arm layoutWords 0 c.match.keys74 refl)
-    (λ c. in-arm layoutWords 0 c.match.keys75 refl)
-    (λ c. in-arm layoutWords 0 c.match.keys76 refl)
-    (λ c. in-arm layoutWords 0 c.match.keys77 refl)
-    (λ c. in-arm layoutWords 0 c.match.keys78 refl)
-    (λ c. in-arm layoutWords 0 c.match.keys79 refl)
-    (λ c. in-arm layoutWords 0 c.match.keys80 refl)
-    (λ c. in-arm layoutWords 0 c.match.keys81 refl)
-    (λ c. in-arm layoutWords 0 c.match.keys82 refl)
-    (λ c. in-arm layoutWords 0 c.match.keys83 refl)
-    (λ c. in-arm layoutWords 0 c.match.keys84 refl)
-    (λ c. in-arm layoutWords 0 c.match.keys85 refl)
-    (λ c. in-arm layoutWords 0 c.match.keys86 refl)
-    (λ c. in-arm layoutWords 0 c.match.keys87 refl)
-    (λ c. in-arm layoutWords 0 c.match.keys88 refl)
-    (λ c. in-arm layoutWords 0 c.match.keys89 refl)
-    (λ c. in-arm layoutWords 0 c.match.keys90 refl)
-    (λ c. in-arm layoutWords 0 c.match.keys91 refl)
-    (λ c. in-arm layoutWords 0 c.match.keys92 refl)
-    (λ c. in-arm layoutWords 0 c.match.keys93 refl)
-    (λ c. in-arm layoutWords 0 c.match.keys94 refl)
-    (λ c. in-arm layoutWords 0 c.match.keys95 refl)
-    (λ c. in-arm layoutWords 0 c.match.keys96 refl)
-    (λ c. in-arm layoutWords 0 c.match.keys97 refl)
-    (λ c. in-arm layoutWords 0 c.match.keys98 refl)
-    (λ c. in-arm layoutWords 0 c.match.keys99 refl)
-    (λ c. in-arm layoutWords 0 c.match.keys100 refl)
-    (λ c. in-arm layoutWords 0 c.match.keys101 refl)
-    (λ c. in-arm layoutWords 0 c.match.keys102 refl)
-    -- ---- end of what is made
-    (λ c. no_arm layoutWords 0 _ c.match.rest))
+returns c = first_part _ layoutWords _ c.if1.true
+
+mul-result-2 : tie.Need-overflow-mul-result-2
+unfolding layouts categories
+mul-result-2 c = search rules
+
+array-read-result-2 : tie.Need-array-read-result-2
+unfolding layouts categories
+array-read-result-2 c = search rules
+
+-- one of the last
+returns-2 : tie.Need-returns-2
+unfolding layoutWords layouts categories
+returns-2 c = last-part _ layoutWords _ c.if1.false
+
+pub layout-word-spec : {M : Type 1} → statement M
+layout-word-spec = tie.close (tie.spec mul-result array-read-result returns mul-result-2 array-read-result-2 returns-2)

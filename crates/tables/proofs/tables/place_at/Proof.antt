@@ -1,21 +1,20 @@
--- `tables::tables::place_at` meets its contract: the row is read from its digits. Assumes nothing.
-use mathlib.Core.Path.{ap, ◌∙◌}
-use Rattle.tables.proofs.TableLaws.{placeDigits, place-digits}
+-- `tables::tables::place_at` meets its contract. Assumes nothing.
+use Rattle.tables.proofs.TableLaws.{layout-in, reference-in}
 use borrow.Author.Rules.{rules}
 use Rattle.tables.proofs.tables.place_at.Statement.{statement}
 use Rattle.tables.proofs.tables.place_at.Tie as tie
 
-place-word-requires : tie.Need-place-word-requires
-place-word-requires c κs = search rules
+layout-in-requires : tie.Need-layout-in-requires
+layout-in-requires c κs = search rules
 
-cast-t4 : tie.Need-overflow-cast-t4
-cast-t4 c = search rules
+cast-t3 : tie.Need-overflow-cast-t3
+cast-t3 c = search rules
 
-cast-t6 : tie.Need-overflow-cast-t6
-cast-t6 c = search rules
+reference-in-requires : tie.Need-reference-in-requires
+reference-in-requires c κs = search rules
 
 returns : tie.Need-returns
-returns c = ap placeDigits c.place-word.ensures ∙ place-digits c.before.args.place
+returns c = rw (c.before.layout-in.ensures, c.reference-in.ensures, layout-in, reference-in)
 
 pub place-at-spec : {M : Type 1} → statement M
-place-at-spec = tie.close (tie.spec place-word-requires cast-t4 cast-t6 returns)
+place-at-spec = tie.close (tie.spec layout-in-requires cast-t3 reference-in-requires returns)

@@ -59,11 +59,11 @@ returns-2 c = place-absent _ _ _ (sym (ap spanAs c.before.next.given.1) ∙ c.be
 
 -- the values make no parts
 returns-3 : tie.Need-returns-3
-returns-3 c = place-unsized _ _ _ (spanned-at c.before.before.before.before) (sym (ap countedAs c.enum-told2.given.1) ∙ c.before.before.type_size.ensures)
+returns-3 c = place-unsized _ _ _ (spanned-at c.before.before.before.before) (sym (ap countedAs c.enum-told2.given.1) ∙ c.before.before.size_of.ensures)
 
 -- there
 returns-4 : tie.Need-returns-4
-returns-4 c = place-sized _ _ _ (spanned-at c.before.before.before.before.before) (sym (ap countedAs c.before.size.given.1) ∙ c.before.before.before.type_size.ensures)
+returns-4 c = place-sized _ _ _ (spanned-at c.before.before.before.before.before) (sym (ap countedAs c.before.size.given.1) ∙ c.before.before.before.size_of.ensures)
 
 pub size-place-spec : {M : Type 1} → statement M
 size-place-spec =

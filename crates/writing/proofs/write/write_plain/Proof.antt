@@ -14,7 +14,7 @@ use Rattle.writing.proofs.write.write_plain.Tie as tie
 -- what was counted
 counted-at : (c : tie.After-known-told2)
     → ok (parts c.before.count.given.0.0 c.before.count.given.0.1.0) ≡ size_at c.before.before.before.before.before.before.before.args.layout (take (c.before.before.before.before.before.values_of.result - 0) c.before.before.before.before.before.before.before.args.fields.now)
-counted-at c = sym (ap countedAs c.before.count.given.1) ∙ c.before.before.before.type_size.ensures
+counted-at c = sym (ap countedAs c.before.count.given.1) ∙ c.before.before.before.size_of.ensures
 
 values-of-requires : tie.Need-values-of-requires
 values-of-requires c κs = search rules
@@ -71,7 +71,7 @@ lay-requires c κs =
 
 -- the values make no parts: as it was handed back
 returns-3 : tie.Need-returns-3
-returns-3 c = plain-no _ _ _ c.before.before.before.before.before.before.before.requires.1 _ c.before.before.before.before.before.values_of.ensures (sym (ap countedAs c.before.number.given.1) ∙ c.before.before.before.type_size.ensures)
+returns-3 c = plain-no _ _ _ c.before.before.before.before.before.before.before.requires.1 _ c.before.before.before.before.before.values_of.ensures (sym (ap countedAs c.before.number.given.1) ∙ c.before.before.before.size_of.ensures)
 
 same_length : tie.Need-same-length
 same_length c = search rules
