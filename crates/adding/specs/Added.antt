@@ -3,21 +3,21 @@
 use Rattle.std.specs.Prelude.{ℕ, ◌+◌, ◌/◌, ◌%◌, Bool, true, false, List, length, set}
 use Rattle.std.proofs.Math.Seq.{paste}
 use Rattle.rules.specs.Answer.{Answer, ok, refused}
-use Rattle.rules.specs.Entry.{Added, added, refusedOld, refusedNew}
+use Rattle.rules.specs.Entry.{Added, added, refused_old, refused_new}
 use Rattle.adding.specs.declared.add.RecordAdded.{RecordAdded}
-use Rattle.adding.specs.declared.add.RecordAdded.TheVariants as recordAdded
+use Rattle.adding.specs.declared.add.RecordAdded.TheVariants as record_added
 
 -- what an answer says; true where the place lies in the new items
-abbrev pub addedOf : RecordAdded → Answer ℕ × Bool
-addedOf (recordAdded.Length n) = (ok n, false)
-addedOf (recordAdded.RefusedOld n p) = (refused n p, false)
-addedOf (recordAdded.RefusedNew n p) = (refused n p, true)
+abbrev pub added_of : RecordAdded → Answer ℕ × Bool
+added_of (record_added.Length n) = (ok n, false)
+added_of (record_added.RefusedOld n p) = (refused n p, false)
+added_of (record_added.RefusedNew n p) = (refused n p, true)
 
 -- what the rules answer, said so
-abbrev pub addedAs : Added → Answer ℕ × Bool
-addedAs (added bs) = (ok (length bs), false)
-addedAs (refusedOld n p) = (refused n p, false)
-addedAs (refusedNew n p) = (refused n p, true)
+abbrev pub added_as : Added → Answer ℕ × Bool
+added_as (added bs) = (ok (length bs), false)
+added_as (refused_old n p) = (refused n p, false)
+added_as (refused_new n p) = (refused n p, true)
 
 -- ---- as the code follows the rules
 

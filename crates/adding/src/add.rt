@@ -2,10 +2,10 @@
 ghost use Rattle.std.specs.Prelude.{◌≡◌, true, ◌+◌, ◌/◌, ◌%◌, ◌≤◌, ◌<◌, length, set};
 ghost use Rattle.std.proofs.Math.Seq.{paste};
 ghost use Rattle.rules.specs.Catalogue.{categories};
-ghost use Rattle.rules.specs.Entry.{addRecord, leavesAdded};
-ghost use Rattle.sets.specs.Sets.{frnsOf, fspecAt};
-ghost use Rattle.quick_items.specs.Item.{soundSteps};
-ghost use Rattle.adding.specs.Added.{addedOf, addedAs, laid};
+ghost use Rattle.rules.specs.Entry.{add_record, leaves_added};
+ghost use Rattle.sets.specs.Sets.{frns_of, fspec_at};
+ghost use Rattle.quick_items.specs.Item.{sound_steps};
+ghost use Rattle.adding.specs.Added.{added_of, added_as, laid};
 
 use blocks::{BlockChecked, HEAD, open_block};
 use quick_items::{Steps, steps};
@@ -34,8 +34,8 @@ fn lay_len(out: &mut [u8], len: usize)
 
 // The FSPEC of a set, from a place on.
 fn lay_fspec(out: &mut [u8], at: usize, profile: usize, set: ItemSet)
-    requires { at + length (fspecAt profile set.bits) ≤ length out.old }
-    ensures { out.new ≡ paste out.old at (fspecAt profile set.bits) (length (fspecAt profile set.bits)) }
+    requires { at + length (fspec_at profile set.bits) ≤ length out.old }
+    ensures { out.new ≡ paste out.old at (fspec_at profile set.bits) (length (fspec_at profile set.bits)) }
 {
     let count = sets::fspec_octets(profile, set);
     let mut k: usize = 0;
@@ -59,8 +59,8 @@ fn lay_octets(out: &mut [u8], at: usize, octets: &[u8])
 
 // LEN renewed, and the record after the old ones.
 fn lay_record(out: &mut [u8], used: usize, len: usize, profile: usize, set: ItemSet, items: &[u8])
-    requires { (3 ≤ used) × (len < 65536) × (len ≤ length out.old) × (len ≡ used + (length (fspecAt profile set.bits) + length items.now)) }
-    ensures { out.new ≡ laid out.old used len (fspecAt profile set.bits) items.now }
+    requires { (3 ≤ used) × (len < 65536) × (len ≤ length out.old) × (len ≡ used + (length (fspec_at profile set.bits) + length items.now)) }
+    ensures { out.new ≡ laid out.old used len (fspec_at profile set.bits) items.now }
 {
     let count = sets::fspec_octets(profile, set);
     lay_len(&mut *out, len);
@@ -70,9 +70,9 @@ fn lay_record(out: &mut [u8], used: usize, len: usize, profile: usize, set: Item
 
 // Into an output whose first bytes, so many as are used, are a block: the record of a set of FRNs, whose items are lent end to end; by a table that is lent.
 fn add_by(t: &Steps, out: &mut [u8], used: usize, set: ItemSet, items: &[u8]) -> RecordAdded
-    requires { soundSteps t.now ≡ true }
-    ensures result_value { addedOf result ≡ addedAs (addRecord categories out.old used (frnsOf set.bits) items.now) }
-    ensures out_after { out.new ≡ leavesAdded (addRecord categories out.old used (frnsOf set.bits) items.now) out.old }
+    requires { sound_steps t.now ≡ true }
+    ensures result_value { added_of result ≡ added_as (add_record categories out.old used (frns_of set.bits) items.now) }
+    ensures out_after { out.new ≡ leaves_added (add_record categories out.old used (frns_of set.bits) items.now) out.old }
 {
     if out.len() < used {
         return RecordAdded::RefusedOld {
@@ -115,8 +115,8 @@ fn add_by(t: &Steps, out: &mut [u8], used: usize, set: ItemSet, items: &[u8]) ->
 
 // The same, with a table of its own.
 pub fn add_record(out: &mut [u8], used: usize, set: ItemSet, items: &[u8]) -> RecordAdded
-    ensures result_value { addedOf result ≡ addedAs (addRecord categories out.old used (frnsOf set.bits) items.now) }
-    ensures out_after { out.new ≡ leavesAdded (addRecord categories out.old used (frnsOf set.bits) items.now) out.old }
+    ensures result_value { added_of result ≡ added_as (add_record categories out.old used (frns_of set.bits) items.now) }
+    ensures out_after { out.new ≡ leaves_added (add_record categories out.old used (frns_of set.bits) items.now) out.old }
 {
     let t = steps();
     add_by(&t, out, used, set, items)

@@ -5,7 +5,7 @@ use mathlib.Core.Bool.{Bool, true, false, ◌&&◌}
 use mathlib.Core.Option.{Option, none, some}
 use lib.Dec.{T, leb}
 use Rattle.rules.specs.Answer.{Answer, ok, refused, ◌>>=◌, need◌or◌then◌, if◌then◌else◌, expect◌or◌, later}
-use Rattle.rules.proofs.AnswerLaws.{refused-ok}
+use Rattle.rules.proofs.AnswerLaws.{refused_ok}
 
 module _ (lo hi : ℕ) where
   abbrev pub Number : ℕ → Type 0
@@ -15,7 +15,7 @@ module _ (lo hi : ℕ) where
   Numbered m = (n p : ℕ) → m ≡ refused n p → Number n
 
   pub done : {A : Type 0} (a : A) → Numbered (ok a)
-  done a n p e = refused-ok (sym e)
+  done a n p e = refused_ok (sym e)
 
   pub refusal : {A : Type 0} (m q : ℕ) → Number m → Numbered {A = A} (refused m q)
   refusal m q h n p e = let z : m ≡ n = cc in subst Number z h

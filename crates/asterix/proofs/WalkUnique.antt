@@ -2,11 +2,11 @@
 use Prim.Native.Nat.{ℕ}
 use mathlib.Core.Path.{◌≡◌, sym, ◌∙◌}
 use mathlib.Core.List.{List}
-use Rattle.walking.specs.Walk.{nextRecord}
+use Rattle.walking.specs.Walk.{next_record}
 use Rattle.asterix.specs.declared.Cursor.{Cursor}
 use Rattle.asterix.specs.declared.RecordMet.{RecordMet}
-use Rattle.asterix.specs.Answers.{cursorIn, recordMet}
+use Rattle.asterix.specs.Answers.{cursor_in, record_met}
 
-pub one-next-record : (recording : List ℕ) (cursor : Cursor) (a b : RecordMet)
-    → a ≡ recordMet (nextRecord recording (cursorIn cursor)) → b ≡ recordMet (nextRecord recording (cursorIn cursor)) → a ≡ b
-one-next-record recording cursor a b p q = p ∙ sym q
+pub one_next_record : (recording : List ℕ) (cursor : Cursor) (a b : RecordMet)
+    → a ≡ record_met (next_record recording (cursor_in cursor)) → b ≡ record_met (next_record recording (cursor_in cursor)) → a ≡ b
+one_next_record recording cursor a b p q = p ∙ sym q

@@ -17,25 +17,25 @@ use Rattle.asterix.specs.declared.sheet.SheetWritten.{SheetWritten}
 
 -- ---- reading
 
-abbrev pub marksOut : Lists → Marks
-marksOut c = record { base = c.base; first = c.first; count = c.count; split = (if c.split then 1 else 0) }
+abbrev pub marks_out : Lists → Marks
+marks_out c = record { base = c.base; first = c.first; count = c.count; split = (if c.split then 1 else 0) }
 
-abbrev pub marksIn : Marks → Lists
-marksIn m = record { split = not (eqb m.split 0); base = m.base; first = m.first; count = m.count }
+abbrev pub marks_in : Marks → Lists
+marks_in m = record { split = not (eqb m.split 0); base = m.base; first = m.first; count = m.count }
 
 -- the marks lie from a sheet's fourteenth byte on
-unfoldable pub sheetTold : Answer Sheet → SheetRead
-sheetTold (ok s) = record { number = 0; edition = s.edition.byte; place = 0; offset = s.offset; marks = marksOut (lists_of s.edition.split 14 s.marks) }
-sheetTold (refused n p) = record { number = n; edition = 0; place = p; offset = pos 0; marks = record { base = 0; first = 0; count = 0; split = 0 } }
+unfoldable pub sheet_told : Answer Sheet → SheetRead
+sheet_told (ok s) = record { number = 0; edition = s.edition.byte; place = 0; offset = s.offset; marks = marks_out (lists_of s.edition.split 14 s.marks) }
+sheet_told (refused n p) = record { number = n; edition = 0; place = p; offset = pos 0; marks = record { base = 0; first = 0; count = 0; split = 0 } }
 
 -- ---- marks by their numbers
 
-abbrev pub markIn : Mark → rules.Mark
-markIn m = record { log = m.log; place = m.place; station = m.station; comment = m.comment }
+abbrev pub mark_in : Mark → rules.Mark
+mark_in m = record { log = m.log; place = m.place; station = m.station; comment = m.comment }
 
-unfoldable pub markFound : code.MarkFound → MarkFound
-markFound (code-found.Found m) = record { found = 1; mark = record { place = m.place; log = m.log; station = m.station; comment = m.comment } }
-markFound code-found.Nothing = record { found = 0; mark = record { place = 0; log = 0; station = 0; comment = 0 } }
+unfoldable pub mark_found : code.MarkFound → MarkFound
+mark_found (code-found.Found m) = record { found = 1; mark = record { place = m.place; log = m.log; station = m.station; comment = m.comment } }
+mark_found code-found.Nothing = record { found = 0; mark = record { place = 0; log = 0; station = 0; comment = 0 } }
 
 -- ---- writing and changing
 
@@ -44,6 +44,6 @@ written_by (Length n) = record { number = 0; place = 0; length = n }
 written_by (Refused n p) = record { number = n; place = p; length = 0 }
 
 -- how many bytes the sheet has
-unfoldable pub sheetWritten : Answer (List ℕ) → SheetWritten
-sheetWritten (ok bs) = record { number = 0; place = 0; length = length bs }
-sheetWritten (refused n p) = record { number = n; place = p; length = 0 }
+unfoldable pub sheet_written : Answer (List ℕ) → SheetWritten
+sheet_written (ok bs) = record { number = 0; place = 0; length = length bs }
+sheet_written (refused n p) = record { number = n; place = p; length = 0 }

@@ -7,14 +7,14 @@ mod sheet;
 
 ghost use Rattle.std.specs.Prelude.{◌≡◌, length, ◌/◌};
 ghost use Rattle.rules.specs.Catalogue.{categories};
-ghost use Rattle.rules.specs.Entry.{leaves, over, checkBlock, checkRecording, findRecord, findItem, readOne, writeOne, addRecord, leavesAdded, leastLength};
-ghost use Rattle.items.specs.Answers.{profileIn};
-ghost use Rattle.sets.specs.Sets.{frnsOf};
-ghost use Rattle.walking.specs.Walk.{nextRecord};
-ghost use Rattle.rules.specs.Merge.{mergeStep};
-ghost use Rattle.merging.specs.Run.{beginOf};
-ghost use Rattle.merging.specs.Many.{manyOf};
-ghost use Rattle.asterix.specs.Answers.{blockChecked, recordingChecked, recordFound, itemFound, cursorIn, unmetBy, recordMet, logNumber, mergeStepped, headOut, headIn, mergeOut, mergeIn, noneBegun, mergeBegun, mergeNext, itemRead, itemWritten, recordAdded};
+ghost use Rattle.rules.specs.Entry.{leaves, over, check_block, check_recording, find_record, find_item, read_one, write_one, add_record, leaves_added, least_length};
+ghost use Rattle.items.specs.Answers.{profile_in};
+ghost use Rattle.sets.specs.Sets.{frns_of};
+ghost use Rattle.walking.specs.Walk.{next_record};
+ghost use Rattle.rules.specs.Merge.{merge_step};
+ghost use Rattle.merging.specs.Run.{begin_of};
+ghost use Rattle.merging.specs.Many.{many_of};
+ghost use Rattle.asterix.specs.Answers.{block_checked, recording_checked, record_found, item_found, cursor_in, unmet_by, record_met, log_number, merge_stepped, head_out, head_in, merge_out, merge_in, none_begun, merge_begun, merge_next, item_read, item_written, record_added};
 
 use finding::{ItemLocated, RecordPlace};
 use merging::{Begun, Told};
@@ -39,7 +39,7 @@ pub struct BlockChecked {
 // A single block: all of the bytes lent.
 #[unsafe(no_mangle)]
 pub extern "C" fn asterix_check_block(block: &[u8]) -> BlockChecked
-    ensures { result ≡ blockChecked (checkBlock categories block.now) }
+    ensures { result ≡ block_checked (check_block categories block.now) }
 {
     match blocks::check_block(block) {
         blocks::BlockChecked::Accepted { records } => BlockChecked {
@@ -67,7 +67,7 @@ pub struct RecordingChecked {
 // A recording: blocks end to end, or none.
 #[unsafe(no_mangle)]
 pub extern "C" fn asterix_check_recording(recording: &[u8]) -> RecordingChecked
-    ensures { result ≡ recordingChecked (checkRecording categories recording.now) }
+    ensures { result ≡ recording_checked (check_recording categories recording.now) }
 {
     match recordings::check_recording(recording) {
         recordings::RecordingChecked::Accepted { blocks, records } => RecordingChecked {
@@ -102,7 +102,7 @@ pub struct RecordFound {
 // The record with a number, counted from 0: where it lies, and its map.
 #[unsafe(no_mangle)]
 pub extern "C" fn asterix_find_record(block: &[u8], n: usize) -> RecordFound
-    ensures { result ≡ recordFound (findRecord categories block.now n) }
+    ensures { result ≡ record_found (find_record categories block.now n) }
 {
     let located = finding::locate_record(block, n);
     let map = located.map;
@@ -142,7 +142,7 @@ pub struct ItemFound {
 // The item with a reference, the number after its slash, in the record with a number: where it lies.
 #[unsafe(no_mangle)]
 pub extern "C" fn asterix_find_item(block: &[u8], reference: u16, n: usize) -> ItemFound
-    ensures { result ≡ itemFound (findItem categories block.now reference n) }
+    ensures { result ≡ item_found (find_item categories block.now reference n) }
 {
     match finding::locate_item(block, reference, n) {
         ItemLocated::At { start, length } => ItemFound {
@@ -191,7 +191,7 @@ pub struct RecordMet {
 
 // A step that meets no record.
 fn unmet(number: u8, place: usize, next: Cursor) -> RecordMet
-    ensures { result ≡ unmetBy number place next }
+    ensures { result ≡ unmet_by number place next }
 {
     RecordMet {
         number,
@@ -211,7 +211,7 @@ fn unmet(number: u8, place: usize, next: Cursor) -> RecordMet
 // The record at a cursor, or the first of the next block.
 #[unsafe(no_mangle)]
 pub extern "C" fn asterix_next_record(recording: &[u8], cursor: Cursor) -> RecordMet
-    ensures { result ≡ recordMet (nextRecord recording.now (cursorIn cursor)) }
+    ensures { result ≡ record_met (next_record recording.now (cursor_in cursor)) }
 {
     let walked = walking::next_record(
         recording,
@@ -261,7 +261,7 @@ pub extern "C" fn asterix_next_record(recording: &[u8], cursor: Cursor) -> Recor
 
 // 0 is log A, 1 is log B.
 fn log_number(log: merging::Log) -> u8
-    ensures { result ≡ logNumber log }
+    ensures { result ≡ log_number log }
 {
     match log {
         merging::Log::A => 0,
@@ -292,7 +292,7 @@ pub extern "C" fn asterix_merge_step(
     place_b: usize,
     offset: i64,
 ) -> MergeStepped
-    ensures { result ≡ mergeStepped (mergeStep categories log_a.now log_b.now place_a place_b offset) }
+    ensures { result ≡ merge_stepped (merge_step categories log_a.now log_b.now place_a place_b offset) }
 {
     let merged = merging::merge_at(log_a, log_b, place_a, place_b, offset);
     let told = merged.told;
@@ -360,7 +360,7 @@ pub struct Merge {
 }
 
 fn head_out(standing: merging::Standing) -> MergeHead
-    ensures { result ≡ headOut standing }
+    ensures { result ≡ head_out standing }
 {
     let at = standing.at;
     let timed = if standing.timed { 1 } else { 0 };
@@ -378,7 +378,7 @@ fn head_out(standing: merging::Standing) -> MergeHead
 }
 
 fn head_in(head: MergeHead) -> merging::Standing
-    ensures { result ≡ headIn head }
+    ensures { result ≡ head_in head }
 {
     let at = head.at;
     merging::Standing {
@@ -395,7 +395,7 @@ fn head_in(head: MergeHead) -> merging::Standing
 }
 
 fn merge_out(merge: merging::Merge) -> Merge
-    ensures { result ≡ mergeOut merge }
+    ensures { result ≡ merge_out merge }
 {
     let a = merge.a;
     let b = merge.b;
@@ -417,7 +417,7 @@ pub struct MergeBegun {
 }
 
 fn none_begun(number: u8, log: u8, place: usize) -> MergeBegun
-    ensures { result ≡ noneBegun number log place }
+    ensures { result ≡ none_begun number log place }
 {
     MergeBegun {
         number,
@@ -454,7 +454,7 @@ fn none_begun(number: u8, log: u8, place: usize) -> MergeBegun
 // A run from both first records: both logs are checked, whole, once.
 #[unsafe(no_mangle)]
 pub extern "C" fn asterix_begin_merge(log_a: &[u8], log_b: &[u8], offset: i64) -> MergeBegun
-    ensures { result ≡ mergeBegun (beginOf log_a.now log_b.now offset) }
+    ensures { result ≡ merge_begun (begin_of log_a.now log_b.now offset) }
 {
     let begun = merging::begin_merge(log_a, log_b, offset);
     match begun {
@@ -487,8 +487,8 @@ pub extern "C" fn asterix_next_merged_words<'a>(
     merge: Merge,
     out: &mut [usize],
 ) -> MergeNext
-    ensures answer { result ≡ mergeNext (manyOf (length out.old / 6) log_a.now log_b.now (mergeIn merge)) }
-    ensures left { out.new ≡ over (manyOf (length out.old / 6) log_a.now log_b.now (mergeIn merge)).numbers out.old }
+    ensures answer { result ≡ merge_next (many_of (length out.old / 6) log_a.now log_b.now (merge_in merge)) }
+    ensures left { out.new ≡ over (many_of (length out.old / 6) log_a.now log_b.now (merge_in merge)).numbers out.old }
 {
     let a = merge.a;
     let b = merge.b;
@@ -523,8 +523,8 @@ pub extern "C" fn asterix_read_item(
     item: &[u8],
     fields: &mut [i64; 8192],
 ) -> ItemRead
-    ensures answer { result ≡ itemRead (readOne categories category reference item.now) }
-    ensures left { fields.new ≡ leaves (readOne categories category reference item.now) fields.old }
+    ensures answer { result ≡ item_read (read_one categories category reference item.now) }
+    ensures left { fields.new ≡ leaves (read_one categories category reference item.now) fields.old }
 {
     match items::read_item(category, reference, item, fields) {
         items::ItemRead::Fields { count } => ItemRead {
@@ -556,8 +556,8 @@ pub extern "C" fn asterix_write_item(
     fields: &[i64],
     out: &mut [u8],
 ) -> ItemWritten
-    ensures answer { result ≡ itemWritten (writeOne categories category reference fields.now (length out.old)) }
-    ensures left { out.new ≡ leaves (writeOne categories category reference fields.now (length out.old)) out.old }
+    ensures answer { result ≡ item_written (write_one categories category reference fields.now (length out.old)) }
+    ensures left { out.new ≡ leaves (write_one categories category reference fields.now (length out.old)) out.old }
 {
     match writing::write_item(category, reference, fields, out) {
         writing::ItemWritten::Length(length) => ItemWritten {
@@ -592,8 +592,8 @@ pub extern "C" fn asterix_add_record(
     frns: u64,
     items: &[u8],
 ) -> RecordAdded
-    ensures answer { result ≡ recordAdded (addRecord categories out.old used (frnsOf frns) items.now) }
-    ensures left { out.new ≡ leavesAdded (addRecord categories out.old used (frnsOf frns) items.now) out.old }
+    ensures answer { result ≡ record_added (add_record categories out.old used (frns_of frns) items.now) }
+    ensures left { out.new ≡ leaves_added (add_record categories out.old used (frns_of frns) items.now) out.old }
 {
     match adding::add_record(out, used, ItemSet { bits: frns }, items) {
         adding::RecordAdded::Length(length) => RecordAdded {
@@ -622,7 +622,7 @@ pub extern "C" fn asterix_add_record(
 // The fewest octets that the items take that an octet of an FSPEC names, by its place, counted from 0; 0 where the category has no such octet.
 #[unsafe(no_mangle)]
 pub extern "C" fn asterix_least_length(category: u8, place: usize, octet: u8) -> usize
-    ensures { result ≡ leastLength categories (profileIn category categories) place octet }
+    ensures { result ≡ least_length categories (profile_in category categories) place octet }
 {
     lengths::least_length(tables::profile_of(category), place, octet)
 }

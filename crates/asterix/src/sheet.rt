@@ -2,10 +2,10 @@
 ghost use Rattle.std.specs.Prelude.{◌≡◌, length};
 ghost use Rattle.rules.specs.Entry.{leaves};
 ghost use Rattle.rules.specs.SheetForm.{form};
-ghost use Rattle.rules.specs.Sheet.{readSheet};
-ghost use Rattle.rules.specs.SheetChange.{sheetAdd, sheetRemove, sheetEmpty, writeMarks, fitted};
-ghost use Rattle.marks.specs.Lists.{foundMark};
-ghost use Rattle.asterix.specs.Sheets.{marksOut, marksIn, sheetTold, markIn, markFound, written_by, sheetWritten};
+ghost use Rattle.rules.specs.Sheet.{read_sheet};
+ghost use Rattle.rules.specs.SheetChange.{sheet_add, sheet_remove, sheet_empty, write_marks, fitted};
+ghost use Rattle.marks.specs.Lists.{found_mark};
+ghost use Rattle.asterix.specs.Sheets.{marks_out, marks_in, sheet_told, mark_in, mark_found, written_by, sheet_written};
 
 use laying::Written;
 use marks::Lists;
@@ -33,7 +33,7 @@ pub struct SheetRead {
 }
 
 fn marks_out(lists: Lists) -> Marks
-    ensures { result ≡ marksOut lists }
+    ensures { result ≡ marks_out lists }
 {
     let split = if lists.split { 1 } else { 0 };
     Marks {
@@ -45,7 +45,7 @@ fn marks_out(lists: Lists) -> Marks
 }
 
 fn marks_in(marks: Marks) -> Lists
-    ensures { result ≡ marksIn marks }
+    ensures { result ≡ marks_in marks }
 {
     Lists {
         split: marks.split != 0,
@@ -58,7 +58,7 @@ fn marks_in(marks: Marks) -> Lists
 // A sheet that is all of the bytes lent.
 #[unsafe(no_mangle)]
 pub extern "C" fn asterix_read_sheet(sheet: &[u8]) -> SheetRead
-    ensures { result ≡ sheetTold (readSheet form sheet.now) }
+    ensures { result ≡ sheet_told (read_sheet form sheet.now) }
 {
     match sheets::read_sheet(sheet) {
         sheets::SheetRead::Accepted {
@@ -108,7 +108,7 @@ pub struct MarkFound {
 // The mark with a number, counted from 0, of a sheet that was read. Of any bytes and marks: there is none where they do not lie in these bytes.
 #[unsafe(no_mangle)]
 pub extern "C" fn asterix_find_mark(sheet: &[u8], marks: Marks, n: usize) -> MarkFound
-    ensures { result ≡ markFound (foundMark (marksIn marks) sheet.now n) }
+    ensures { result ≡ mark_found (found_mark (marks_in marks) sheet.now n) }
 {
     match marks::find_mark(sheet, marks_in(marks), n) {
         marks::MarkFound::Found(m) => MarkFound {
@@ -162,8 +162,8 @@ fn written(answer: Written) -> SheetWritten
 // The sheet of an offset and of marks that are lent end to end, as tag 3 has them, at the start of the output.
 #[unsafe(no_mangle)]
 pub extern "C" fn asterix_write_sheet(offset: i64, marks: &[u8], out: &mut [u8]) -> SheetWritten
-    ensures answer { result ≡ sheetWritten (fitted (length out.old) (writeMarks form form.least offset marks.now)) }
-    ensures left { out.new ≡ leaves (fitted (length out.old) (writeMarks form form.least offset marks.now)) out.old }
+    ensures answer { result ≡ sheet_written (fitted (length out.old) (write_marks form form.least offset marks.now)) }
+    ensures left { out.new ≡ leaves (fitted (length out.old) (write_marks form form.least offset marks.now)) out.old }
 {
     written(sheets::write_sheet(offset, marks, out))
 }
@@ -171,8 +171,8 @@ pub extern "C" fn asterix_write_sheet(offset: i64, marks: &[u8], out: &mut [u8])
 // The sheet with a mark more.
 #[unsafe(no_mangle)]
 pub extern "C" fn asterix_add_mark(sheet: &[u8], mark: Mark, out: &mut [u8]) -> SheetWritten
-    ensures answer { result ≡ sheetWritten (fitted (length out.old) (sheetAdd form (markIn mark) sheet.now)) }
-    ensures left { out.new ≡ leaves (fitted (length out.old) (sheetAdd form (markIn mark) sheet.now)) out.old }
+    ensures answer { result ≡ sheet_written (fitted (length out.old) (sheet_add form (mark_in mark) sheet.now)) }
+    ensures left { out.new ≡ leaves (fitted (length out.old) (sheet_add form (mark_in mark) sheet.now)) out.old }
 {
     let m = rules::Mark {
         log: mark.log,
@@ -191,8 +191,8 @@ pub extern "C" fn asterix_remove_mark(
     place: u32,
     out: &mut [u8],
 ) -> SheetWritten
-    ensures answer { result ≡ sheetWritten (fitted (length out.old) (sheetRemove form log place sheet.now)) }
-    ensures left { out.new ≡ leaves (fitted (length out.old) (sheetRemove form log place sheet.now)) out.old }
+    ensures answer { result ≡ sheet_written (fitted (length out.old) (sheet_remove form log place sheet.now)) }
+    ensures left { out.new ≡ leaves (fitted (length out.old) (sheet_remove form log place sheet.now)) out.old }
 {
     written(sheets::remove_mark(sheet, log, place, out))
 }
@@ -200,8 +200,8 @@ pub extern "C" fn asterix_remove_mark(
 // The sheet without its marks.
 #[unsafe(no_mangle)]
 pub extern "C" fn asterix_empty_sheet(sheet: &[u8], out: &mut [u8]) -> SheetWritten
-    ensures answer { result ≡ sheetWritten (fitted (length out.old) (sheetEmpty form sheet.now)) }
-    ensures left { out.new ≡ leaves (fitted (length out.old) (sheetEmpty form sheet.now)) out.old }
+    ensures answer { result ≡ sheet_written (fitted (length out.old) (sheet_empty form sheet.now)) }
+    ensures left { out.new ≡ leaves (fitted (length out.old) (sheet_empty form sheet.now)) out.old }
 {
     written(sheets::empty_sheet(sheet, out))
 }

@@ -4,10 +4,10 @@ use Rattle.std.specs.Prelude.{ℕ, ◌≤◌, Bool, true, false, List, take}
 use Rattle.rules.specs.Answer.{Answer, ok, refused, if◌then◌else◌}
 use Rattle.rules.specs.Entry.{Counts}
 use Rattle.recordings.specs.Feed.{SoFar, fed, finished}
-use Rattle.recordings.specs.Answers.{countsOf, state_of}
+use Rattle.recordings.specs.Answers.{counts_of, state_of}
 use Rattle.input.specs.declared.Filled.{Filled}
 use Rattle.input.specs.declared.Filled.TheVariants as filled
-use Rattle.asterix_check.specs.Whole.{wholeIn}
+use Rattle.asterix_check.specs.Whole.{whole_in}
 use Rattle.asterix_check.specs.declared.Turn.{Turn}
 use Rattle.asterix_check.specs.declared.Turn.TheVariants as turn
 
@@ -23,16 +23,16 @@ pub data Turned : Type 0 where
 
 abbrev pub turn_of : Turn → Turned
 turn_of (turn.On s a b) = on (state_of s) a b
-turn_of (turn.Verdict c) = verdict (countsOf c)
+turn_of (turn.Verdict c) = verdict (counts_of c)
 turn_of turn.Failed = failed
 
 -- n octets came, of which the whole blocks at the front take k: they are fed, and the first fault found ends the work
-unfoldable pub fedWhole : Answer SoFar → ℕ → ℕ → Turned
-fedWhole s k n = if is_refused s then verdict (finished s) else on s k n
+unfoldable pub fed_whole : Answer SoFar → ℕ → ℕ → Turned
+fed_whole s k n = if is_refused s then verdict (finished s) else on s k n
 
 -- at the input's end what is left over is fed
 unfoldable pub turned : Answer SoFar → Filled → List ℕ → Turned
-turned s (filled.More n) bs = fedWhole (fed s (take (wholeIn (take n bs)) bs)) (wholeIn (take n bs)) n
+turned s (filled.More n) bs = fed_whole (fed s (take (whole_in (take n bs)) bs)) (whole_in (take n bs)) n
 turned s (filled.End n) bs = verdict (finished (fed s (take n bs)))
 turned s filled.Failed bs = failed
 

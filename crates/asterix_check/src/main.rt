@@ -3,11 +3,11 @@
 // fails there is no verdict, and a line on standard error says so.
 ghost use Rattle.std.specs.Prelude.{◌≡◌, ◌≤◌, length};
 ghost use Rattle.rules.specs.Entry.{over};
-ghost use Rattle.recordings.specs.Answers.{countsOf, state_of};
+ghost use Rattle.recordings.specs.Answers.{counts_of, state_of};
 ghost use Rattle.text.specs.Page.{page, puts};
-ghost use Rattle.asterix_check.specs.Whole.{wholeIn};
+ghost use Rattle.asterix_check.specs.Whole.{whole_in};
 ghost use Rattle.asterix_check.specs.Turn.{is_refused, turn_of, turned, Came, Wanted};
-ghost use Rattle.asterix_check.specs.Verdict.{sentence, verdictText};
+ghost use Rattle.asterix_check.specs.Verdict.{sentence, verdict_text};
 
 use input::Filled;
 use libc::{STDERR_FILENO, STDOUT_FILENO};
@@ -15,7 +15,7 @@ use recordings::{RecordingChecked, RecordingState};
 
 // How many octets the whole blocks at the front of a part take, as their LEN says.
 fn whole_blocks(part: &[u8]) -> usize
-    ensures { result ≡ wholeIn part.now }
+    ensures { result ≡ whole_in part.now }
 {
     let mut rest = part;
     let mut at: usize = 0;
@@ -98,8 +98,8 @@ fn put_sentence(out: &mut [u8], s: &[u8], n: u64, t: &[u8], m: u64, u: &[u8]) ->
 
 // The line that says what a recording is, at the buffer's start, and its length: the longest has two numbers of 20 digits.
 fn verdict(checked: RecordingChecked, out: &mut [u8; 66]) -> usize
-    ensures size { result ≡ length (verdictText (countsOf checked)) }
-    ensures text { out.new ≡ over (verdictText (countsOf checked)) out.old }
+    ensures size { result ≡ length (verdict_text (counts_of checked)) }
+    ensures text { out.new ≡ over (verdict_text (counts_of checked)) out.old }
     ensures room { result ≤ length out.new }
 {
     match checked {

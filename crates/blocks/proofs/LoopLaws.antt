@@ -12,51 +12,51 @@ use lib.Seq.{drop_at}
 use mir.Syntax.{w8}
 use mir.Val.{Fits}
 use Rattle.rules.specs.Answer.{Answer, ok, refused, ◌>>=◌, later, Read, Write}
-use Rattle.rules.specs.Block.{readUpTo, read_all}
-use Rattle.rules.proofs.AnswerLaws.{refused-ok, ok-inj, bind-in, bind-elim, later-inv, Octets, Split, Laws, Starts, after}
+use Rattle.rules.specs.Block.{read_up_to, read_all}
+use Rattle.rules.proofs.AnswerLaws.{refused_ok, ok_inj, bind_in, bind_elim, later_inv, Octets, Split, Laws, Starts, after}
 
 -- ---- answers further on
 
-pub later-later : {A : Type 0} (j k : ℕ) (x : Answer A) → later j (later k x) ≡ later (j + k) x
+pub later_later : {A : Type 0} (j k : ℕ) (x : Answer A) → later j (later k x) ≡ later (j + k) x
 unfolding later
-later-later j k (ok a) = refl
-later-later j k (refused n p) = ap (refused n) (sym (add_assoc j k p))
+later_later j k (ok a) = refl
+later_later j k (refused n p) = ap (refused n) (sym (add_assoc j k p))
 
-pub later-zero : {A : Type 0} (x : Answer A) → later 0 x ≡ x
+pub later_zero : {A : Type 0} (x : Answer A) → later 0 x ≡ x
 unfolding later
-later-zero (ok a) = refl
-later-zero (refused n p) = ap (refused n) (zero-add p)
+later_zero (ok a) = refl
+later_zero (refused n p) = ap (refused n) (zero-add p)
 
 -- what is made of a value has its place with it
-pub later-made : {A B C : Type 0} (k : ℕ) (x : Answer A) (f : A → B) (g : B → Answer C)
+pub later_made : {A B C : Type 0} (k : ℕ) (x : Answer A) (f : A → B) (g : B → Answer C)
     → (later k (x >>= λ a. ok (f a)) >>= g) ≡ (later k x >>= λ a. g (f a))
 unfolding later ◌>>=◌
-later-made k (ok a) f g = refl
-later-made k (refused n p) f g = refl
+later_made k (ok a) f g = refl
+later_made k (refused n p) f g = refl
 
 -- what is made of a value that is not there
-pub made-refused : {A B : Type 0} (x : Answer A) (f : A → B) (n p : ℕ) → (x >>= λ a. ok (f a)) ≡ refused n p → x ≡ refused n p
+pub made_refused : {A B : Type 0} (x : Answer A) (f : A → B) (n p : ℕ) → (x >>= λ a. ok (f a)) ≡ refused n p → x ≡ refused n p
 unfolding ◌>>=◌
-made-refused (ok a) f n p h = refused-ok (sym h)
-made-refused (refused m q) f n p h = (cc)
+made_refused (ok a) f n p h = refused_ok (sym h)
+made_refused (refused m q) f n p h = (cc)
 
 -- two ways on from one answer, where they agree on its value
-pub bind-on : {A B : Type 0} (x : Answer A) (f g : A → Answer B) → ((a : A) → x ≡ ok a → f a ≡ g a) → (x >>= f) ≡ (x >>= g)
+pub bind_on : {A B : Type 0} (x : Answer A) (f g : A → Answer B) → ((a : A) → x ≡ ok a → f a ≡ g a) → (x >>= f) ≡ (x >>= g)
 unfolding ◌>>=◌
-bind-on (ok a) f g h = h a refl
-bind-on (refused n p) f g h = refl
+bind_on (ok a) f g h = h a refl
+bind_on (refused n p) f g h = refl
 
 -- ---- octets of a list
 
 -- the bytes of a slice are octets
-pub octets-each : (bs : List ℕ) → ((i : ℕ) → Fits w8 (get_or bs i 0)) → Octets bs
-octets-each [] h = tt
-octets-each (b ∷ bs) h = ((h 0).fits, octets-each bs (λ i. h (suc i)))
+pub octets_each : (bs : List ℕ) → ((i : ℕ) → Fits w8 (get_or bs i 0)) → Octets bs
+octets_each [] h = tt
+octets_each (b ∷ bs) h = ((h 0).fits, octets_each bs (λ i. h (suc i)))
 
-pub octets-at : (bs : List ℕ) (i : ℕ) → Octets bs → get_or bs i 0 < 256
-octets-at [] i o = omega arith
-octets-at (b ∷ bs) zero o = o.0
-octets-at (b ∷ bs) (suc i) o = octets-at bs i o.1
+pub octets_at_lem : (bs : List ℕ) (i : ℕ) → Octets bs → get_or bs i 0 < 256
+octets_at_lem [] i o = omega arith
+octets_at_lem (b ∷ bs) zero o = o.0
+octets_at_lem (b ∷ bs) (suc i) o = octets_at_lem bs i o.1
 
 -- ---- what one thing takes: some octets, and what is left is the list from there on
 
@@ -88,58 +88,58 @@ module _ {A : Type 0} {r : Read A} {w : Write A} (laws : Laws r w) (starts : Sta
 
   -- ---- as many things as there are octets are enough
 
-  upTo-enough : (f g : ℕ) (bs : List ℕ) → Octets bs → length bs ≤ f → length bs ≤ g → readUpTo r f bs ≡ readUpTo r g bs
-  unfolding readUpTo
-  upTo-enough zero zero bs o l m = refl
-  upTo-enough zero (suc g) [] o l m = refl
-  upTo-enough (suc f) zero [] o l m = refl
-  upTo-enough (suc f) (suc g) [] o l m = refl
-  upTo-enough zero (suc g) (b ∷ bs) o l m = absurd (omega arith)
-  upTo-enough (suc f) zero (b ∷ bs) o l m = absurd (omega arith)
-  upTo-enough (suc f) (suc g) (b ∷ bs) o l m =
-      bind-on (r (b ∷ bs)) _ _ λ y e.
+  up_to-enough : (f g : ℕ) (bs : List ℕ) → Octets bs → length bs ≤ f → length bs ≤ g → read_up_to r f bs ≡ read_up_to r g bs
+  unfolding read_up_to
+  up_to-enough zero zero bs o l m = refl
+  up_to-enough zero (suc g) [] o l m = refl
+  up_to-enough (suc f) zero [] o l m = refl
+  up_to-enough (suc f) (suc g) [] o l m = refl
+  up_to-enough zero (suc g) (b ∷ bs) o l m = absurd (omega arith)
+  up_to-enough (suc f) zero (b ∷ bs) o l m = absurd (omega arith)
+  up_to-enough (suc f) (suc g) (b ∷ bs) o l m =
+      bind_on (r (b ∷ bs)) _ _ λ y e.
       let t : Taken (b ∷ bs) y.1 (suc (length bs) - length y.1) = taken y.0 (b ∷ bs) y.1 o e in
       let s : Split w y.0 (b ∷ bs) y.1 = laws.forth y.0 (b ∷ bs) y.1 o e in
       ap (λ z. later (suc (length bs) - length y.1) z >>= λ as'. ok (y.0 ∷ as'))
-      (upTo-enough f g y.1 (after s o) (omega (arith, t.some)) (omega (arith, t.some)))
+      (up_to-enough f g y.1 (after s o) (omega (arith, t.some)) (omega (arith, t.some)))
 
   -- there are no more of them than octets
-  upTo-few : (f : ℕ) (bs : List ℕ) (vs : List A) → readUpTo r f bs ≡ ok vs → length vs ≤ f
-  unfolding readUpTo
-  upTo-few zero [] vs h = rw (← ok-inj h) (omega arith)
-  upTo-few zero (b ∷ bs) vs h = refused-ok h
-  upTo-few (suc f) [] vs h = rw (← ok-inj h) (omega arith)
-  upTo-few (suc f) (b ∷ bs) vs h =
-      bind-elim _ _ h λ y p h₁.
-      bind-elim _ _ h₁ λ us q h₂.
-      rw (← ok-inj h₂) (omega (arith, upTo-few f y.1 us (later-inv _ _ q)))
+  up_to-few : (f : ℕ) (bs : List ℕ) (vs : List A) → read_up_to r f bs ≡ ok vs → length vs ≤ f
+  unfolding read_up_to
+  up_to-few zero [] vs h = rw (← ok_inj h) (omega arith)
+  up_to-few zero (b ∷ bs) vs h = refused_ok h
+  up_to-few (suc f) [] vs h = rw (← ok_inj h) (omega arith)
+  up_to-few (suc f) (b ∷ bs) vs h =
+      bind_elim _ _ h λ y p h₁.
+      bind_elim _ _ h₁ λ us q h₂.
+      rw (← ok_inj h₂) (omega (arith, up_to-few f y.1 us (later_inv _ _ q)))
 
-  pub all-few : (bs : List ℕ) (vs : List A) → read_all r bs ≡ ok vs → length vs ≤ length bs
+  pub all_few : (bs : List ℕ) (vs : List A) → read_all r bs ≡ ok vs → length vs ≤ length bs
   unfolding read_all
-  all-few bs vs h = upTo-few (length bs) bs vs h
+  all_few bs vs h = up_to-few (length bs) bs vs h
 
   -- ---- one turn of a loop, whatever is then made of the things
 
   pub all_end : {B : Type 0} (k : ℕ) (bs : List ℕ) (g : List A → Answer B) → length bs ≡ 0 → (later k (read_all r bs) >>= g) ≡ g []
-  unfolding read_all readUpTo later ◌>>=◌
+  unfolding read_all read_up_to later ◌>>=◌
   all_end k [] g e = refl
   all_end k (b ∷ bs) g e = absurd (omega arith)
 
-  pub all-stop : {B : Type 0} (k : ℕ) (bs : List ℕ) (g : List A → Answer B) (n p : ℕ) → 0 < length bs → r bs ≡ refused n p
+  pub all_stop : {B : Type 0} (k : ℕ) (bs : List ℕ) (g : List A → Answer B) (n p : ℕ) → 0 < length bs → r bs ≡ refused n p
       → (later k (read_all r bs) >>= g) ≡ refused n (k + p)
-  unfolding read_all readUpTo later ◌>>=◌
-  all-stop k [] g n p l h = absurd (omega arith)
-  all-stop k (b ∷ bs) g n p l h = rw h
+  unfolding read_all read_up_to later ◌>>=◌
+  all_stop k [] g n p l h = absurd (omega arith)
+  all_stop k (b ∷ bs) g n p l h = rw h
 
-  pub all-turn : {B : Type 0} (k : ℕ) (bs rest : List ℕ) (a : A) (g : List A → Answer B) → Octets bs → r bs ≡ ok (a, rest)
+  pub all_turn : {B : Type 0} (k : ℕ) (bs rest : List ℕ) (a : A) (g : List A → Answer B) → Octets bs → r bs ≡ ok (a, rest)
       → (later k (read_all r bs) >>= g) ≡ (later (k + (length bs - length rest)) (read_all r rest) >>= λ as'. g (a ∷ as'))
-  unfolding read_all readUpTo
-  all-turn k [] rest a g o h = absurd (starts a rest h)
-  all-turn k (b ∷ bs) rest a g o h =
+  unfolding read_all read_up_to
+  all_turn k [] rest a g o h = absurd (starts a rest h)
+  all_turn k (b ∷ bs) rest a g o h =
       let t : Taken (b ∷ bs) rest (suc (length bs) - length rest) = taken a (b ∷ bs) rest o h in
       let s : Split w a (b ∷ bs) rest = laws.forth a (b ∷ bs) rest o h in
-      ap (λ z. later k z >>= g) (bind-in _ h refl)
-      ∙ later-made k (later (suc (length bs) - length rest) (readUpTo r (length bs) rest)) (λ as'. a ∷ as') g
-      ∙ ap (λ z. z >>= λ as'. g (a ∷ as')) (later-later k (suc (length bs) - length rest) (readUpTo r (length bs) rest))
+      ap (λ z. later k z >>= g) (bind_in _ h refl)
+      ∙ later_made k (later (suc (length bs) - length rest) (read_up_to r (length bs) rest)) (λ as'. a ∷ as') g
+      ∙ ap (λ z. z >>= λ as'. g (a ∷ as')) (later_later k (suc (length bs) - length rest) (read_up_to r (length bs) rest))
       ∙ ap (λ z. later (k + (suc (length bs) - length rest)) z >>= λ as'. g (a ∷ as'))
-      (upTo-enough (length bs) (length rest) rest (after s o) (omega (arith, t.some)) (le_refl _))
+      (up_to-enough (length bs) (length rest) rest (after s o) (omega (arith, t.some)) (le_refl _))

@@ -4,14 +4,14 @@ use Rattle.std.specs.Prelude.{ℕ}
 use Rattle.rules.specs.Answer.{Answer, ok, refused}
 use Rattle.rules.specs.Block as rules
 use Rattle.rules.specs.Catalogue.{categories}
-use Rattle.tables.specs.Profiles.{profileIn}
-use Rattle.sets.specs.Sets.{categoryAt}
+use Rattle.tables.specs.Profiles.{profile_in}
+use Rattle.sets.specs.Sets.{category_at}
 use Rattle.records.specs.declared.RecordChecked.{RecordChecked}
 use Rattle.records.specs.declared.RecordChecked.TheVariants as recordChecked
 use Rattle.blocks.specs.declared.head.HeadRead.{HeadRead}
 use Rattle.blocks.specs.declared.head.HeadRead.TheVariants as headRead
 use Rattle.blocks.specs.declared.check.BlockChecked.{BlockChecked}
-use Rattle.blocks.specs.declared.check.BlockChecked.TheVariants as blockChecked
+use Rattle.blocks.specs.declared.check.BlockChecked.TheVariants as block_checked
 use Rattle.blocks.specs.declared.check.BlockOpened.{BlockOpened}
 use Rattle.blocks.specs.declared.check.FrontChecked.{FrontChecked}
 use Rattle.blocks.specs.declared.check.FrontChecked.TheVariants as frontChecked
@@ -20,44 +20,44 @@ use Rattle.blocks.specs.Read.{Opening, Front}
 -- ---- a head
 
 abbrev pub head_of : HeadRead → Answer rules.Head
-head_of (headRead.Head i n) = ok (record { category = categoryAt i; len = n })
+head_of (headRead.Head i n) = ok (record { category = category_at i; len = n })
 head_of (headRead.Refused n) = refused n 0
 
 -- the number of a refusal, 0 where there is none
-abbrev pub headNumber : HeadRead → ℕ
-headNumber (headRead.Head i n) = 0
-headNumber (headRead.Refused n) = n
+abbrev pub head_number : HeadRead → ℕ
+head_number (headRead.Head i n) = 0
+head_number (headRead.Refused n) = n
 
 -- ---- a check
 
-abbrev pub checkedOf : BlockChecked → Answer ℕ
-checkedOf (blockChecked.Accepted n) = ok n
-checkedOf (blockChecked.Refused n p) = refused n p
+abbrev pub checked_of : BlockChecked → Answer ℕ
+checked_of (block_checked.Accepted n) = ok n
+checked_of (block_checked.Refused n p) = refused n p
 
-abbrev pub checkedNumber : BlockChecked → ℕ
-checkedNumber (blockChecked.Accepted n) = 0
-checkedNumber (blockChecked.Refused n p) = n
+abbrev pub checked_number : BlockChecked → ℕ
+checked_number (block_checked.Accepted n) = 0
+checked_number (block_checked.Refused n p) = n
 
-abbrev pub checkedPlace : BlockChecked → ℕ
-checkedPlace (blockChecked.Accepted n) = 0
-checkedPlace (blockChecked.Refused n p) = p
+abbrev pub checked_place : BlockChecked → ℕ
+checked_place (block_checked.Accepted n) = 0
+checked_place (block_checked.Refused n p) = p
 
-abbrev pub checkedBy : RecordChecked → Answer ℕ
-checkedBy (recordChecked.Ends e) = ok 0
-checkedBy (recordChecked.Refused n p) = refused n p
+abbrev pub checked_by : RecordChecked → Answer ℕ
+checked_by (recordChecked.Ends e) = ok 0
+checked_by (recordChecked.Refused n p) = refused n p
 
-abbrev pub openedBy : ℕ → BlockChecked → Answer Opening
-openedBy i (blockChecked.Accepted n) = ok (record { category = categoryAt i; count = n })
-openedBy i (blockChecked.Refused n p) = refused n p
+abbrev pub opened_by : ℕ → BlockChecked → Answer Opening
+opened_by i (block_checked.Accepted n) = ok (record { category = category_at i; count = n })
+opened_by i (block_checked.Refused n p) = refused n p
 
 abbrev pub opened_of : BlockOpened → Answer Opening
-opened_of o = openedBy o.profile o.checked
+opened_of o = opened_by o.profile o.checked
 
 -- the profile beside it: the index of the category of a block that is opened, 0 where it is refused
-abbrev pub openProfile : Answer Opening → ℕ
-openProfile (ok o) = profileIn o.category.cat categories
-openProfile (refused n p) = 0
+abbrev pub open_profile : Answer Opening → ℕ
+open_profile (ok o) = profile_in o.category.cat categories
+open_profile (refused n p) = 0
 
-abbrev pub frontOf : FrontChecked → Answer Front
-frontOf (frontChecked.Block l n) = ok (record { len = l; records = n })
-frontOf (frontChecked.Refused n p) = refused n p
+abbrev pub front_of : FrontChecked → Answer Front
+front_of (frontChecked.Block l n) = ok (record { len = l; records = n })
+front_of (frontChecked.Refused n p) = refused n p

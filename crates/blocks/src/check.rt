@@ -1,13 +1,13 @@
 // Checking: record by record, in one pass.
 ghost use Rattle.std.specs.Prelude.{◌≡◌, true, ◌+◌, ◌<◌, length};
 ghost use Rattle.rules.specs.Catalogue.{categories};
-ghost use Rattle.rules.specs.Entry.{checkBlock};
-ghost use Rattle.quick_items.specs.Item.{soundSteps};
-ghost use Rattle.sets.specs.Sets.{categoryAt};
-ghost use Rattle.quick_records.specs.Record.{soundTypes};
-ghost use Rattle.quick_records.specs.Shape.{soundSets};
-ghost use Rattle.blocks.specs.Read.{countFrom, openFrom, checkFront};
-ghost use Rattle.blocks.specs.Answers.{checkedOf, checkedBy, checkedNumber, checkedPlace, opened_of, openProfile, frontOf};
+ghost use Rattle.rules.specs.Entry.{check_block};
+ghost use Rattle.quick_items.specs.Item.{sound_steps};
+ghost use Rattle.sets.specs.Sets.{category_at};
+ghost use Rattle.quick_records.specs.Record.{sound_types};
+ghost use Rattle.quick_records.specs.Shape.{sound_sets};
+ghost use Rattle.blocks.specs.Read.{count_from, open_from, check_front};
+ghost use Rattle.blocks.specs.Answers.{checked_of, checked_by, checked_number, checked_place, opened_of, open_profile, front_of};
 
 use crate::head::{HEAD, HeadRead, LEAST, front_head, single_head};
 use quick_items::Steps;
@@ -24,7 +24,7 @@ pub enum BlockChecked {
 impl BlockChecked {
     // The number of a refusal, 0 where there is none.
     pub fn number(self) -> u8
-        ensures { result ≡ checkedNumber self }
+        ensures { result ≡ checked_number self }
     {
         match self {
             BlockChecked::Accepted { records: _ } => 0,
@@ -34,7 +34,7 @@ impl BlockChecked {
 
     // Its place, 0 where there is none.
     pub fn place(self) -> usize
-        ensures { result ≡ checkedPlace self }
+        ensures { result ≡ checked_place self }
     {
         match self {
             BlockChecked::Accepted { records: _ } => 0,
@@ -45,7 +45,7 @@ impl BlockChecked {
 
 // What a record's refusal makes of its block.
 fn refused_by(checked: RecordChecked) -> BlockChecked
-    ensures { checkedOf result ≡ checkedBy checked }
+    ensures { checked_of result ≡ checked_by checked }
 {
     match checked {
         RecordChecked::Ends { end: _ } => BlockChecked::Accepted { records: 0 },
@@ -62,8 +62,8 @@ fn check_records_by(
     part: &[u8],
     from: usize,
 ) -> BlockChecked
-    requires { (soundSteps steps.now ≡ true) × (soundTypes types.now ≡ true) × (soundSets sets.now ≡ true) × (from + length part.now < 65536) }
-    ensures { checkedOf result ≡ countFrom (categoryAt profile) 0 from part.now }
+    requires { (sound_steps steps.now ≡ true) × (sound_types types.now ≡ true) × (sound_sets sets.now ≡ true) × (from + length part.now < 65536) }
+    ensures { checked_of result ≡ count_from (category_at profile) 0 from part.now }
 {
     let mut rest = part;
     let mut at = from;
@@ -83,8 +83,8 @@ fn check_records_by(
 
 // The same, with tables of its own but one.
 fn check_records(steps: &Steps, profile: usize, part: &[u8], from: usize) -> BlockChecked
-    requires { (from + length part.now < 65536) × (soundSteps steps.now ≡ true) }
-    ensures { checkedOf result ≡ countFrom (categoryAt profile) 0 from part.now }
+    requires { (from + length part.now < 65536) × (sound_steps steps.now ≡ true) }
+    ensures { checked_of result ≡ count_from (category_at profile) 0 from part.now }
 {
     let types = quick_records::type_table();
     let sets = quick_records::set_table();
@@ -100,9 +100,9 @@ pub struct BlockOpened {
 
 // LEN is least at least: 4 where a record is asked for, 3 where a record is to be added. The table is lent, since who opens a block goes on with it.
 pub fn open_block(steps: &Steps, block: &[u8], least: usize) -> BlockOpened
-    requires { soundSteps steps.now ≡ true }
-    ensures answer { opened_of result ≡ openFrom least block.now }
-    ensures profile { result.profile ≡ openProfile (openFrom least block.now) }
+    requires { sound_steps steps.now ≡ true }
+    ensures answer { opened_of result ≡ open_from least block.now }
+    ensures profile { result.profile ≡ open_profile (open_from least block.now) }
 {
     let head = single_head(block);
     let HeadRead::Head { profile, len } = head else {
@@ -135,7 +135,7 @@ pub fn open_block(steps: &Steps, block: &[u8], least: usize) -> BlockOpened
 
 // A single block: all of the bytes lent.
 pub fn check_block(block: &[u8]) -> BlockChecked
-    ensures { checkedOf result ≡ checkBlock categories block.now }
+    ensures { checked_of result ≡ check_block categories block.now }
 {
     let steps = quick_items::steps();
     let opened = open_block(&steps, block, LEAST);
@@ -151,8 +151,8 @@ pub enum FrontChecked {
 
 // The tables are lent, so that a recording's blocks share them.
 pub fn check_front(steps: &Steps, types: &Types, sets: &Sets, part: &[u8]) -> FrontChecked
-    requires { (soundSteps steps.now ≡ true) × (soundTypes types.now ≡ true) × (soundSets sets.now ≡ true) }
-    ensures { frontOf result ≡ checkFront part.now }
+    requires { (sound_steps steps.now ≡ true) × (sound_types types.now ≡ true) × (sound_sets sets.now ≡ true) }
+    ensures { front_of result ≡ check_front part.now }
 {
     let head = front_head(part);
     let HeadRead::Head { profile, len } = head else {

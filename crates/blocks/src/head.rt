@@ -7,8 +7,8 @@
 //
 // LEN has the higher octet first, and counts all octets of the block.
 ghost use Rattle.std.specs.Prelude.{◌≡◌, eqb, leb};
-ghost use Rattle.blocks.specs.Read.{headAt, headBy};
-ghost use Rattle.blocks.specs.Answers.{head_of, headNumber};
+ghost use Rattle.blocks.specs.Read.{head_at, head_by};
+ghost use Rattle.blocks.specs.Answers.{head_of, head_number};
 
 use numbers::octet;
 use tables::{PROFILES, profile_of};
@@ -29,7 +29,7 @@ pub enum HeadRead {
 impl HeadRead {
     // The number of a refusal, 0 where there is none.
     pub fn number(self) -> u8
-        ensures { result ≡ headNumber self }
+        ensures { result ≡ head_number self }
     {
         match self {
             HeadRead::Head { profile: _, len: _ } => 0,
@@ -40,7 +40,7 @@ impl HeadRead {
 
 // The head at the start of a part, before LEN is held to what is lent.
 pub fn read_head(part: &[u8]) -> HeadRead
-    ensures { head_of result ≡ headAt part.now }
+    ensures { head_of result ≡ head_at part.now }
 {
     if part.len() < HEAD {
         return HeadRead::Refused { number: 1 };
@@ -58,7 +58,7 @@ pub fn read_head(part: &[u8]) -> HeadRead
 
 // Of a single block: LEN is the length lent.
 pub fn single_head(block: &[u8]) -> HeadRead
-    ensures { head_of result ≡ headBy eqb block.now }
+    ensures { head_of result ≡ head_by eqb block.now }
 {
     let head = read_head(block);
     let HeadRead::Head { profile: _, len } = head else {
@@ -72,7 +72,7 @@ pub fn single_head(block: &[u8]) -> HeadRead
 
 // In a recording: LEN is no more than is left.
 pub fn front_head(part: &[u8]) -> HeadRead
-    ensures { head_of result ≡ headBy leb part.now }
+    ensures { head_of result ≡ head_by leb part.now }
 {
     let head = read_head(part);
     let HeadRead::Head { profile: _, len } = head else {

@@ -15,142 +15,142 @@ use borrow.Author.Tests.{eqb-true, ne_eqb}
 use lib.Seq.{drop_at, drop-drop, slice, length-take-le}
 use Rattle.rules.specs.Answer.{Answer, ok, refused, ◌>>=◌, if◌then◌else◌, later, Write}
 use Rattle.rules.specs.Chain.{flatten}
-use Rattle.rules.specs.Format.{Group, Format, fixed, repeated, led, extended, PartValues, readPlain}
-use Rattle.rules.specs.Presence.{flags, number, present, usable, readRow, readRows, readPlaces}
-use Rattle.rules.specs.Layout.{Layout, plain, compound, Values, in_parts, inSubfields, at_start, readItem}
-use Rattle.rules.specs.FieldList.{absentField, plainFields, subFields, placeFields, rowFields, rowsFields, fieldList}
-use Rattle.rules.proofs.AnswerLaws.{Octets, Only, Split, after, ok-inj, refused-ok, bind-in, bind-out, bind_assoc, if-false, some_inj, none-some, octets-drop, bind-same}
+use Rattle.rules.specs.Format.{Group, Format, fixed, repeated, led, extended, PartValues, read_plain}
+use Rattle.rules.specs.Presence.{flags, number, present, usable, read_row, read_rows, read_places}
+use Rattle.rules.specs.Layout.{Layout, plain, compound, Values, in_parts, in_subfields, at_start, read_item}
+use Rattle.rules.specs.FieldList.{absent_field, plain_fields, sub_fields, place_fields, row_fields, rows_fields, field_list}
+use Rattle.rules.proofs.AnswerLaws.{Octets, Only, Split, after, ok_inj, refused_ok, bind_in, bind_out, bind_assoc, if_false, some_inj, none_some, octets_drop, bind_same}
 use Rattle.rules.specs.Catalogue.{categories}
-use Rattle.rules.proofs.FormatLaws.{plain-laws}
-use Rattle.rules.proofs.PresenceLaws.{row-forth, rows-forth}
+use Rattle.rules.proofs.FormatLaws.{plain_laws}
+use Rattle.rules.proofs.PresenceLaws.{row_forth, rows_forth}
 use Rattle.tables.specs.declared.tables.LayoutRow.{LayoutRow}
-use Rattle.tables.specs.Tables.{layoutCount, layoutRows, noLayoutRow, primaries, fields, layouts, primaryCount, subfieldsIn, groupCount, groups, groupRows, groupAt, groupIs, layoutAt, subfieldAt, formatBy, formatIs, bitsIs, primariesIs, asPlain, layoutIs}
-use Rattle.tables.proofs.TableLaws.{each, at_row, groups-long, subfield-row}
-use Rattle.layouts.specs.Read.{rows, isSpare, holds, Shaped, partsLegal, partValues, need◌or◌further◌then◌, head_of, step_of, shape_by, shape_of, wholeOf, read_by, rowSound}
+use Rattle.tables.specs.Tables.{layout_count, layout_rows, no_layout_row, primaries, fields, layouts, primary_count, subfields_in, group_count, groups, group_rows, group_at, group_is, layout_at, subfield_at, format_by, format_is, bits_is, primaries_is, as_plain, layout_is}
+use Rattle.tables.proofs.TableLaws.{each, at_row, groups_long, subfield_row}
+use Rattle.layouts.specs.Read.{rows, is_spare, holds, Shaped, parts_legal, part_values, need◌or◌further◌then◌, head_of, step_of, shape_by, shape_of, whole_of, read_by, row_sound}
 use Rattle.layouts.proofs.ReadLaws.{reads, fitting}
-use Rattle.layouts.proofs.ShapeLaws.{rowed, chain-ends, chain-inside}
-use Rattle.layouts.proofs.SoundLaws.{layout-sound}
-use Rattle.layouts.proofs.WholeLaws.{whole-shape}
-use Rattle.compounds.proofs.PresenceLaws.{Came, in_turn, presence-in-turn, padded, padded-flags, Few, bits_of, sevens-rows, RowsUsable, CameOf, came-of, turn-first, primary-in-turn}
+use Rattle.layouts.proofs.ShapeLaws.{rowed, chain_ends, chain_inside}
+use Rattle.layouts.proofs.SoundLaws.{layout_sound}
+use Rattle.layouts.proofs.WholeLaws.{whole_shape}
+use Rattle.compounds.proofs.PresenceLaws.{Came, in_turn, presence_in_turn, padded, padded_flags, Few, bits_of, sevens_rows, RowsUsable, CameOf, came_of_lem, turn_first, primary_in_turn}
 use Rattle.compounds.proofs.SubfieldLaws.{Compounded, compounded}
-use Rattle.compounds.specs.Compound.{Told, count_of, partFields, plainRead, absentAt, placeRead, subfieldsRead, printed, primary, compoundRead, itemRead, itemSound}
+use Rattle.compounds.specs.Compound.{Told, count_of, part_fields, plain_read, absent_at, place_read, subfields_read, printed, primary, compound_read, item_read, item_sound}
 
 -- ---- answers alike but for a place
 
 abbrev Alike : {A : Type 0} → Answer A → Answer A → Type 0
 Alike x y = at_start x ≡ at_start y
 
-alike-bind : {A B : Type 0} (x y : Answer A) (f g : A → Answer B) → Alike x y → ((a : A) → y ≡ ok a → Alike (f a) (g a)) → Alike (x >>= f) (y >>= g)
+alike_bind : {A B : Type 0} (x y : Answer A) (f g : A → Answer B) → Alike x y → ((a : A) → y ≡ ok a → Alike (f a) (g a)) → Alike (x >>= f) (y >>= g)
 unfolding at_start ◌>>=◌
-alike-bind (ok a) (ok b) f g e h = ap (λ z. at_start (f z)) (ok-inj e) ∙ h b refl
-alike-bind (ok a) (refused n p) f g e h = refused-ok (sym e)
-alike-bind (refused n p) (ok b) f g e h = refused-ok e
-alike-bind (refused n p) (refused m q) f g e h = cc
+alike_bind (ok a) (ok b) f g e h = ap (λ z. at_start (f z)) (ok_inj e) ∙ h b refl
+alike_bind (ok a) (refused n p) f g e h = refused_ok (sym e)
+alike_bind (refused n p) (ok b) f g e h = refused_ok e
+alike_bind (refused n p) (refused m q) f g e h = cc
 
-alike-later : {A : Type 0} (k : ℕ) (x : Answer A) → Alike (later k x) x
+alike_later : {A : Type 0} (k : ℕ) (x : Answer A) → Alike (later k x) x
 unfolding at_start later
-alike-later k (ok a) = refl
-alike-later k (refused n p) = refl
+alike_later k (ok a) = refl
+alike_later k (refused n p) = refl
 
 -- ---- parts
 
 -- what was read, and how many octets
-abbrev pub toldOf : {A : Type 0} → (A → List ℤ) → List ℕ → A × List ℕ → Answer Told
-toldOf f bs x = ok (f x.0, length bs - length x.1)
+abbrev pub told_of : {A : Type 0} → (A → List ℤ) → List ℕ → A × List ℕ → Answer Told
+told_of f bs x = ok (f x.0, length bs - length x.1)
 
-abbrev listedAs : Bool → Format → PartValues → List ℤ
-listedAs true s vs = subFields s vs
-listedAs false s vs = plainFields s vs
+abbrev listed_as : Bool → Format → PartValues → List ℤ
+listed_as true s vs = sub_fields s vs
+listed_as false s vs = plain_fields s vs
 
-slice-long : (a e k : ℕ) → a + k ≡ e → e ≤ groupCount → length (slice a e (map groupIs (groupRows 0 groups))) ≡ k
-slice-long a e k h le =
-    let gs : List Group = map groupIs (groupRows 0 groups) in
-    let n : length gs ≡ groupCount = length-map (groupRows 0 groups) groupIs ∙ groups-long in
+slice_long : (a e k : ℕ) → a + k ≡ e → e ≤ group_count → length (slice a e (map group_is (group_rows 0 groups))) ≡ k
+slice_long a e k h le =
+    let gs : List Group = map group_is (group_rows 0 groups) in
+    let n : length gs ≡ group_count = length-map (group_rows 0 groups) group_is ∙ groups_long in
     let t : length (take e gs) ≡ e = length-take-le e gs (subst (λ x. e ≤ x) (sym n) le) in
     let d : length (drop a (take e gs)) ≡ length (take e gs) - a = length-drop a (take e gs) in
     omega arith
 
 -- the values of the parts, and what is after them
 abbrev parts_at : LayoutRow → List ℕ → Shaped → PartValues × List ℕ
-parts_at l bs s = (partValues (step_of l.kind) l.first s.0 (drop (head_of l.kind) bs), drop s.1 bs)
+parts_at l bs s = (part_values (step_of l.kind) l.first s.0 (drop (head_of l.kind) bs), drop s.1 bs)
 
 -- the reading of a row, with its shape first
-by_whole : (l : LayoutRow) (bs : List ℕ) → read_by l bs ≡ (wholeOf l bs >>= (λ s. ok (parts_at l bs s)))
-unfolding read_by wholeOf shape_of need◌or◌further◌then◌ ◌>>=◌
+by_whole : (l : LayoutRow) (bs : List ℕ) → read_by l bs ≡ (whole_of l bs >>= (λ s. ok (parts_at l bs s)))
+unfolding read_by whole_of shape_of need◌or◌further◌then◌ ◌>>=◌
 by_whole l bs = go (shape_of l bs) refl
   where
     legal : (t : Bool) (p : ℕ) (s : Shaped) → need◌or◌further◌then◌ {A = PartValues × List ℕ} t 11 p (ok (parts_at l bs s)) ≡ (need◌or◌further◌then◌ {A = Shaped} t 11 p (ok s) >>= (λ s. ok (parts_at l bs s)))
     legal true p s = refl
     legal false p s = refl
 
-    go : (m : Answer Shaped) → shape_of l bs ≡ m → read_by l bs ≡ (wholeOf l bs >>= (λ s. ok (parts_at l bs s)))
-    go (ok s) e = rw e (legal (partsLegal (step_of l.kind) l.first s.0 (drop (head_of l.kind) bs)) _ s)
+    go : (m : Answer Shaped) → shape_of l bs ≡ m → read_by l bs ≡ (whole_of l bs >>= (λ s. ok (parts_at l bs s)))
+    go (ok s) e = rw e (legal (parts_legal (step_of l.kind) l.first s.0 (drop (head_of l.kind) bs)) _ s)
     go (refused n p) e = rw e
 
-values-count : (step g c : ℕ) (bs : List ℕ) → length (partValues step g c bs) ≡ c
-unfolding partValues
-values-count step g zero bs = refl
-values-count step g (suc c) bs = ap suc (values-count step (g + step) c (drop (groupAt g).octets bs))
+values_count : (step g c : ℕ) (bs : List ℕ) → length (part_values step g c bs) ≡ c
+unfolding part_values
+values_count step g zero bs = refl
+values_count step g (suc c) bs = ap suc (values_count step (g + step) c (drop (group_at g).octets bs))
 
 -- parts are listed as the rules list them
 module _ (sub : Bool) (l : LayoutRow) (c : ℕ) (bs : List ℕ) where
   abbrev vs : ℕ → PartValues
-  vs k = partValues (step_of k) l.first c (drop (head_of k) bs)
+  vs k = part_values (step_of k) l.first c (drop (head_of k) bs)
 
-  abbrev fieldsBy : ℕ → List ℤ
-  fieldsBy k = count_of sub k c ++ (flatten (vs k) ++ replicate (step_of k * (l.most - c)) absentField)
+  abbrev fields_by : ℕ → List ℤ
+  fields_by k = count_of sub k c ++ (flatten (vs k) ++ replicate (step_of k * (l.most - c)) absent_field)
 
-  none-absent : (k : ℕ) → step_of k ≡ 0 → flatten (vs k) ++ replicate (step_of k * (l.most - c)) absentField ≡ flatten (vs k)
-  none-absent k e =
-      ap (λ n. flatten (vs k) ++ replicate n absentField) (ap (λ n. n * (l.most - c)) e ∙ zero-mul (l.most - c)) ∙ append-nil (flatten (vs k))
+  none_absent : (k : ℕ) → step_of k ≡ 0 → flatten (vs k) ++ replicate (step_of k * (l.most - c)) absent_field ≡ flatten (vs k)
+  none_absent k e =
+      ap (λ n. flatten (vs k) ++ replicate n absent_field) (ap (λ n. n * (l.most - c)) e ∙ zero-mul (l.most - c)) ∙ append-nil (flatten (vs k))
 
-  listed : (s : Format) → rowSound l ≡ true → formatIs l ≡ some s → listedAs sub s (vs l.kind) ≡ partFields sub l c bs
-  unfolding partFields formatIs formatBy
+  listed : (s : Format) → row_sound l ≡ true → format_is l ≡ some s → listed_as sub s (vs l.kind) ≡ part_fields sub l c bs
+  unfolding part_fields format_is format_by
   listed s r h = go l.kind refl sub refl
     where
-      allGroups : List Group
-      allGroups = map groupIs (groupRows 0 groups)
+      all_groups : List Group
+      all_groups = map group_is (group_rows 0 groups)
 
-      by : (k : ℕ) → l.kind ≡ k → formatBy k l.least l.most (groupIs (groupAt l.first)) (slice l.first l.end (map groupIs (groupRows 0 groups))) ≡ some s
-      by k e = subst (λ x. formatBy x l.least l.most (groupIs (groupAt l.first)) (slice l.first l.end (map groupIs (groupRows 0 groups))) ≡ some s) e h
+      by : (k : ℕ) → l.kind ≡ k → format_by k l.least l.most (group_is (group_at l.first)) (slice l.first l.end (map group_is (group_rows 0 groups))) ≡ some s
+      by k e = subst (λ x. format_by x l.least l.most (group_is (group_at l.first)) (slice l.first l.end (map group_is (group_rows 0 groups))) ≡ some s) e h
 
-      at-kind : (k : ℕ) (f : Format) (t : Bool) → l.kind ≡ k → some f ≡ some s → sub ≡ t → listedAs t f (vs k) ≡ count_of t k c ++ (flatten (vs k) ++ replicate (step_of k * (l.most - c)) absentField)
-          → listedAs sub s (vs l.kind) ≡ fieldsBy l.kind
-      at-kind k f t e d u g =
-          ap (λ x. listedAs sub s (vs x)) e ∙ ap (λ x. listedAs sub x (vs k)) (sym (some_inj d)) ∙ ap (λ x. listedAs x f (vs k)) u ∙ g
-          ∙ ap (λ x. count_of x k c ++ (flatten (vs k) ++ replicate (step_of k * (l.most - c)) absentField)) (sym u) ∙ ap fieldsBy (sym e)
+      at_kind : (k : ℕ) (f : Format) (t : Bool) → l.kind ≡ k → some f ≡ some s → sub ≡ t → listed_as t f (vs k) ≡ count_of t k c ++ (flatten (vs k) ++ replicate (step_of k * (l.most - c)) absent_field)
+          → listed_as sub s (vs l.kind) ≡ fields_by l.kind
+      at_kind k f t e d u g =
+          ap (λ x. listed_as sub s (vs x)) e ∙ ap (λ x. listed_as sub x (vs k)) (sym (some_inj d)) ∙ ap (λ x. listed_as x f (vs k)) u ∙ g
+          ∙ ap (λ x. count_of x k c ++ (flatten (vs k) ++ replicate (step_of k * (l.most - c)) absent_field)) (sym u) ∙ ap fields_by (sym e)
 
       counted : (k : ℕ) → pos (length (vs k)) ∷ flatten (vs k) ≡ pos c ∷ flatten (vs k)
-      counted k = ap (λ n. pos n ∷ flatten (vs k)) (values-count (step_of k) l.first c (drop (head_of k) bs))
+      counted k = ap (λ n. pos n ∷ flatten (vs k)) (values_count (step_of k) l.first c (drop (head_of k) bs))
 
       -- one absent number for each printed part that is not there
-      extents : l.kind ≡ 4 → flatten (vs 4) ++ replicate (length (slice l.first l.end allGroups) - length (vs 4)) absentField ≡ flatten (vs 4) ++ replicate (1 * (l.most - c)) absentField
+      extents : l.kind ≡ 4 → flatten (vs 4) ++ replicate (length (slice l.first l.end all_groups) - length (vs 4)) absent_field ≡ flatten (vs 4) ++ replicate (1 * (l.most - c)) absent_field
       extents e =
-          ap (λ n. flatten (vs 4) ++ replicate n absentField)
-          (ap₂ ◌-◌ (slice-long l.first l.end l.most (chain-ends l (rowed l r) e) (chain-inside l (rowed l r) e)) (values-count 1 l.first c (drop 0 bs)) ∙ sym (one-mul (l.most - c)))
+          ap (λ n. flatten (vs 4) ++ replicate n absent_field)
+          (ap₂ ◌-◌ (slice_long l.first l.end l.most (chain_ends l (rowed l r) e) (chain_inside l (rowed l r) e)) (values_count 1 l.first c (drop 0 bs)) ∙ sym (one-mul (l.most - c)))
 
-      go : (k : ℕ) → l.kind ≡ k → (t : Bool) → sub ≡ t → listedAs sub s (vs l.kind) ≡ fieldsBy l.kind
-      go zero e t u = none-some (by 0 e)
-      go (suc zero) e true u = at-kind 1 (fixed (groupIs (groupAt l.first))) true e (by 1 e) u (sym (none-absent 1 refl))
-      go (suc zero) e false u = at-kind 1 (fixed (groupIs (groupAt l.first))) false e (by 1 e) u (sym (none-absent 1 refl))
-      go (suc (suc zero)) e true u = at-kind 2 (repeated l.least l.most (groupIs (groupAt l.first))) true e (by 2 e) u (counted 2 ∙ ap (λ x. pos c ∷ x) (sym (none-absent 2 refl)))
-      go (suc (suc zero)) e false u = at-kind 2 (repeated l.least l.most (groupIs (groupAt l.first))) false e (by 2 e) u (sym (none-absent 2 refl))
-      go (suc (suc (suc zero))) e true u = at-kind 3 (led l.least) true e (by 3 e) u (counted 3 ∙ ap (λ x. pos c ∷ x) (sym (none-absent 3 refl)))
-      go (suc (suc (suc zero))) e false u = at-kind 3 (led l.least) false e (by 3 e) u (sym (none-absent 3 refl))
-      go (suc (suc (suc (suc zero)))) e true u = at-kind 4 (extended (slice l.first l.end allGroups)) true e (by 4 e) u (extents e)
-      go (suc (suc (suc (suc zero)))) e false u = at-kind 4 (extended (slice l.first l.end allGroups)) false e (by 4 e) u (extents e)
-      go (suc (suc (suc (suc (suc k))))) e t u = none-some (by (suc (suc (suc (suc (suc k))))) e)
+      go : (k : ℕ) → l.kind ≡ k → (t : Bool) → sub ≡ t → listed_as sub s (vs l.kind) ≡ fields_by l.kind
+      go zero e t u = none_some (by 0 e)
+      go (suc zero) e true u = at_kind 1 (fixed (group_is (group_at l.first))) true e (by 1 e) u (sym (none_absent 1 refl))
+      go (suc zero) e false u = at_kind 1 (fixed (group_is (group_at l.first))) false e (by 1 e) u (sym (none_absent 1 refl))
+      go (suc (suc zero)) e true u = at_kind 2 (repeated l.least l.most (group_is (group_at l.first))) true e (by 2 e) u (counted 2 ∙ ap (λ x. pos c ∷ x) (sym (none_absent 2 refl)))
+      go (suc (suc zero)) e false u = at_kind 2 (repeated l.least l.most (group_is (group_at l.first))) false e (by 2 e) u (sym (none_absent 2 refl))
+      go (suc (suc (suc zero))) e true u = at_kind 3 (led l.least) true e (by 3 e) u (counted 3 ∙ ap (λ x. pos c ∷ x) (sym (none_absent 3 refl)))
+      go (suc (suc (suc zero))) e false u = at_kind 3 (led l.least) false e (by 3 e) u (sym (none_absent 3 refl))
+      go (suc (suc (suc (suc zero)))) e true u = at_kind 4 (extended (slice l.first l.end all_groups)) true e (by 4 e) u (extents e)
+      go (suc (suc (suc (suc zero)))) e false u = at_kind 4 (extended (slice l.first l.end all_groups)) false e (by 4 e) u (extents e)
+      go (suc (suc (suc (suc (suc k))))) e t u = none_some (by (suc (suc (suc (suc (suc k))))) e)
 
 -- an item that is not compound, or a subfield, by its row
-plain-told : (sub : Bool) (l : LayoutRow) (s : Format) (bs : List ℕ) → rowSound l ≡ true → formatIs l ≡ some s → Octets bs
-    → (readPlain s bs >>= toldOf (listedAs sub s) bs) ≡ plainRead sub l bs
-unfolding plainRead
-plain-told sub l s bs r h o =
-    ap (λ m. m >>= toldOf (listedAs sub s) bs) (reads l s bs r h o ∙ by_whole l bs)
-    ∙ bind_assoc (wholeOf l bs) (λ x. ok (parts_at l bs x)) (toldOf (listedAs sub s) bs)
-    ∙ bind-same (wholeOf l bs) _ _ λ x e.
-    bind-in (toldOf (listedAs sub s) bs) refl
-    (ap₂ (λ a b. ok (a, b)) (listed sub l x.0 bs s r h) (let k : x.1 ≤ length bs = (fitting l bs x r o (whole-shape l bs x e)).there in let d : length (drop x.1 bs) ≡ length bs - x.1 = length-drop x.1 bs in omega arith))
+plain_told : (sub : Bool) (l : LayoutRow) (s : Format) (bs : List ℕ) → row_sound l ≡ true → format_is l ≡ some s → Octets bs
+    → (read_plain s bs >>= told_of (listed_as sub s) bs) ≡ plain_read sub l bs
+unfolding plain_read
+plain_told sub l s bs r h o =
+    ap (λ m. m >>= told_of (listed_as sub s) bs) (reads l s bs r h o ∙ by_whole l bs)
+    ∙ bind_assoc (whole_of l bs) (λ x. ok (parts_at l bs x)) (told_of (listed_as sub s) bs)
+    ∙ bind_same (whole_of l bs) _ _ λ x e.
+    bind_in (told_of (listed_as sub s) bs) refl
+    (ap₂ (λ a b. ok (a, b)) (listed sub l x.0 bs s r h) (let k : x.1 ≤ length bs = (fitting l bs x r o (whole_shape l bs x e)).there in let d : length (drop x.1 bs) ≡ length bs - x.1 = length-drop x.1 bs in omega arith))
 
 -- ---- one thing read after another
 
@@ -160,8 +160,8 @@ pub record Before (bs rest : List ℕ) : Type 0 where
   pub after : drop (length bs - length rest) bs ≡ rest
   pub octets : Octets rest
 
-split-before : {A : Type 0} {w : Write A} {a : A} {bs rest : List ℕ} → Octets bs → Split w a bs rest → Before bs rest
-split-before {bs = bs} {rest = rest} o s =
+split_before : {A : Type 0} {w : Write A} {a : A} {bs rest : List ℕ} → Octets bs → Split w a bs rest → Before bs rest
+split_before {bs = bs} {rest = rest} o s =
     let n : length bs ≡ length s.out + length rest = ap length s.joins ∙ length-append s.out rest in
     record {
       less = omega arith;
@@ -177,283 +177,283 @@ module _ {X Y Z : Type 0} (bs : List ℕ) (fx : X → List ℤ) (fy : Y → List
   Told-then rest v = rest (drop v.1 bs) >>= (λ w. ok (v.0 ++ w.0, v.1 + w.1))
 
   second : (x : X × List ℕ) (v : Told) (m : Answer (Y × List ℕ)) (told : Answer Told) → Before bs x.1 → ((y : Y × List ℕ) → m ≡ ok y → length y.1 ≤ length x.1)
-      → v ≡ (fx x.0, length bs - length x.1) → Alike (m >>= toldOf fy x.1) told
-      → Alike ((later (length bs - length x.1) m >>= (λ y. ok (join x.0 y.0, y.1))) >>= toldOf fz bs) (told >>= (λ w. ok (v.0 ++ w.0, v.1 + w.1)))
+      → v ≡ (fx x.0, length bs - length x.1) → Alike (m >>= told_of fy x.1) told
+      → Alike ((later (length bs - length x.1) m >>= (λ y. ok (join x.0 y.0, y.1))) >>= told_of fz bs) (told >>= (λ w. ok (v.0 ++ w.0, v.1 + w.1)))
   unfolding at_start later ◌>>=◌
   second x v (ok y) (ok w) b f ev e =
-      let d : ◌≡◌ {A = Told} (fy y.0, length x.1 - length y.1) w = ok-inj e in
+      let d : ◌≡◌ {A = Told} (fy y.0, length x.1 - length y.1) w = ok_inj e in
       let l : length y.1 ≤ length x.1 = f y refl in
       let n : length bs - length y.1 ≡ length bs - length x.1 + (length x.1 - length y.1) = omega (arith, b.less) in
       ap₂ (λ p q. ok (p, q)) (joins x.0 y.0 ∙ ap₂ ◌++◌ (sym (ap (λ z. z.0) ev)) (ap (λ z. z.0) d)) (n ∙ ap₂ ◌+◌ (sym (ap (λ z. z.1) ev)) (ap (λ z. z.1) d))
-  second x v (ok y) (refused a c) b f ev e = refused-ok (sym e)
-  second x v (refused a c) (ok w) b f ev e = refused-ok e
+  second x v (ok y) (refused a c) b f ev e = refused_ok (sym e)
+  second x v (refused a c) (ok w) b f ev e = refused_ok e
   second x v (refused a c) (refused a₁ c₁) b f ev e = cc
 
   -- FIRST ONE THING, THEN ANOTHER: alike where each is
-  then-told : (first : Answer (X × List ℕ)) (rest : List ℕ → Answer (Y × List ℕ)) (toldX : Answer Told) (toldY : List ℕ → Answer Told)
-      → Alike (first >>= toldOf fx bs) toldX → ((x : X × List ℕ) → first ≡ ok x → Before bs x.1)
+  then_told : (first : Answer (X × List ℕ)) (rest : List ℕ → Answer (Y × List ℕ)) (toldX : Answer Told) (toldY : List ℕ → Answer Told)
+      → Alike (first >>= told_of fx bs) toldX → ((x : X × List ℕ) → first ≡ ok x → Before bs x.1)
       → ((x : X × List ℕ) (y : Y × List ℕ) → first ≡ ok x → rest x.1 ≡ ok y → length y.1 ≤ length x.1)
-      → ((x : X × List ℕ) → first ≡ ok x → Alike (rest x.1 >>= toldOf fy x.1) (toldY x.1))
-      → Alike ((first >>= Then rest) >>= toldOf fz bs) (toldX >>= Told-then toldY)
-  then-told first rest toldX toldY ea before less eb = go first toldX refl ea
+      → ((x : X × List ℕ) → first ≡ ok x → Alike (rest x.1 >>= told_of fy x.1) (toldY x.1))
+      → Alike ((first >>= Then rest) >>= told_of fz bs) (toldX >>= Told-then toldY)
+  then_told first rest toldX toldY ea before less eb = go first toldX refl ea
     where
-      go : (m : Answer (X × List ℕ)) (t : Answer Told) → first ≡ m → Alike (m >>= toldOf fx bs) t → Alike ((m >>= Then rest) >>= toldOf fz bs) (t >>= Told-then toldY)
+      go : (m : Answer (X × List ℕ)) (t : Answer Told) → first ≡ m → Alike (m >>= told_of fx bs) t → Alike ((m >>= Then rest) >>= told_of fz bs) (t >>= Told-then toldY)
       go (ok x) (ok v) h e =
           unfold at_start ◌>>=◌ in
-          (let d : v ≡ (fx x.0, length bs - length x.1) = sym (ok-inj e) in
+          (let d : v ≡ (fx x.0, length bs - length x.1) = sym (ok_inj e) in
           let b : Before bs x.1 = before x h in
           let z : drop v.1 bs ≡ x.1 = ap (λ (u : Told). drop u.1 bs) d ∙ b.after in
           second x v (rest x.1) (toldY x.1) b (λ y g. less x y h g) d (eb x h) ∙ ap (λ us. at_start (toldY us >>= (λ w. ok (v.0 ++ w.0, v.1 + w.1)))) (sym z))
-      go (ok x) (refused a c) h e = unfold at_start ◌>>=◌ in (refused-ok (sym e))
-      go (refused a c) (ok v) h e = unfold at_start ◌>>=◌ in (refused-ok e)
+      go (ok x) (refused a c) h e = unfold at_start ◌>>=◌ in (refused_ok (sym e))
+      go (refused a c) (ok v) h e = unfold at_start ◌>>=◌ in (refused_ok e)
       go (refused a c) (refused a₁ c₁) h e = unfold at_start ◌>>=◌ in e
 
 -- ---- the subfields of a row
 
 -- a bit has a subfield where its place is none of no item's
-row-present : (i : ℕ) → present (formatIs (layoutAt (subfieldAt i))) ≡ not (eqb (subfieldAt i) 0)
-unfolding subfieldAt subfieldsIn formatIs formatBy layoutAt groupAt fields groups layouts categories
-row-present i = at_row (λ j. present (formatIs (layoutAt j))) (λ j. not (eqb j 0)) subfieldsIn i 0 refl refl
+row_present : (i : ℕ) → present (format_is (layout_at (subfield_at i))) ≡ not (eqb (subfield_at i) 0)
+unfolding subfield_at subfields_in format_is format_by layout_at group_at fields groups layouts categories
+row_present i = at_row (λ j. present (format_is (layout_at j))) (λ j. not (eqb j 0)) subfields_in i 0 refl refl
 
-absent-fields : (i : ℕ) → placeFields (formatIs (layoutAt (subfieldAt i))) none ≡ absentAt i
-absent-fields i = go (formatIs (layoutAt (subfieldAt i))) (eqb (subfieldAt i) 0) (row-present i)
+absent_fields : (i : ℕ) → place_fields (format_is (layout_at (subfield_at i))) none ≡ absent_at i
+absent_fields i = go (format_is (layout_at (subfield_at i))) (eqb (subfield_at i) 0) (row_present i)
   where
-    go : (p : Option Format) (t : Bool) → present p ≡ not t → placeFields p none ≡ cond t [] (absentField ∷ [])
+    go : (p : Option Format) (t : Bool) → present p ≡ not t → place_fields p none ≡ cond t [] (absent_field ∷ [])
     go none true e = refl
     go none false e = absurd (false≢true e)
     go (some s) true e = absurd (false≢true (sym e))
     go (some s) false e = refl
 
-row_before : (ps : List (Option Format)) (ts : List Bool) (bs : List ℕ) (x : List (Option PartValues) × List ℕ) → Octets bs → readRow readPlain ps ts bs ≡ ok x → Before bs x.1
-row_before ps ts bs x o h = split-before o (row-forth plain-laws ps ts x.0 bs x.1 o h).0
+row_before : (ps : List (Option Format)) (ts : List Bool) (bs : List ℕ) (x : List (Option PartValues) × List ℕ) → Octets bs → read_row read_plain ps ts bs ≡ ok x → Before bs x.1
+row_before ps ts bs x o h = split_before o (row_forth plain_laws ps ts x.0 bs x.1 o h).0
 
-rows_before : (ps : List (List (Option Format))) (ts : List (List Bool)) (bs : List ℕ) (x : List (List (Option PartValues)) × List ℕ) → Octets bs → readRows readPlain ps ts bs ≡ ok x → Before bs x.1
-rows_before ps ts bs x o h = split-before o (rows-forth plain-laws ps ts x.0 bs x.1 o h).0
+rows_before : (ps : List (List (Option Format))) (ts : List (List Bool)) (bs : List ℕ) (x : List (List (Option PartValues)) × List ℕ) → Octets bs → read_rows read_plain ps ts bs ≡ ok x → Before bs x.1
+rows_before ps ts bs x o h = split_before o (rows_forth plain_laws ps ts x.0 bs x.1 o h).0
 
-nothing-told : (bs : List ℕ) → ◌≡◌ {A = Answer Told} (ok ([], length bs - length bs)) (ok ([], 0))
-nothing-told bs = ap (λ n. ok ([], n)) (let z : length bs - length bs ≡ 0 = omega arith in z)
+nothing_told : (bs : List ℕ) → ◌≡◌ {A = Answer Told} (ok ([], length bs - length bs)) (ok ([], 0))
+nothing_told bs = ap (λ n. ok ([], n)) (let z : length bs - length bs ≡ 0 = omega arith in z)
 
 -- a subfield that is not there, then the others
-skip-told : (i : ℕ) (p : Option Format) (ps : List (Option Format)) (ts : List Bool) (bs : List ℕ) → placeFields p none ≡ absentAt i
-    → Alike (readRow readPlain ps ts bs >>= toldOf (rowFields ps) bs) (subfieldsRead (i + 1) ts bs)
-    → Alike (readRow readPlain (p ∷ ps) (false ∷ ts) bs >>= toldOf (rowFields (p ∷ ps)) bs) (subfieldsRead i (false ∷ ts) bs)
-unfolding readRow subfieldsRead at_start ◌>>=◌
-skip-told i p ps ts bs e ih = go (readRow readPlain ps ts bs) (subfieldsRead (i + 1) ts bs) ih
+skip_told : (i : ℕ) (p : Option Format) (ps : List (Option Format)) (ts : List Bool) (bs : List ℕ) → place_fields p none ≡ absent_at i
+    → Alike (read_row read_plain ps ts bs >>= told_of (row_fields ps) bs) (subfields_read (i + 1) ts bs)
+    → Alike (read_row read_plain (p ∷ ps) (false ∷ ts) bs >>= told_of (row_fields (p ∷ ps)) bs) (subfields_read i (false ∷ ts) bs)
+unfolding read_row subfields_read at_start ◌>>=◌
+skip_told i p ps ts bs e ih = go (read_row read_plain ps ts bs) (subfields_read (i + 1) ts bs) ih
   where
-    go : (m : Answer (List (Option PartValues) × List ℕ)) (w : Answer Told) → Alike (m >>= toldOf (rowFields ps) bs) w
-        → Alike ((m >>= (λ x. ok (none ∷ x.0, x.1))) >>= toldOf (rowFields (p ∷ ps)) bs) (w >>= (λ v. ok (absentAt i ++ v.0, 0 + v.1)))
+    go : (m : Answer (List (Option PartValues) × List ℕ)) (w : Answer Told) → Alike (m >>= told_of (row_fields ps) bs) w
+        → Alike ((m >>= (λ x. ok (none ∷ x.0, x.1))) >>= told_of (row_fields (p ∷ ps)) bs) (w >>= (λ v. ok (absent_at i ++ v.0, 0 + v.1)))
     go (ok x) (ok v) h =
-        let d : ◌≡◌ {A = Told} (rowFields ps x.0, length bs - length x.1) v = ok-inj h in
+        let d : ◌≡◌ {A = Told} (row_fields ps x.0, length bs - length x.1) v = ok_inj h in
         ap₂ (λ a b. ok (a, b)) (ap₂ ◌++◌ e (ap (λ z. z.0) d)) (ap (λ z. z.1) d ∙ (let z : v.1 ≡ 0 + v.1 = omega arith in z))
-    go (ok x) (refused a c) h = refused-ok (sym h)
-    go (refused a c) (ok v) h = refused-ok h
+    go (ok x) (refused a c) h = refused_ok (sym h)
+    go (refused a c) (ok v) h = refused_ok h
     go (refused a c) (refused b d) h = h
 
 -- one that is there, then the others
-there-told : (i : ℕ) (s : Format) (ps : List (Option Format)) (ts : List Bool) (bs : List ℕ) → formatIs (layoutAt (subfieldAt i)) ≡ some s → Octets bs
-    → ((us : List ℕ) → Octets us → Alike (readRow readPlain ps ts us >>= toldOf (rowFields ps) us) (subfieldsRead (i + 1) ts us))
-    → Alike (readRow readPlain (some s ∷ ps) (true ∷ ts) bs >>= toldOf (rowFields (some s ∷ ps)) bs) (subfieldsRead i (true ∷ ts) bs)
-unfolding readRow subfieldsRead
-there-told i s ps ts bs h o ih =
-    then-told bs (subFields s) (rowFields ps) (rowFields (some s ∷ ps)) (λ v vs. some v ∷ vs) (λ a b. refl)
-    (readPlain s bs) (readRow readPlain ps ts) (plainRead true (layoutAt (subfieldAt i)) bs) (subfieldsRead (i + 1) ts)
-    (ap at_start (plain-told true (layoutAt (subfieldAt i)) s bs (layout-sound (subfieldAt i) (subfield-row i)) h o))
+there_told : (i : ℕ) (s : Format) (ps : List (Option Format)) (ts : List Bool) (bs : List ℕ) → format_is (layout_at (subfield_at i)) ≡ some s → Octets bs
+    → ((us : List ℕ) → Octets us → Alike (read_row read_plain ps ts us >>= told_of (row_fields ps) us) (subfields_read (i + 1) ts us))
+    → Alike (read_row read_plain (some s ∷ ps) (true ∷ ts) bs >>= told_of (row_fields (some s ∷ ps)) bs) (subfields_read i (true ∷ ts) bs)
+unfolding read_row subfields_read
+there_told i s ps ts bs h o ih =
+    then_told bs (sub_fields s) (row_fields ps) (row_fields (some s ∷ ps)) (λ v vs. some v ∷ vs) (λ a b. refl)
+    (read_plain s bs) (read_row read_plain ps ts) (plain_read true (layout_at (subfield_at i)) bs) (subfields_read (i + 1) ts)
+    (ap at_start (plain_told true (layout_at (subfield_at i)) s bs (layout_sound (subfield_at i) (subfield_row i)) h o))
     before
     (λ x y e f. (row_before ps ts x.1 y (before x e).octets f).less)
     (λ x e. ih x.1 (before x e).octets)
   where
-    before : (x : PartValues × List ℕ) → readPlain s bs ≡ ok x → Before bs x.1
-    before x e = split-before o ((plain-laws s).forth x.0 bs x.1 o e)
+    before : (x : PartValues × List ℕ) → read_plain s bs ≡ ok x → Before bs x.1
+    before x e = split_before o ((plain_laws s).forth x.0 bs x.1 o e)
 
-row_told : (m i : ℕ) (ts : List Bool) (bs : List ℕ) → T (usable (bitsIs m i) ts) → Octets bs
-    → Alike (readRow readPlain (bitsIs m i) ts bs >>= toldOf (rowFields (bitsIs m i)) bs) (subfieldsRead i ts bs)
+row_told : (m i : ℕ) (ts : List Bool) (bs : List ℕ) → T (usable (bits_is m i) ts) → Octets bs
+    → Alike (read_row read_plain (bits_is m i) ts bs >>= told_of (row_fields (bits_is m i)) bs) (subfields_read i ts bs)
 unfolding usable
-row_told zero i [] bs u o = unfold readRow subfieldsRead ◌>>=◌ in (ap at_start (nothing-told bs))
+row_told zero i [] bs u o = unfold read_row subfields_read ◌>>=◌ in (ap at_start (nothing_told bs))
 row_told zero i (t ∷ ts) bs u o = absurd u
 row_told (suc m) i [] bs u o = absurd u
-row_told (suc m) i (false ∷ ts) bs u o = skip-told i (formatIs (layoutAt (subfieldAt i))) (bitsIs m (i + 1)) ts bs (absent-fields i) (row_told m (i + 1) ts bs (by (formatIs (layoutAt (subfieldAt i))) u) o)
+row_told (suc m) i (false ∷ ts) bs u o = skip_told i (format_is (layout_at (subfield_at i))) (bits_is m (i + 1)) ts bs (absent_fields i) (row_told m (i + 1) ts bs (by (format_is (layout_at (subfield_at i))) u) o)
   where
-    by : (p : Option Format) → T (usable (p ∷ bitsIs m (i + 1)) (false ∷ ts)) → T (usable (bitsIs m (i + 1)) ts)
+    by : (p : Option Format) → T (usable (p ∷ bits_is m (i + 1)) (false ∷ ts)) → T (usable (bits_is m (i + 1)) ts)
     by none v = v
     by (some s) v = v
-row_told (suc m) i (true ∷ ts) bs u o = go (formatIs (layoutAt (subfieldAt i))) refl u (λ us k v. row_told m (i + 1) ts us k v)
+row_told (suc m) i (true ∷ ts) bs u o = go (format_is (layout_at (subfield_at i))) refl u (λ us k v. row_told m (i + 1) ts us k v)
   where
-    go : (p : Option Format) → formatIs (layoutAt (subfieldAt i)) ≡ p → T (usable (p ∷ bitsIs m (i + 1)) (true ∷ ts))
-        → ((us : List ℕ) → T (usable (bitsIs m (i + 1)) ts) → Octets us → Alike (readRow readPlain (bitsIs m (i + 1)) ts us >>= toldOf (rowFields (bitsIs m (i + 1))) us) (subfieldsRead (i + 1) ts us))
-        → Alike (readRow readPlain (p ∷ bitsIs m (i + 1)) (true ∷ ts) bs >>= toldOf (rowFields (p ∷ bitsIs m (i + 1))) bs) (subfieldsRead i (true ∷ ts) bs)
+    go : (p : Option Format) → format_is (layout_at (subfield_at i)) ≡ p → T (usable (p ∷ bits_is m (i + 1)) (true ∷ ts))
+        → ((us : List ℕ) → T (usable (bits_is m (i + 1)) ts) → Octets us → Alike (read_row read_plain (bits_is m (i + 1)) ts us >>= told_of (row_fields (bits_is m (i + 1))) us) (subfields_read (i + 1) ts us))
+        → Alike (read_row read_plain (p ∷ bits_is m (i + 1)) (true ∷ ts) bs >>= told_of (row_fields (p ∷ bits_is m (i + 1))) bs) (subfields_read i (true ∷ ts) bs)
     go none e v ih = absurd v
-    go (some s) e v ih = there-told i s (bitsIs m (i + 1)) ts bs e o (λ us k. ih us v k)
+    go (some s) e v ih = there_told i s (bits_is m (i + 1)) ts bs e o (λ us k. ih us v k)
 
 -- ---- of all rows
 
 -- flags end to end
-abbrev joined-told : Told → Told → Answer Told
-joined-told v w = ok (v.0 ++ w.0, v.1 + w.1)
+abbrev joined_told : Told → Told → Answer Told
+joined_told v w = ok (v.0 ++ w.0, v.1 + w.1)
 
 both_told : (i : ℕ) (ts us : List Bool) (bs : List ℕ)
-    → subfieldsRead i (ts ++ us) bs ≡ (subfieldsRead i ts bs >>= (λ v. subfieldsRead (i + length ts) us (drop v.1 bs) >>= joined-told v))
-unfolding subfieldsRead ◌>>=◌
-both_told i [] us bs = ap (λ k. subfieldsRead k us bs) (sym (add-zero i)) ∙ go (subfieldsRead (i + 0) us bs)
+    → subfields_read i (ts ++ us) bs ≡ (subfields_read i ts bs >>= (λ v. subfields_read (i + length ts) us (drop v.1 bs) >>= joined_told v))
+unfolding subfields_read ◌>>=◌
+both_told i [] us bs = ap (λ k. subfields_read k us bs) (sym (add-zero i)) ∙ go (subfields_read (i + 0) us bs)
   where
     go : (m : Answer Told) → m ≡ (m >>= (λ w. ok ([] ++ w.0, 0 + w.1)))
     go (ok w) = ap (λ n. ok (w.0, n)) (let z : w.1 ≡ 0 + w.1 = omega arith in z)
     go (refused n p) = refl
-both_told i (t ∷ ts) us bs = go (placeRead i t bs) (λ x. both_told (i + 1) ts us (drop x.1 bs))
+both_told i (t ∷ ts) us bs = go (place_read i t bs) (λ x. both_told (i + 1) ts us (drop x.1 bs))
   where
     e : i + suc (length ts) ≡ i + 1 + length ts
     e = omega arith
 
-    third : (x v : Told) (m : Answer Told) → ((m >>= joined-told v) >>= joined-told x) ≡ (m >>= joined-told (x.0 ++ v.0, x.1 + v.1))
+    third : (x v : Told) (m : Answer Told) → ((m >>= joined_told v) >>= joined_told x) ≡ (m >>= joined_told (x.0 ++ v.0, x.1 + v.1))
     third x v (ok w) = ap₂ (λ a b. ok (a, b)) (sym (append_assoc x.0 v.0 w.0)) (let z : x.1 + (v.1 + w.1) ≡ x.1 + v.1 + w.1 = omega arith in z)
     third x v (refused n p) = refl
 
     second : (x : Told) (m : Answer Told)
-        → ((m >>= (λ v. subfieldsRead (i + 1 + length ts) us (drop v.1 (drop x.1 bs)) >>= joined-told v)) >>= joined-told x)
-        ≡ ((m >>= joined-told x) >>= (λ v. subfieldsRead (i + suc (length ts)) us (drop v.1 bs) >>= joined-told v))
+        → ((m >>= (λ v. subfields_read (i + 1 + length ts) us (drop v.1 (drop x.1 bs)) >>= joined_told v)) >>= joined_told x)
+        ≡ ((m >>= joined_told x) >>= (λ v. subfields_read (i + suc (length ts)) us (drop v.1 bs) >>= joined_told v))
     second x (ok v) =
-        third x v (subfieldsRead (i + 1 + length ts) us (drop v.1 (drop x.1 bs)))
-        ∙ ap₂ (λ k l. subfieldsRead k us l >>= joined-told (x.0 ++ v.0, x.1 + v.1)) (sym e) (drop-drop v.1 x.1 bs)
+        third x v (subfields_read (i + 1 + length ts) us (drop v.1 (drop x.1 bs)))
+        ∙ ap₂ (λ k l. subfields_read k us l >>= joined_told (x.0 ++ v.0, x.1 + v.1)) (sym e) (drop-drop v.1 x.1 bs)
     second x (refused n p) = refl
 
     go : (m : Answer Told)
-        → ((x : Told) → subfieldsRead (i + 1) (ts ++ us) (drop x.1 bs) ≡ (subfieldsRead (i + 1) ts (drop x.1 bs) >>= (λ v. subfieldsRead (i + 1 + length ts) us (drop v.1 (drop x.1 bs)) >>= joined-told v)))
-        → (m >>= (λ x. subfieldsRead (i + 1) (ts ++ us) (drop x.1 bs) >>= joined-told x))
-        ≡ ((m >>= (λ x. subfieldsRead (i + 1) ts (drop x.1 bs) >>= joined-told x)) >>= (λ v. subfieldsRead (i + suc (length ts)) us (drop v.1 bs) >>= joined-told v))
-    go (ok x) ih = ap (λ m. m >>= joined-told x) (ih x) ∙ second x (subfieldsRead (i + 1) ts (drop x.1 bs))
+        → ((x : Told) → subfields_read (i + 1) (ts ++ us) (drop x.1 bs) ≡ (subfields_read (i + 1) ts (drop x.1 bs) >>= (λ v. subfields_read (i + 1 + length ts) us (drop v.1 (drop x.1 bs)) >>= joined_told v)))
+        → (m >>= (λ x. subfields_read (i + 1) (ts ++ us) (drop x.1 bs) >>= joined_told x))
+        ≡ ((m >>= (λ x. subfields_read (i + 1) ts (drop x.1 bs) >>= joined_told x)) >>= (λ v. subfields_read (i + suc (length ts)) us (drop v.1 bs) >>= joined_told v))
+    go (ok x) ih = ap (λ m. m >>= joined_told x) (ih x) ∙ second x (subfields_read (i + 1) ts (drop x.1 bs))
     go (refused n p) ih = refl
 
 -- octets that are not there name nothing
-absent-row : (m i : ℕ) (bs : List ℕ) → subfieldsRead i (replicate m false) bs ≡ ok (rowFields (bitsIs m i) [], 0)
-unfolding subfieldsRead ◌>>=◌
-absent-row zero i bs = refl
-absent-row (suc m) i bs = ap (λ n. n >>= joined-told (absentAt i, 0)) (absent-row m (i + 1) bs) ∙ ap (λ l. ok (l ++ rowFields (bitsIs m (i + 1)) [], 0)) (sym (absent-fields i))
+absent_row : (m i : ℕ) (bs : List ℕ) → subfields_read i (replicate m false) bs ≡ ok (row_fields (bits_is m i) [], 0)
+unfolding subfields_read ◌>>=◌
+absent_row zero i bs = refl
+absent_row (suc m) i bs = ap (λ n. n >>= joined_told (absent_at i, 0)) (absent_row m (i + 1) bs) ∙ ap (λ l. ok (l ++ row_fields (bits_is m (i + 1)) [], 0)) (sym (absent_fields i))
 
 next_row : (j : ℕ) → 7 * j + 7 ≡ 7 * (j + 1)
 next_row j = omega arith
 
-absent-rows : (n j : ℕ) (bs : List ℕ) → subfieldsRead (7 * j) (padded n []) bs ≡ ok (rowsFields (primariesIs n j) [], 0)
-absent-rows zero j bs = unfold subfieldsRead in refl
-absent-rows (suc n) j bs =
+absent_rows : (n j : ℕ) (bs : List ℕ) → subfields_read (7 * j) (padded n []) bs ≡ ok (rows_fields (primaries_is n j) [], 0)
+absent_rows zero j bs = unfold subfields_read in refl
+absent_rows (suc n) j bs =
     both_told (7 * j) (replicate 7 false) (padded n []) bs
-    ∙ bind-in _ (absent-row 7 (7 * j) bs)
-    (bind-in _ (ap (λ k. subfieldsRead k (padded n []) bs) (next_row j) ∙ absent-rows n (j + 1) bs) refl)
+    ∙ bind_in _ (absent_row 7 (7 * j) bs)
+    (bind_in _ (ap (λ k. subfields_read k (padded n []) bs) (next_row j) ∙ absent_rows n (j + 1) bs) refl)
 
-rows_told : (n j : ℕ) (ts : List (List Bool)) (bs : List ℕ) → Few n ts → RowsUsable (primariesIs n j) ts → Octets bs
-    → Alike (readRows readPlain (primariesIs n j) ts bs >>= toldOf (rowsFields (primariesIs n j)) bs) (subfieldsRead (7 * j) (padded n ts) bs)
-unfolding readRows
-rows_told n j [] bs f u o = ap at_start (bind-in (toldOf (rowsFields (primariesIs n j)) bs) refl (ap (λ k. ok (rowsFields (primariesIs n j) [], k)) (let z : length bs - length bs ≡ 0 = omega arith in z)) ∙ sym (absent-rows n j bs))
+rows_told : (n j : ℕ) (ts : List (List Bool)) (bs : List ℕ) → Few n ts → RowsUsable (primaries_is n j) ts → Octets bs
+    → Alike (read_rows read_plain (primaries_is n j) ts bs >>= told_of (rows_fields (primaries_is n j)) bs) (subfields_read (7 * j) (padded n ts) bs)
+unfolding read_rows
+rows_told n j [] bs f u o = ap at_start (bind_in (told_of (rows_fields (primaries_is n j)) bs) refl (ap (λ k. ok (rows_fields (primaries_is n j) [], k)) (let z : length bs - length bs ≡ 0 = omega arith in z)) ∙ sym (absent_rows n j bs))
 rows_told zero j (t ∷ ts) bs f u o = absurd f
 rows_told (suc n) j (t ∷ ts) bs f u o =
-    then-told bs (rowFields (bitsIs 7 (7 * j))) (rowsFields (primariesIs n (j + 1))) (rowsFields (primariesIs (suc n) j)) (λ r rs. r ∷ rs) (λ a b. refl)
-    (readRow readPlain (bitsIs 7 (7 * j)) t bs) (readRows readPlain (primariesIs n (j + 1)) ts) (subfieldsRead (7 * j) t bs) (subfieldsRead (7 * (j + 1)) (padded n ts))
+    then_told bs (row_fields (bits_is 7 (7 * j))) (rows_fields (primaries_is n (j + 1))) (rows_fields (primaries_is (suc n) j)) (λ r rs. r ∷ rs) (λ a b. refl)
+    (read_row read_plain (bits_is 7 (7 * j)) t bs) (read_rows read_plain (primaries_is n (j + 1)) ts) (subfields_read (7 * j) t bs) (subfields_read (7 * (j + 1)) (padded n ts))
     (row_told 7 (7 * j) t bs u.0 o)
-    (λ x e. row_before (bitsIs 7 (7 * j)) t bs x o e)
-    (λ x y e g. (rows_before (primariesIs n (j + 1)) ts x.1 y (row_before (bitsIs 7 (7 * j)) t bs x o e).octets g).less)
-    (λ x e. rows_told n (j + 1) ts x.1 f.1 u.1 (row_before (bitsIs 7 (7 * j)) t bs x o e).octets)
-    ∙ ap at_start (sym (both_told (7 * j) t (padded n ts) bs ∙ ap (λ k. subfieldsRead (7 * j) t bs >>= (λ v. subfieldsRead k (padded n ts) (drop v.1 bs) >>= joined-told v)) (ap (λ l. 7 * j + l) f.0 ∙ next_row j)))
+    (λ x e. row_before (bits_is 7 (7 * j)) t bs x o e)
+    (λ x y e g. (rows_before (primaries_is n (j + 1)) ts x.1 y (row_before (bits_is 7 (7 * j)) t bs x o e).octets g).less)
+    (λ x e. rows_told n (j + 1) ts x.1 f.1 u.1 (row_before (bits_is 7 (7 * j)) t bs x o e).octets)
+    ∙ ap at_start (sym (both_told (7 * j) t (padded n ts) bs ∙ ap (λ k. subfields_read (7 * j) t bs >>= (λ v. subfields_read k (padded n ts) (drop v.1 bs) >>= joined_told v)) (ap (λ l. 7 * j + l) f.0 ∙ next_row j)))
 
 -- ---- a compound item
 
-start-bind : {A B : Type 0} (x : Answer A) (f : A → Answer B) → ((a : A) → at_start (f a) ≡ f a) → at_start (x >>= f) ≡ (at_start x >>= f)
+start_bind : {A B : Type 0} (x : Answer A) (f : A → Answer B) → ((a : A) → at_start (f a) ≡ f a) → at_start (x >>= f) ≡ (at_start x >>= f)
 unfolding at_start ◌>>=◌
-start-bind (ok a) f h = h a
-start-bind (refused n p) f h = refl
+start_bind (ok a) f h = h a
+start_bind (refused n p) f h = refl
 
-module _ (n j : ℕ) (bs : List ℕ) (h : j + n ≤ primaryCount) (o : Octets bs) where
+module _ (n j : ℕ) (bs : List ℕ) (h : j + n ≤ primary_count) (o : Octets bs) where
   abbrev rows_at : List (List (Option Format))
-  rows_at = primariesIs n j
+  rows_at = primaries_is n j
 
   abbrev named : ℕ → ℕ → Answer Told
-  named b k = at_start (subfieldsRead (7 * j) (flags (7 * n) b) (drop k bs)) >>= (λ x. ok (x.0, k + x.1))
+  named b k = at_start (subfields_read (7 * j) (flags (7 * n) b) (drop k bs)) >>= (λ x. ok (x.0, k + x.1))
 
-  abbrev subfieldsAt : List (List (Option PartValues)) × List ℕ → Answer (Values × List ℕ)
-  subfieldsAt x = ok (inSubfields x.0, x.1)
+  abbrev subfields_at : List (List (Option PartValues)) × List ℕ → Answer (Values × List ℕ)
+  subfields_at x = ok (in_subfields x.0, x.1)
 
   -- once the primary octets are read
-  after-octets : (y : Came) → CameOf n j bs y
-      → ((at_start (later (length bs - length y.1) (readRows readPlain rows_at y.0 y.1)) >>= subfieldsAt) >>= toldOf (fieldList (compound rows_at)) bs)
+  after_octets : (y : Came) → CameOf n j bs y
+      → ((at_start (later (length bs - length y.1) (read_rows read_plain rows_at y.0 y.1)) >>= subfields_at) >>= told_of (field_list (compound rows_at)) bs)
       ≡ named (number (padded n y.0)) (length bs - length y.1)
-  after-octets y c =
+  after_octets y c =
       let k : ℕ = length bs - length y.1 in
       let d : drop k bs ≡ y.1 = ap (λ m. drop m bs) (let z : k ≡ length y.0 = omega (arith, c.count) in z) ∙ c.after in
-      let r : Octets y.1 = subst Octets d (octets-drop k bs o) in
-      ap (λ m. (m >>= subfieldsAt) >>= toldOf (fieldList (compound rows_at)) bs) (alike-later k (readRows readPlain rows_at y.0 y.1))
-      ∙ go (readRows readPlain rows_at y.0 y.1) (subfieldsRead (7 * j) (padded n y.0) y.1) (rows_told n j y.0 y.1 c.few c.named r) (λ x e. (rows_before rows_at y.0 y.1 x r e).less)
-      ∙ ap₂ (λ ts us. at_start (subfieldsRead (7 * j) ts us) >>= (λ x. ok (x.0, k + x.1))) (sym (padded-flags n y.0 c.few)) (sym d)
+      let r : Octets y.1 = subst Octets d (octets_drop k bs o) in
+      ap (λ m. (m >>= subfields_at) >>= told_of (field_list (compound rows_at)) bs) (alike_later k (read_rows read_plain rows_at y.0 y.1))
+      ∙ go (read_rows read_plain rows_at y.0 y.1) (subfields_read (7 * j) (padded n y.0) y.1) (rows_told n j y.0 y.1 c.few c.named r) (λ x e. (rows_before rows_at y.0 y.1 x r e).less)
+      ∙ ap₂ (λ ts us. at_start (subfields_read (7 * j) ts us) >>= (λ x. ok (x.0, k + x.1))) (sym (padded_flags n y.0 c.few)) (sym d)
     where
-      go : (m : Answer (List (List (Option PartValues)) × List ℕ)) (w : Answer Told) → Alike (m >>= toldOf (rowsFields rows_at) y.1) w
+      go : (m : Answer (List (List (Option PartValues)) × List ℕ)) (w : Answer Told) → Alike (m >>= told_of (rows_fields rows_at) y.1) w
           → ((x : List (List (Option PartValues)) × List ℕ) → m ≡ ok x → length x.1 ≤ length y.1)
-          → ((at_start m >>= subfieldsAt) >>= toldOf (fieldList (compound rows_at)) bs) ≡ (at_start w >>= (λ x. ok (x.0, length bs - length y.1 + x.1)))
+          → ((at_start m >>= subfields_at) >>= told_of (field_list (compound rows_at)) bs) ≡ (at_start w >>= (λ x. ok (x.0, length bs - length y.1 + x.1)))
       go (ok x) (ok v) e l =
           unfold at_start ◌>>=◌ in
-          (let q : ◌≡◌ {A = Told} (rowsFields rows_at x.0, length y.1 - length x.1) v = ok-inj e in
+          (let q : ◌≡◌ {A = Told} (rows_fields rows_at x.0, length y.1 - length x.1) v = ok_inj e in
           let s : length x.1 ≤ length y.1 = l x refl in
           ap₂ (λ a b. ok (a, b)) (ap (λ z. z.0) q) ((let z : length bs - length x.1 ≡ length bs - length y.1 + (length y.1 - length x.1) = omega (arith, c.count) in z) ∙ ap (λ z. length bs - length y.1 + z.1) q))
-      go (ok x) (refused a b) e l = unfold at_start ◌>>=◌ in (refused-ok (sym e))
-      go (refused a b) (ok v) e l = unfold at_start ◌>>=◌ in (refused-ok e)
+      go (ok x) (refused a b) e l = unfold at_start ◌>>=◌ in (refused_ok (sym e))
+      go (refused a b) (ok v) e l = unfold at_start ◌>>=◌ in (refused_ok e)
       go (refused a b) (refused a₁ b₁) e l = unfold at_start ◌>>=◌ in cc
 
-  compound-told : (readItem (compound rows_at) bs >>= toldOf (fieldList (compound rows_at)) bs) ≡ (primary j n bs >>= (λ x. named x.0 x.1))
-  unfolding readItem readPlaces
-  compound-told =
-      ap (λ m. (at_start (m >>= (λ y. later (length bs - length y.1) (readRows readPlain rows_at y.0 y.1))) >>= subfieldsAt) >>= toldOf (fieldList (compound rows_at)) bs) (presence-in-turn rows_at bs (sevens-rows n j) o)
-      ∙ go (in_turn rows_at bs) (turn-first rows_at bs) (came-of n j bs)
-      ∙ ap (λ m. m >>= (λ x. named x.0 x.1)) (primary-in-turn n j bs h o)
+  compound_told : (read_item (compound rows_at) bs >>= told_of (field_list (compound rows_at)) bs) ≡ (primary j n bs >>= (λ x. named x.0 x.1))
+  unfolding read_item read_places
+  compound_told =
+      ap (λ m. (at_start (m >>= (λ y. later (length bs - length y.1) (read_rows read_plain rows_at y.0 y.1))) >>= subfields_at) >>= told_of (field_list (compound rows_at)) bs) (presence_in_turn rows_at bs (sevens_rows n j) o)
+      ∙ go (in_turn rows_at bs) (turn_first rows_at bs) (came_of_lem n j bs)
+      ∙ ap (λ m. m >>= (λ x. named x.0 x.1)) (primary_in_turn n j bs h o)
     where
       go : (m : Answer Came) → Only (λ a b. b ≡ 0) m → ((y : Came) → m ≡ ok y → CameOf n j bs y)
-          → ((at_start (m >>= (λ y. later (length bs - length y.1) (readRows readPlain rows_at y.0 y.1))) >>= subfieldsAt) >>= toldOf (fieldList (compound rows_at)) bs)
+          → ((at_start (m >>= (λ y. later (length bs - length y.1) (read_rows read_plain rows_at y.0 y.1))) >>= subfields_at) >>= told_of (field_list (compound rows_at)) bs)
           ≡ ((m >>= bits_of n bs) >>= (λ x. named x.0 x.1))
-      go (ok y) f c = unfold ◌>>=◌ in (after-octets y (c y refl))
+      go (ok y) f c = unfold ◌>>=◌ in (after_octets y (c y refl))
       go (refused a b) f c = unfold at_start ◌>>=◌ in (ap (refused a) (sym f))
 
 -- ---- any item
 
 -- AN ITEM BY ITS ROW is read as the rules read it: its fields, and how many octets it takes
-pub item-told : (l : LayoutRow) (i : Layout) (bs : List ℕ) → rowSound l ≡ true → itemSound l ≡ true → layoutIs l ≡ some i → Octets bs
-    → (readItem i bs >>= toldOf (fieldList i) bs) ≡ itemRead l bs
-unfolding layoutIs itemRead
-item-told l i bs r s h o = go (eqb l.kind 5) refl h
+pub item_told : (l : LayoutRow) (i : Layout) (bs : List ℕ) → row_sound l ≡ true → item_sound l ≡ true → layout_is l ≡ some i → Octets bs
+    → (read_item i bs >>= told_of (field_list i) bs) ≡ item_read l bs
+unfolding layout_is item_read
+item_told l i bs r s h o = go (eqb l.kind 5) refl h
   where
-    plain-read : (f : Option Format) → formatIs l ≡ f → asPlain f ≡ some i → (readItem i bs >>= toldOf (fieldList i) bs) ≡ plainRead false l bs
-    plain-read none e d = none-some d
-    plain-read (some f) e d =
-        ap (λ x. readItem x bs >>= toldOf (fieldList x) bs) (sym (some_inj d))
-        ∙ unfold readItem in (bind_assoc (readPlain f bs) (λ x. ok (in_parts x.0, x.1)) (toldOf (fieldList (plain f)) bs) ∙ bind-same (readPlain f bs) _ _ (λ x g. bind-in _ refl refl))
-        ∙ plain-told false l f bs r e o
+    plain_read_lem : (f : Option Format) → format_is l ≡ f → as_plain f ≡ some i → (read_item i bs >>= told_of (field_list i) bs) ≡ plain_read false l bs
+    plain_read_lem none e d = none_some d
+    plain_read_lem (some f) e d =
+        ap (λ x. read_item x bs >>= told_of (field_list x) bs) (sym (some_inj d))
+        ∙ unfold read_item in (bind_assoc (read_plain f bs) (λ x. ok (in_parts x.0, x.1)) (told_of (field_list (plain f)) bs) ∙ bind_same (read_plain f bs) _ _ (λ x g. bind_in _ refl refl))
+        ∙ plain_told false l f bs r e o
 
-    go : (t : Bool) → eqb l.kind 5 ≡ t → cond t (some (compound (primariesIs (l.end - l.first) l.first))) (asPlain (formatIs l)) ≡ some i
-        → (readItem i bs >>= toldOf (fieldList i) bs) ≡ (if t then compoundRead l bs else plainRead false l bs)
+    go : (t : Bool) → eqb l.kind 5 ≡ t → cond t (some (compound (primaries_is (l.end - l.first) l.first))) (as_plain (format_is l)) ≡ some i
+        → (read_item i bs >>= told_of (field_list i) bs) ≡ (if t then compound_read l bs else plain_read false l bs)
     go true e d =
         let c : Compounded l = compounded l s (eqb-true l.kind 5 e) in
-        ap (λ x. readItem x bs >>= toldOf (fieldList x) bs) (sym (some_inj d))
-        ∙ compound-told (printed l) l.first bs (let z : l.first + printed l ≤ primaryCount = omega (arith, c.order, c.inside) in z) o
-        ∙ unfold compoundRead if◌then◌else◌ in refl
-    go false e d = plain-read (formatIs l) refl d ∙ unfold if◌then◌else◌ in refl
+        ap (λ x. read_item x bs >>= told_of (field_list x) bs) (sym (some_inj d))
+        ∙ compound_told (printed l) l.first bs (let z : l.first + printed l ≤ primary_count = omega (arith, c.order, c.inside) in z) o
+        ∙ unfold compound_read if◌then◌else◌ in refl
+    go false e d = plain_read_lem (format_is l) refl d ∙ unfold if◌then◌else◌ in refl
 
 -- a row that is no item's
-pub no_row : (l : LayoutRow) (bs : List ℕ) → layoutIs l ≡ none → itemRead l bs ≡ refused 21 0
-unfolding layoutIs itemRead formatIs formatBy
+pub no_row : (l : LayoutRow) (bs : List ℕ) → layout_is l ≡ none → item_read l bs ≡ refused 21 0
+unfolding layout_is item_read format_is format_by
 no_row l bs h = go l.kind refl
   where
     by : (k : ℕ) → l.kind ≡ k
-        → cond (eqb k 5) (some (compound (primariesIs (l.end - l.first) l.first))) (asPlain (formatBy k l.least l.most (groupIs (groupAt l.first)) (slice l.first l.end (map groupIs (groupRows 0 groups))))) ≡ none
-    by k e = subst (λ x. cond (eqb x 5) (some (compound (primariesIs (l.end - l.first) l.first))) (asPlain (formatBy x l.least l.most (groupIs (groupAt l.first)) (slice l.first l.end (map groupIs (groupRows 0 groups))))) ≡ none) e h
+        → cond (eqb k 5) (some (compound (primaries_is (l.end - l.first) l.first))) (as_plain (format_by k l.least l.most (group_is (group_at l.first)) (slice l.first l.end (map group_is (group_rows 0 groups))))) ≡ none
+    by k e = subst (λ x. cond (eqb x 5) (some (compound (primaries_is (l.end - l.first) l.first))) (as_plain (format_by x l.least l.most (group_is (group_at l.first)) (slice l.first l.end (map group_is (group_rows 0 groups))))) ≡ none) e h
 
     none_read : (k : ℕ) → l.kind ≡ k → eqb k 5 ≡ false → shape_by k l.least l.most l.first l.end bs ≡ refused 21 0
-        → (if eqb l.kind 5 then compoundRead l bs else plainRead false l bs) ≡ refused 21 0
-    none_read k e f s = if-false _ (ap (λ x. eqb x 5) e ∙ f) (unfold plainRead wholeOf shape_of in (bind-out _ (bind-out _ (ap (λ x. shape_by x l.least l.most l.first l.end bs) e ∙ s))))
+        → (if eqb l.kind 5 then compound_read l bs else plain_read false l bs) ≡ refused 21 0
+    none_read k e f s = if_false _ (ap (λ x. eqb x 5) e ∙ f) (unfold plain_read whole_of shape_of in (bind_out _ (bind_out _ (ap (λ x. shape_by x l.least l.most l.first l.end bs) e ∙ s))))
 
-    go : (k : ℕ) → l.kind ≡ k → (if eqb l.kind 5 then compoundRead l bs else plainRead false l bs) ≡ refused 21 0
+    go : (k : ℕ) → l.kind ≡ k → (if eqb l.kind 5 then compound_read l bs else plain_read false l bs) ≡ refused 21 0
     go zero e = none_read 0 e refl (unfold shape_by in refl)
-    go (suc zero) e = none-some (sym (by 1 e))
-    go (suc (suc zero)) e = none-some (sym (by 2 e))
-    go (suc (suc (suc zero))) e = none-some (sym (by 3 e))
-    go (suc (suc (suc (suc zero)))) e = none-some (sym (by 4 e))
-    go (suc (suc (suc (suc (suc zero))))) e = none-some (sym (by 5 e))
+    go (suc zero) e = none_some (sym (by 1 e))
+    go (suc (suc zero)) e = none_some (sym (by 2 e))
+    go (suc (suc (suc zero))) e = none_some (sym (by 3 e))
+    go (suc (suc (suc (suc zero)))) e = none_some (sym (by 4 e))
+    go (suc (suc (suc (suc (suc zero))))) e = none_some (sym (by 5 e))
     go (suc (suc (suc (suc (suc (suc k)))))) e = none_read (suc (suc (suc (suc (suc (suc k)))))) e (ne_eqb (suc (suc (suc (suc (suc (suc k)))))) 5 (λ (z : suc (suc (suc (suc (suc (suc k))))) ≡ 5). absurd (omega arith))) (unfold shape_by in refl)
 
 -- every row of the table is one that the code can work with
-pub row-item : (j : ℕ) → j < layoutCount → itemSound (layoutAt j) ≡ true
-unfolding itemSound holds rows isSpare subfieldAt subfieldsIn layoutAt groupAt fields groups primaries layouts categories
-row-item zero h = refl
-row-item (suc j) h = each itemSound (layoutRows 0 0 layouts) noLayoutRow refl j (le_of_suc-le-suc h)
+pub row_item : (j : ℕ) → j < layout_count → item_sound (layout_at j) ≡ true
+unfolding item_sound holds rows is_spare subfield_at subfields_in layout_at group_at fields groups primaries layouts categories
+row_item zero h = refl
+row_item (suc j) h = each item_sound (layout_rows 0 0 layouts) no_layout_row refl j (le_of_suc-le-suc h)

@@ -15,83 +15,83 @@ use lib.Seq.{drop-drop}
 use Rattle.rules.specs.Answer.{Answer, ok, refused, ◌>>=◌}
 use Rattle.rules.specs.Presence.{flags}
 use Rattle.rules.specs.Layout.{at_start}
-use Rattle.rules.proofs.AnswerLaws.{Octets, both_left, both_right, if-true, if-false, ok-inj, bind-elim, bind-in, bind-out, refused-ok, octets-drop, to_end}
+use Rattle.rules.proofs.AnswerLaws.{Octets, both_left, both_right, if_true, if_false, ok_inj, bind_elim, bind_in, bind_out, refused_ok, octets_drop, to_end}
 use Rattle.tables.specs.declared.tables.LayoutRow.{LayoutRow}
 use Rattle.rules.specs.Catalogue.{categories}
-use Rattle.tables.specs.Tables.{layouts, primaryCount, subfieldsIn, subfieldCount, subfieldAt, layoutAt}
-use Rattle.tables.proofs.TableLaws.{subfields-long, subfield-row}
-use Rattle.layouts.specs.Read.{Shaped, wholeOf}
+use Rattle.tables.specs.Tables.{layouts, primary_count, subfields_in, subfield_count, subfield_at, layout_at}
+use Rattle.tables.proofs.TableLaws.{subfields_long, subfield_row}
+use Rattle.layouts.specs.Read.{Shaped, whole_of}
 use Rattle.layouts.proofs.ReadLaws.{Fitting, fitting}
-use Rattle.layouts.proofs.SoundLaws.{layout-sound}
-use Rattle.layouts.proofs.WholeLaws.{whole-shape}
-use Rattle.compounds.specs.Compound.{Told, plainRead, placeRead, subfieldsRead, printed, primary, compoundRead, sizeFrom, shaped, mostFields, mostIn, itemSound}
-use Rattle.compounds.proofs.PrimaryLaws.{primary-within}
+use Rattle.layouts.proofs.SoundLaws.{layout_sound}
+use Rattle.layouts.proofs.WholeLaws.{whole_shape}
+use Rattle.compounds.specs.Compound.{Told, plain_read, place_read, subfields_read, printed, primary, compound_read, size_from, shaped, most_fields, most_in, item_sound}
+use Rattle.compounds.proofs.PrimaryLaws.{primary_within}
 
-pub subfields-few : subfieldCount ≤ 255
-unfolding subfieldsIn layouts categories
-subfields-few = lit≤ tt
+pub subfields_few : subfield_count ≤ 255
+unfolding subfields_in layouts categories
+subfields_few = lit≤ tt
 
 -- ---- one subfield
 
 module _ (i : ℕ) (bs : List ℕ) where
   abbrev row : LayoutRow
-  row = layoutAt (subfieldAt i)
+  row = layout_at (subfield_at i)
 
-  pub absent-size : {t : Bool} → t ≡ false → ok (0, 0) ≡ sizeFrom 0 (placeRead i t bs)
-  absent-size e = sym (ap (λ t. sizeFrom 0 (placeRead i t bs)) e)
+  pub absent_size : {t : Bool} → t ≡ false → ok (0, 0) ≡ size_from 0 (place_read i t bs)
+  absent_size e = sym (ap (λ t. size_from 0 (place_read i t bs)) e)
 
-  pub there-size : {t : Bool} (c n : ℕ) → t ≡ true → ok (c, n) ≡ wholeOf row bs → ok (0, n) ≡ sizeFrom 0 (placeRead i t bs)
-  unfolding plainRead ◌>>=◌
-  there-size c n e h = rw (e, ← h) (ap (λ m. ok (0, m)) (let z : n ≡ 0 + n = omega arith in z))
+  pub there_size : {t : Bool} (c n : ℕ) → t ≡ true → ok (c, n) ≡ whole_of row bs → ok (0, n) ≡ size_from 0 (place_read i t bs)
+  unfolding plain_read ◌>>=◌
+  there_size c n e h = rw (e, ← h) (ap (λ m. ok (0, m)) (let z : n ≡ 0 + n = omega arith in z))
 
-  pub there-refused : {t : Bool} (n p : ℕ) → t ≡ true → refused n p ≡ wholeOf row bs → refused n 0 ≡ sizeFrom 0 (placeRead i t bs)
-  unfolding plainRead ◌>>=◌
-  there-refused n p e h = rw (e, ← h)
+  pub there_refused : {t : Bool} (n p : ℕ) → t ≡ true → refused n p ≡ whole_of row bs → refused n 0 ≡ size_from 0 (place_read i t bs)
+  unfolding plain_read ◌>>=◌
+  there_refused n p e h = rw (e, ← h)
 
 -- what is read lies in what is there
-plain-within : (sub : Bool) (l : LayoutRow) (bs : List ℕ) (x : Told) → ((s : Shaped) → wholeOf l bs ≡ ok s → s.1 ≤ length bs) → plainRead sub l bs ≡ ok x → x.1 ≤ length bs
-unfolding plainRead
-plain-within sub l bs x h e = bind-elim _ _ e λ s p q. subst (λ (y : Told). y.1 ≤ length bs) (ok-inj q) (h s p)
+plain_within : (sub : Bool) (l : LayoutRow) (bs : List ℕ) (x : Told) → ((s : Shaped) → whole_of l bs ≡ ok s → s.1 ≤ length bs) → plain_read sub l bs ≡ ok x → x.1 ≤ length bs
+unfolding plain_read
+plain_within sub l bs x h e = bind_elim _ _ e λ s p q. subst (λ (y : Told). y.1 ≤ length bs) (ok_inj q) (h s p)
 
-pub row_fits : (i : ℕ) (bs : List ℕ) (s : Shaped) → Octets bs → wholeOf (layoutAt (subfieldAt i)) bs ≡ ok s → Fitting (layoutAt (subfieldAt i)) bs s.0 s.1
-row_fits i bs s o h = fitting (layoutAt (subfieldAt i)) bs s (layout-sound (subfieldAt i) (subfield-row i)) o (whole-shape (layoutAt (subfieldAt i)) bs s h)
+pub row_fits : (i : ℕ) (bs : List ℕ) (s : Shaped) → Octets bs → whole_of (layout_at (subfield_at i)) bs ≡ ok s → Fitting (layout_at (subfield_at i)) bs s.0 s.1
+row_fits i bs s o h = fitting (layout_at (subfield_at i)) bs s (layout_sound (subfield_at i) (subfield_row i)) o (whole_shape (layout_at (subfield_at i)) bs s h)
 
-pub place-within : (i : ℕ) (t : Bool) (bs : List ℕ) (x : Told) → Octets bs → placeRead i t bs ≡ ok x → x.1 ≤ length bs
-place-within i true bs x o h = plain-within true (layoutAt (subfieldAt i)) bs x (λ s p. (row_fits i bs s o p).there) h
-place-within i false bs x o h = subst (λ (y : Told). y.1 ≤ length bs) (ok-inj h) (omega arith)
+pub place_within : (i : ℕ) (t : Bool) (bs : List ℕ) (x : Told) → Octets bs → place_read i t bs ≡ ok x → x.1 ≤ length bs
+place_within i true bs x o h = plain_within true (layout_at (subfield_at i)) bs x (λ s p. (row_fits i bs s o p).there) h
+place_within i false bs x o h = subst (λ (y : Told). y.1 ≤ length bs) (ok_inj h) (omega arith)
 
 -- ---- a turn
 
 module _ (i : ℕ) (t : Bool) (ts : List Bool) (bs : List ℕ) where
-  pub turn-refused : (k n p : ℕ) → refused n p ≡ sizeFrom 0 (placeRead i t bs) → refused n p ≡ sizeFrom k (subfieldsRead i (t ∷ ts) bs)
-  unfolding subfieldsRead
-  turn-refused k n p h = go (placeRead i t bs) refl h
+  pub turn_refused : (k n p : ℕ) → refused n p ≡ size_from 0 (place_read i t bs) → refused n p ≡ size_from k (subfields_read i (t ∷ ts) bs)
+  unfolding subfields_read
+  turn_refused k n p h = go (place_read i t bs) refl h
     where
-      go : (m : Answer Told) → placeRead i t bs ≡ m → refused n p ≡ sizeFrom 0 m → refused n p ≡ sizeFrom k (subfieldsRead i (t ∷ ts) bs)
-      go (ok x) e q = refused-ok q
-      go (refused a b) e q = q ∙ sym (ap (sizeFrom k) (bind-out _ e))
+      go : (m : Answer Told) → place_read i t bs ≡ m → refused n p ≡ size_from 0 m → refused n p ≡ size_from k (subfields_read i (t ∷ ts) bs)
+      go (ok x) e q = refused_ok q
+      go (refused a b) e q = q ∙ sym (ap (size_from k) (bind_out _ e))
 
   -- one that is read, then the others
-  pub turn-read : (x : Told) (k : ℕ) → placeRead i t bs ≡ ok x → sizeFrom k (subfieldsRead i (t ∷ ts) bs) ≡ sizeFrom (k + x.1) (subfieldsRead (i + 1) ts (drop x.1 bs))
-  unfolding subfieldsRead ◌>>=◌
-  turn-read x k e = ap (sizeFrom k) (bind-in _ e refl) ∙ go (subfieldsRead (i + 1) ts (drop x.1 bs))
+  pub turn_read : (x : Told) (k : ℕ) → place_read i t bs ≡ ok x → size_from k (subfields_read i (t ∷ ts) bs) ≡ size_from (k + x.1) (subfields_read (i + 1) ts (drop x.1 bs))
+  unfolding subfields_read ◌>>=◌
+  turn_read x k e = ap (size_from k) (bind_in _ e refl) ∙ go (subfields_read (i + 1) ts (drop x.1 bs))
     where
-      go : (m : Answer Told) → sizeFrom k (m >>= (λ y. ok (x.0 ++ y.0, x.1 + y.1))) ≡ sizeFrom (k + x.1) m
+      go : (m : Answer Told) → size_from k (m >>= (λ y. ok (x.0 ++ y.0, x.1 + y.1))) ≡ size_from (k + x.1) m
       go (ok y) = ap (λ n. ok (0, n)) (omega arith)
       go (refused n p) = refl
 
-  turn-size : (c n k : ℕ) → ok (c, n) ≡ sizeFrom 0 (placeRead i t bs) → Octets bs
-      → (n ≤ length bs) × (sizeFrom k (subfieldsRead i (t ∷ ts) bs) ≡ sizeFrom (k + n) (subfieldsRead (i + 1) ts (drop n bs)))
-  turn-size c n k h o = go (placeRead i t bs) refl h
+  turn_size : (c n k : ℕ) → ok (c, n) ≡ size_from 0 (place_read i t bs) → Octets bs
+      → (n ≤ length bs) × (size_from k (subfields_read i (t ∷ ts) bs) ≡ size_from (k + n) (subfields_read (i + 1) ts (drop n bs)))
+  turn_size c n k h o = go (place_read i t bs) refl h
     where
-      go : (m : Answer Told) → placeRead i t bs ≡ m → ok (c, n) ≡ sizeFrom 0 m
-          → (n ≤ length bs) × (sizeFrom k (subfieldsRead i (t ∷ ts) bs) ≡ sizeFrom (k + n) (subfieldsRead (i + 1) ts (drop n bs)))
+      go : (m : Answer Told) → place_read i t bs ≡ m → ok (c, n) ≡ size_from 0 m
+          → (n ≤ length bs) × (size_from k (subfields_read i (t ∷ ts) bs) ≡ size_from (k + n) (subfields_read (i + 1) ts (drop n bs)))
       go (ok x) e q =
-          let d : ◌≡◌ {A = Shaped} (c, n) (0, 0 + x.1) = ok-inj q in
+          let d : ◌≡◌ {A = Shaped} (c, n) (0, 0 + x.1) = ok_inj q in
           let z : n ≡ x.1 = ap (λ s. s.1) d ∙ omega arith in
-          subst (λ m. (m ≤ length bs) × (sizeFrom k (subfieldsRead i (t ∷ ts) bs) ≡ sizeFrom (k + m) (subfieldsRead (i + 1) ts (drop m bs)))) (sym z)
-          (place-within i t bs x o e, turn-read x k e)
-      go (refused a b) e q = refused-ok (sym q)
+          subst (λ m. (m ≤ length bs) × (size_from k (subfields_read i (t ∷ ts) bs) ≡ size_from (k + m) (subfields_read (i + 1) ts (drop m bs)))) (sym z)
+          (place_within i t bs x o e, turn_read x k e)
+      go (refused a b) e q = refused_ok (sym q)
 
 -- ---- the loop over the check
 
@@ -100,125 +100,125 @@ pub record Walking (first places bits : ℕ) (s : List ℕ) (i more left at : �
   pub place : i + more ≡ first + places
   pub few : left < 2 ^ more
   pub there : at ≤ length s
-  pub same : sizeFrom at (subfieldsRead i (flags more left) (drop at s)) ≡ sizeFrom 0 (subfieldsRead first (flags places bits) s)
+  pub same : size_from at (subfields_read i (flags more left) (drop at s)) ≡ size_from 0 (subfields_read first (flags places bits) s)
 
-pub walk-begun : (first places bits : ℕ) (s : List ℕ) → bits < 2 ^ places → Walking first places bits s first places bits 0
-walk-begun first places bits s h = record { from = le_refl first; place = refl; few = h; there = omega arith; same = refl }
+pub walk_begun : (first places bits : ℕ) (s : List ℕ) → bits < 2 ^ places → Walking first places bits s first places bits 0
+walk_begun first places bits s h = record { from = le_refl first; place = refl; few = h; there = omega arith; same = refl }
 
 -- the first flag, and the others
-pub flags-cons : (more left : ℕ) → 0 < more → flags more left ≡ leb (2 ^ (more - 1)) left ∷ flags (more - 1) (left % 2 ^ (more - 1))
+pub flags_cons : (more left : ℕ) → 0 < more → flags more left ≡ leb (2 ^ (more - 1)) left ∷ flags (more - 1) (left % 2 ^ (more - 1))
 unfolding flags
-flags-cons zero left h = absurd (not-suc-le-zero h)
-flags-cons (suc k) left h = let e : suc k - 1 ≡ k = omega arith in rw e
+flags_cons zero left h = absurd (not-suc-le-zero h)
+flags_cons (suc k) left h = let e : suc k - 1 ≡ k = omega arith in rw e
 
 module _ (first places bits : ℕ) (s : List ℕ) (i more left at : ℕ) (w : Walking first places bits s i more left at) (h : 0 < more) {weight : ℕ} (ew : weight ≡ 2 ^ (more - 1)) where
-  here : sizeFrom at (subfieldsRead i (leb weight left ∷ flags (more - 1) (left % weight)) (drop at s)) ≡ sizeFrom 0 (subfieldsRead first (flags places bits) s)
-  here = ap (λ x. sizeFrom at (subfieldsRead i (leb x left ∷ flags (more - 1) (left % x)) (drop at s))) ew ∙ ap (λ ts. sizeFrom at (subfieldsRead i ts (drop at s))) (sym (flags-cons more left h)) ∙ w.same
+  here : size_from at (subfields_read i (leb weight left ∷ flags (more - 1) (left % weight)) (drop at s)) ≡ size_from 0 (subfields_read first (flags places bits) s)
+  here = ap (λ x. size_from at (subfields_read i (leb x left ∷ flags (more - 1) (left % x)) (drop at s))) ew ∙ ap (λ ts. size_from at (subfields_read i ts (drop at s))) (sym (flags_cons more left h)) ∙ w.same
 
-  pub walk_refused : (n p : ℕ) → refused n p ≡ sizeFrom 0 (placeRead i (leb weight left) (take (length s - at) (drop at s)))
-      → refused n p ≡ sizeFrom 0 (subfieldsRead first (flags places bits) s)
+  pub walk_refused : (n p : ℕ) → refused n p ≡ size_from 0 (place_read i (leb weight left) (take (length s - at) (drop at s)))
+      → refused n p ≡ size_from 0 (subfields_read first (flags places bits) s)
   walk_refused n p e =
-      turn-refused i (leb weight left) (flags (more - 1) (left % weight)) (drop at s) at n p (e ∙ ap (λ bs. sizeFrom 0 (placeRead i (leb weight left) bs)) (to_end s at)) ∙ here
+      turn_refused i (leb weight left) (flags (more - 1) (left % weight)) (drop at s) at n p (e ∙ ap (λ bs. size_from 0 (place_read i (leb weight left) bs)) (to_end s at)) ∙ here
 
-  module _ (c n : ℕ) (o : Octets s) (e : ok (c, n) ≡ sizeFrom 0 (placeRead i (leb weight left) (take (length s - at) (drop at s)))) where
-    turn : (n ≤ length (drop at s)) × (sizeFrom at (subfieldsRead i (leb weight left ∷ flags (more - 1) (left % weight)) (drop at s)) ≡ sizeFrom (at + n) (subfieldsRead (i + 1) (flags (more - 1) (left % weight)) (drop n (drop at s))))
-    turn = turn-size i (leb weight left) (flags (more - 1) (left % weight)) (drop at s) c n at (e ∙ ap (λ bs. sizeFrom 0 (placeRead i (leb weight left) bs)) (to_end s at)) (octets-drop at s o)
+  module _ (c n : ℕ) (o : Octets s) (e : ok (c, n) ≡ size_from 0 (place_read i (leb weight left) (take (length s - at) (drop at s)))) where
+    turn : (n ≤ length (drop at s)) × (size_from at (subfields_read i (leb weight left ∷ flags (more - 1) (left % weight)) (drop at s)) ≡ size_from (at + n) (subfields_read (i + 1) (flags (more - 1) (left % weight)) (drop n (drop at s))))
+    turn = turn_size i (leb weight left) (flags (more - 1) (left % weight)) (drop at s) c n at (e ∙ ap (λ bs. size_from 0 (place_read i (leb weight left) bs)) (to_end s at)) (octets_drop at s o)
 
-    pub walk-fits : at + n ≤ length s
-    walk-fits = omega (arith, turn.0, length-drop at s, w.there)
+    pub walk_fits : at + n ≤ length s
+    walk_fits = omega (arith, turn.0, length-drop at s, w.there)
 
-    pub walk-turned : Walking first places bits s (i + 1) (more - 1) (left % weight) (at + n)
-    walk-turned = record {
+    pub walk_turned : Walking first places bits s (i + 1) (more - 1) (left % weight) (at + n)
+    walk_turned = record {
       from = omega (arith, w.from);
       place = omega (arith, w.place);
       few = subst (λ x. left % weight < x) ew (mod-lt left (subst (λ x. 0 < x) (sym ew) (pow_pos (more - 1))));
-      there = walk-fits;
-      same = ap (λ bs. sizeFrom (at + n) (subfieldsRead (i + 1) (flags (more - 1) (left % weight)) bs)) (sym (drop-drop n at s)) ∙ sym turn.1 ∙ here;
+      there = walk_fits;
+      same = ap (λ bs. size_from (at + n) (subfields_read (i + 1) (flags (more - 1) (left % weight)) bs)) (sym (drop-drop n at s)) ∙ sym turn.1 ∙ here;
     }
 
-pub walk-ended : (first places bits : ℕ) (s : List ℕ) (i more left at : ℕ) → Walking first places bits s i more left at → more ≤ 0
-    → ok (0, at) ≡ sizeFrom 0 (subfieldsRead first (flags places bits) s)
-unfolding subfieldsRead flags
-walk-ended first places bits s i more left at w h =
+pub walk_ended : (first places bits : ℕ) (s : List ℕ) (i more left at : ℕ) → Walking first places bits s i more left at → more ≤ 0
+    → ok (0, at) ≡ size_from 0 (subfields_read first (flags places bits) s)
+unfolding subfields_read flags
+walk_ended first places bits s i more left at w h =
     let z : more ≡ 0 = omega arith in
-    ap (λ n. ok (0, n)) (let e : at ≡ at + 0 = omega arith in e) ∙ sym (ap (λ k. sizeFrom at (subfieldsRead i (flags k left) (drop at s))) z) ∙ w.same
+    ap (λ n. ok (0, n)) (let e : at ≡ at + 0 = omega arith in e) ∙ sym (ap (λ k. size_from at (subfields_read i (flags k left) (drop at s))) z) ∙ w.same
 
 -- ---- a compound item
 
-subfields-within : (i : ℕ) (ts : List Bool) (bs : List ℕ) (x : Told) → Octets bs → subfieldsRead i ts bs ≡ ok x → x.1 ≤ length bs
-unfolding subfieldsRead
-subfields-within i [] bs x o h = subst (λ (y : Told). y.1 ≤ length bs) (ok-inj h) (omega arith)
-subfields-within i (t ∷ ts) bs x o h =
-    bind-elim _ _ h λ y p h₁.
-    bind-elim _ _ h₁ λ z q h₂.
-    let a : y.1 ≤ length bs = place-within i t bs y o p in
-    let b : z.1 ≤ length (drop y.1 bs) = subfields-within (i + 1) ts (drop y.1 bs) z (octets-drop y.1 bs o) q in
-    subst (λ (w : Told). w.1 ≤ length bs) (ok-inj h₂) (omega (arith, length-drop y.1 bs))
+subfields_within : (i : ℕ) (ts : List Bool) (bs : List ℕ) (x : Told) → Octets bs → subfields_read i ts bs ≡ ok x → x.1 ≤ length bs
+unfolding subfields_read
+subfields_within i [] bs x o h = subst (λ (y : Told). y.1 ≤ length bs) (ok_inj h) (omega arith)
+subfields_within i (t ∷ ts) bs x o h =
+    bind_elim _ _ h λ y p h₁.
+    bind_elim _ _ h₁ λ z q h₂.
+    let a : y.1 ≤ length bs = place_within i t bs y o p in
+    let b : z.1 ≤ length (drop y.1 bs) = subfields_within (i + 1) ts (drop y.1 bs) z (octets_drop y.1 bs o) q in
+    subst (λ (w : Told). w.1 ≤ length bs) (ok_inj h₂) (omega (arith, length-drop y.1 bs))
 
 -- there is a row for each of its bits
-pub rows_in : (first end : ℕ) → first ≤ end → end ≤ primaryCount → 7 * first + 7 * (end - first) ≤ subfieldCount
-rows_in first end h k = omega (arith, subfields-long)
+pub rows_in : (first end : ℕ) → first ≤ end → end ≤ primary_count → 7 * first + 7 * (end - first) ≤ subfield_count
+rows_in first end h k = omega (arith, subfields_long)
 
 module _ (l : LayoutRow) (bs : List ℕ) where
-  pub compound-refused : (n p : ℕ) → refused n p ≡ primary l.first (printed l) bs → refused n 0 ≡ sizeFrom 0 (compoundRead l bs)
-  unfolding compoundRead
-  compound-refused n p e = sym (ap (sizeFrom 0) (bind-out _ (sym e)))
+  pub compound_refused : (n p : ℕ) → refused n p ≡ primary l.first (printed l) bs → refused n 0 ≡ size_from 0 (compound_read l bs)
+  unfolding compound_read
+  compound_refused n p e = sym (ap (size_from 0) (bind_out _ (sym e)))
 
   module _ (b k : ℕ) (e : ok (b, k) ≡ primary l.first (printed l) bs) where
     abbrev named : Answer Told
-    named = subfieldsRead (7 * l.first) (flags (7 * printed l) b) (drop k bs)
+    named = subfields_read (7 * l.first) (flags (7 * printed l) b) (drop k bs)
 
-    pub primary-there : k ≤ length bs
-    primary-there = primary-within l.first (printed l) bs b k (sym e)
+    pub primary_there : k ≤ length bs
+    primary_there = primary_within l.first (printed l) bs b k (sym e)
 
-    compound-is : compoundRead l bs ≡ (at_start named >>= (λ x. ok (x.0, k + x.1)))
-    unfolding compoundRead
-    compound-is = bind-in _ (sym e) refl
+    compound_is : compound_read l bs ≡ (at_start named >>= (λ x. ok (x.0, k + x.1)))
+    unfolding compound_read
+    compound_is = bind_in _ (sym e) refl
 
-    by : (m : Answer Told) → sizeFrom 0 (at_start m >>= (λ x. ok (x.0, k + x.1))) ≡ sizeFrom k m
+    by : (m : Answer Told) → size_from 0 (at_start m >>= (λ x. ok (x.0, k + x.1))) ≡ size_from k m
     unfolding at_start ◌>>=◌
     by (ok x) = ap (λ n. ok (0, n)) (let z : 0 + (k + x.1) ≡ k + x.1 = omega arith in z)
     by (refused n p) = refl
 
-    given : {m : Answer Shaped} → m ≡ sizeFrom 0 (subfieldsRead (7 * l.first) (flags (7 * printed l) b) (take (length bs - k) (drop k bs))) → m ≡ sizeFrom 0 named
-    given h = h ∙ ap (λ us. sizeFrom 0 (subfieldsRead (7 * l.first) (flags (7 * printed l) b) us)) (to_end bs k)
+    given : {m : Answer Shaped} → m ≡ size_from 0 (subfields_read (7 * l.first) (flags (7 * printed l) b) (take (length bs - k) (drop k bs))) → m ≡ size_from 0 named
+    given h = h ∙ ap (λ us. size_from 0 (subfields_read (7 * l.first) (flags (7 * printed l) b) us)) (to_end bs k)
 
-    pub compound-stopped : (n p : ℕ) → refused n p ≡ sizeFrom 0 (subfieldsRead (7 * l.first) (flags (7 * printed l) b) (take (length bs - k) (drop k bs)))
-        → refused n p ≡ sizeFrom 0 (compoundRead l bs)
-    compound-stopped n p h = go named (given h) ∙ sym (ap (sizeFrom 0) compound-is ∙ by named)
+    pub compound_stopped : (n p : ℕ) → refused n p ≡ size_from 0 (subfields_read (7 * l.first) (flags (7 * printed l) b) (take (length bs - k) (drop k bs)))
+        → refused n p ≡ size_from 0 (compound_read l bs)
+    compound_stopped n p h = go named (given h) ∙ sym (ap (size_from 0) compound_is ∙ by named)
       where
-        go : (m : Answer Told) → refused n p ≡ sizeFrom 0 m → refused n p ≡ sizeFrom k m
-        go (ok x) q = refused-ok q
+        go : (m : Answer Told) → refused n p ≡ size_from 0 m → refused n p ≡ size_from k m
+        go (ok x) q = refused_ok q
         go (refused a c) q = q
 
-    pub compound-size : (c n : ℕ) → Octets bs → ok (c, n) ≡ sizeFrom 0 (subfieldsRead (7 * l.first) (flags (7 * printed l) b) (take (length bs - k) (drop k bs)))
-        → (k + n ≤ length bs) × (ok (0, k + n) ≡ sizeFrom 0 (compoundRead l bs))
-    compound-size c n o h = go named refl (given h)
+    pub compound_size : (c n : ℕ) → Octets bs → ok (c, n) ≡ size_from 0 (subfields_read (7 * l.first) (flags (7 * printed l) b) (take (length bs - k) (drop k bs)))
+        → (k + n ≤ length bs) × (ok (0, k + n) ≡ size_from 0 (compound_read l bs))
+    compound_size c n o h = go named refl (given h)
       where
-        go : (m : Answer Told) → named ≡ m → ok (c, n) ≡ sizeFrom 0 m → (k + n ≤ length bs) × (ok (0, k + n) ≡ sizeFrom 0 (compoundRead l bs))
+        go : (m : Answer Told) → named ≡ m → ok (c, n) ≡ size_from 0 m → (k + n ≤ length bs) × (ok (0, k + n) ≡ size_from 0 (compound_read l bs))
         go (ok x) f q =
-            let d : ◌≡◌ {A = Shaped} (c, n) (0, 0 + x.1) = ok-inj q in
+            let d : ◌≡◌ {A = Shaped} (c, n) (0, 0 + x.1) = ok_inj q in
             let z : n ≡ x.1 = ap (λ s. s.1) d ∙ omega arith in
-            let a : x.1 ≤ length (drop k bs) = subfields-within (7 * l.first) (flags (7 * printed l) b) (drop k bs) x (octets-drop k bs o) f in
-            (omega (arith, length-drop k bs, primary-there), ap (λ m. ok (0, k + m)) z ∙ sym (ap (sizeFrom 0) compound-is ∙ by named ∙ ap (sizeFrom k) f))
-        go (refused a b') f q = refused-ok (sym q)
+            let a : x.1 ≤ length (drop k bs) = subfields_within (7 * l.first) (flags (7 * printed l) b) (drop k bs) x (octets_drop k bs o) f in
+            (omega (arith, length-drop k bs, primary_there), ap (λ m. ok (0, k + m)) z ∙ sym (ap (size_from 0) compound_is ∙ by named ∙ ap (size_from k) f))
+        go (refused a b') f q = refused_ok (sym q)
 
 -- ---- sound rows
 
 pub record Compounded (l : LayoutRow) : Type 0 where
   pub order : l.first ≤ l.end
-  pub inside : l.end ≤ primaryCount
+  pub inside : l.end ≤ primary_count
   pub few : printed l ≤ 2
-  pub room : mostIn (7 * l.first) (7 * printed l) ≤ 8_192
+  pub room : most_in (7 * l.first) (7 * printed l) ≤ 8_192
 
-pub compounded : (l : LayoutRow) → itemSound l ≡ true → l.kind ≡ 5 → Compounded l
-unfolding itemSound
+pub compounded : (l : LayoutRow) → item_sound l ≡ true → l.kind ≡ 5 → Compounded l
+unfolding item_sound
 compounded l s k =
     let a = leb l.first l.end in
-    let b = leb l.end primaryCount in
+    let b = leb l.end primary_count in
     let c = leb (printed l) 2 in
-    let d = leb (mostIn (7 * l.first) (7 * printed l)) 8_192 in
-    let t : a && b && c && d ≡ true = sym (ap (λ x. cond x (a && b && c && d) (leb (mostFields l) 8_192)) (eq-eqb l.kind 5 k)) ∙ s in
+    let d = leb (most_in (7 * l.first) (7 * printed l)) 8_192 in
+    let t : a && b && c && d ≡ true = sym (ap (λ x. cond x (a && b && c && d) (leb (most_fields l) 8_192)) (eq-eqb l.kind 5 k)) ∙ s in
     let u : a && b && c ≡ true = both_left (a && b && c) d t in
     let v : a && b ≡ true = both_left (a && b) c u in
     record {
@@ -228,15 +228,15 @@ compounded l s k =
       room = leb-true _ _ (both_right (a && b && c) d t);
     }
 
-pub plain-room : (l : LayoutRow) → itemSound l ≡ true → ¬ (l.kind ≡ 5) → mostFields l ≤ 8_192
-unfolding itemSound
-plain-room l s k = leb-true _ _ (sym (ap (λ x. cond x (leb l.first l.end && leb l.end primaryCount && leb (printed l) 2 && leb (mostIn (7 * l.first) (7 * printed l)) 8_192) (leb (mostFields l) 8_192)) (ne_eqb l.kind 5 k)) ∙ s)
+pub plain_room : (l : LayoutRow) → item_sound l ≡ true → ¬ (l.kind ≡ 5) → most_fields l ≤ 8_192
+unfolding item_sound
+plain_room l s k = leb-true _ _ (sym (ap (λ x. cond x (leb l.first l.end && leb l.end primary_count && leb (printed l) 2 && leb (most_in (7 * l.first) (7 * printed l)) 8_192) (leb (most_fields l) 8_192)) (ne_eqb l.kind 5 k)) ∙ s)
 
 module _ (l : LayoutRow) (bs : List ℕ) {m : Answer Shaped} where
-  pub shape-compound : l.kind ≡ 5 → m ≡ sizeFrom 0 (compoundRead l bs) → m ≡ shaped l bs
+  pub shape_compound : l.kind ≡ 5 → m ≡ size_from 0 (compound_read l bs) → m ≡ shaped l bs
   unfolding shaped
-  shape-compound k e = e ∙ sym (if-true _ (eq-eqb l.kind 5 k) refl)
+  shape_compound k e = e ∙ sym (if_true _ (eq-eqb l.kind 5 k) refl)
 
-  pub shape-plain : ¬ (l.kind ≡ 5) → m ≡ wholeOf l bs → m ≡ shaped l bs
+  pub shape_plain : ¬ (l.kind ≡ 5) → m ≡ whole_of l bs → m ≡ shaped l bs
   unfolding shaped
-  shape-plain k e = e ∙ sym (if-false _ (ne_eqb l.kind 5 k) refl)
+  shape_plain k e = e ∙ sym (if_false _ (ne_eqb l.kind 5 k) refl)

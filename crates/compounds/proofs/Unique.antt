@@ -6,17 +6,17 @@ use lib.IntN.{ℤ}
 use Rattle.rules.specs.Answer.{Answer, ok, refused}
 use Rattle.tables.specs.declared.tables.LayoutRow.{LayoutRow}
 use Rattle.layouts.specs.declared.parts.Shape.{Shape}
-use Rattle.layouts.specs.Read.{shapeIs}
-use Rattle.layouts.proofs.Unique.{shape-told}
-use Rattle.compounds.specs.Compound.{Told, itemRead, shaped, KeptAll}
+use Rattle.layouts.specs.Read.{shape_is}
+use Rattle.layouts.proofs.Unique.{shape_told}
+use Rattle.compounds.specs.Compound.{Told, item_read, shaped, KeptAll}
 
-pub one-item-of : (l : LayoutRow) (s : List ℕ) (a b : Shape) → shapeIs a ≡ shaped l s → shapeIs b ≡ shaped l s → a ≡ b
-one-item-of l s a b p q = shape-told a b (p ∙ sym q)
+pub one_item_of : (l : LayoutRow) (s : List ℕ) (a b : Shape) → shape_is a ≡ shaped l s → shape_is b ≡ shaped l s → a ≡ b
+one_item_of l s a b p q = shape_told a b (p ∙ sym q)
 
 -- the answer, and what the output then holds
-pub one-item-fields : (l : LayoutRow) (s : List ℕ) (parts : ℕ) (out : List ℤ) (a b : ℕ) (left right : List ℤ)
-    → KeptAll (itemRead l s) a out left → KeptAll (itemRead l s) b out right → (a ≡ b) × (left ≡ right)
-one-item-fields l s parts out a b left right p q = go (itemRead l s) p q
+pub one_item_fields : (l : LayoutRow) (s : List ℕ) (parts : ℕ) (out : List ℤ) (a b : ℕ) (left right : List ℤ)
+    → KeptAll (item_read l s) a out left → KeptAll (item_read l s) b out right → (a ≡ b) × (left ≡ right)
+one_item_fields l s parts out a b left right p q = go (item_read l s) p q
   where
     go : (m : Answer Told) → KeptAll m a out left → KeptAll m b out right → (a ≡ b) × (left ≡ right)
     go (ok x) h k = (h.0 ∙ sym k.0, h.1 ∙ sym k.1)

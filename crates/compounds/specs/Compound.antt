@@ -1,5 +1,5 @@
 -- An item read as the code reads it, by its row of the tables: how many octets it takes, and its fields as one list of numbers. A compound item (document
--- 02, W-205) is its primary octets, then the subfields that they name. `proofs/ItemLaws` has that this is the rules' `readFields`. Assumes nothing.
+-- 02, W-205) is its primary octets, then the subfields that they name. `proofs/ItemLaws` has that this is the rules' `read_fields`. Assumes nothing.
 --
 -- In order: primary octets; the fields of parts; subfields; an item; its shape; its fields in an output; room for them.
 use Rattle.std.specs.Prelude.{ℕ, zero, suc, ◌+◌, ◌-◌, ◌*◌, ◌/◌, ◌%◌, ◌^◌, ◌<◌, ◌≤◌, ◌≡◌, Bool, true, false, cond, ◌&&◌, List, [], ◌∷◌, ◌++◌, leb, ltb, eqb, ℤ, pos, length, drop, replicate}
@@ -9,10 +9,10 @@ use Rattle.rules.specs.Answer.{Answer, ok, refused, ◌>>=◌, need◌or◌then�
 use Rattle.rules.specs.Chain.{flatten}
 use Rattle.rules.specs.Presence.{flags}
 use Rattle.rules.specs.Layout.{at_start}
-use Rattle.rules.specs.FieldList.{absentField}
+use Rattle.rules.specs.FieldList.{absent_field}
 use Rattle.tables.specs.declared.tables.LayoutRow.{LayoutRow}
-use Rattle.tables.specs.Tables.{primaryCount, primaryAt, subfieldAt, layoutAt}
-use Rattle.layouts.specs.Read.{Shaped, holds, partValues, head_of, step_of, wholeOf}
+use Rattle.tables.specs.Tables.{primary_count, primary_at, subfield_at, layout_at}
+use Rattle.layouts.specs.Read.{Shaped, holds, part_values, head_of, step_of, whole_of}
 use Rattle.compounds.specs.declared.fields.Stored.{Stored}
 use Rattle.compounds.specs.declared.primary.Primary.{Primary}
 use Rattle.compounds.specs.declared.primary.Primary.TheVariants.{Octets, Refused}
@@ -22,21 +22,21 @@ use Rattle.compounds.specs.declared.primary.Primary.TheVariants.{Octets, Refused
 abbrev pub Bits : Type 0
 Bits = ℕ × ℕ
 
-abbrev pub primaryIs : Primary → Answer Bits
-primaryIs (Octets b k) = ok (b, k)
-primaryIs (Refused n) = refused n 0
+abbrev pub primary_is : Primary → Answer Bits
+primary_is (Octets b k) = ok (b, k)
+primary_is (Refused n) = refused n 0
 
 -- every bit of an octet, FX apart, has a subfield
 abbrev pub known : ℕ → ℕ → Bool
-known row n = eqb (bit_and n (primaryAt row / 2)) n
+known row n = eqb (bit_and n (primary_at row / 2)) n
 
 -- the last octet: 7 where it is 00, 8
 unfoldable pub last_of : ℕ → ℕ → ℕ → Answer Bits
 last_of row left x = need ltb 0 (x / 2) or 7 then need known row (x / 2) or 8 then ok (x / 2 * 2 ^ (7 * left), 1)
 
 -- one before others, of which so many are printed
-unfoldable pub beforeOf : ℕ → ℕ → ℕ → Answer Bits → Answer Bits
-beforeOf row left x after = do
+unfoldable pub before_of : ℕ → ℕ → ℕ → Answer Bits → Answer Bits
+before_of row left x after = do
   (b, k) ← after
   need known row (x / 2) or 8 then ok (x / 2 * 2 ^ (7 * left) + b, k + 1)
 
@@ -52,7 +52,7 @@ primary row (suc left) [] = refused 9 0
 primary row (suc left) (x ∷ bs) =
     if eqb (x % 2) 0
     then last_of row left x
-    else beforeOf row left x (primary (row + 1) left bs)
+    else before_of row left x (primary (row + 1) left bs)
 
 -- ---- the fields of parts
 
@@ -64,31 +64,31 @@ Told = List ℤ × ℕ
 abbrev pub count_of : Bool → ℕ → ℕ → List ℤ
 count_of sub kind c = cond (sub && eqb (head_of kind) 1) (pos c ∷ []) []
 
--- the parts' values, and one `absentField` for each printed part that is not there
-unfoldable pub partFields : Bool → LayoutRow → ℕ → List ℕ → List ℤ
-partFields sub l c bs =
+-- the parts' values, and one `absent_field` for each printed part that is not there
+unfoldable pub part_fields : Bool → LayoutRow → ℕ → List ℕ → List ℤ
+part_fields sub l c bs =
     count_of sub l.kind c
-    ++ (flatten (partValues (step_of l.kind) l.first c (drop (head_of l.kind) bs)) ++ replicate (step_of l.kind * (l.most - c)) absentField)
+    ++ (flatten (part_values (step_of l.kind) l.first c (drop (head_of l.kind) bs)) ++ replicate (step_of l.kind * (l.most - c)) absent_field)
 
 -- an item that is not compound, or a subfield
-unfoldable pub plainRead : Bool → LayoutRow → List ℕ → Answer Told
-plainRead sub l bs = wholeOf l bs >>= λ s. ok (partFields sub l s.0 bs, s.1)
+unfoldable pub plain_read : Bool → LayoutRow → List ℕ → Answer Told
+plain_read sub l bs = whole_of l bs >>= λ s. ok (part_fields sub l s.0 bs, s.1)
 
 -- ---- subfields: for each bit, the first one's place in the table given
 
 -- one that is not there is one number, a bit without a subfield none
-abbrev pub absentAt : ℕ → List ℤ
-absentAt i = cond (eqb (subfieldAt i) 0) [] (absentField ∷ [])
+abbrev pub absent_at : ℕ → List ℤ
+absent_at i = cond (eqb (subfield_at i) 0) [] (absent_field ∷ [])
 
-abbrev pub placeRead : ℕ → Bool → List ℕ → Answer Told
-placeRead i true bs = plainRead true (layoutAt (subfieldAt i)) bs
-placeRead i false bs = ok (absentAt i, 0)
+abbrev pub place_read : ℕ → Bool → List ℕ → Answer Told
+place_read i true bs = plain_read true (layout_at (subfield_at i)) bs
+place_read i false bs = ok (absent_at i, 0)
 
-unfoldable pub subfieldsRead : ℕ → List Bool → List ℕ → Answer Told
-subfieldsRead i [] bs = ok ([], 0)
-subfieldsRead i (t ∷ ts) bs = do
-  (v, n) ← placeRead i t bs
-  (vs, m) ← subfieldsRead (i + 1) ts (drop n bs)
+unfoldable pub subfields_read : ℕ → List Bool → List ℕ → Answer Told
+subfields_read i [] bs = ok ([], 0)
+subfields_read i (t ∷ ts) bs = do
+  (v, n) ← place_read i t bs
+  (vs, m) ← subfields_read (i + 1) ts (drop n bs)
   ok (v ++ vs, n + m)
 
 -- ---- an item
@@ -97,32 +97,32 @@ subfieldsRead i (t ∷ ts) bs = do
 abbrev pub printed : LayoutRow → ℕ
 printed l = l.end - l.first
 
-unfoldable pub compoundRead : LayoutRow → List ℕ → Answer Told
-compoundRead l bs = do
+unfoldable pub compound_read : LayoutRow → List ℕ → Answer Told
+compound_read l bs = do
   (b, k) ← primary l.first (printed l) bs
-  (vs, n) ← at_start (subfieldsRead (7 * l.first) (flags (7 * printed l) b) (drop k bs))
+  (vs, n) ← at_start (subfields_read (7 * l.first) (flags (7 * printed l) b) (drop k bs))
   ok (vs, k + n)
 
-unfoldable pub itemRead : LayoutRow → List ℕ → Answer Told
-itemRead l bs = if eqb l.kind 5 then compoundRead l bs else plainRead false l bs
+unfoldable pub item_read : LayoutRow → List ℕ → Answer Told
+item_read l bs = if eqb l.kind 5 then compound_read l bs else plain_read false l bs
 
 -- how many octets
-unfoldable pub itemSize : LayoutRow → List ℕ → Answer ℕ
-itemSize l bs = itemRead l bs >>= λ x. ok x.1
+unfoldable pub item_size : LayoutRow → List ℕ → Answer ℕ
+item_size l bs = item_read l bs >>= λ x. ok x.1
 
 -- ---- the same as shapes: how many parts, none of a compound item, and how many octets
 
 -- octets, from so many on; a refusal is at the item's start
-abbrev pub sizeFrom : ℕ → Answer Told → Answer Shaped
-sizeFrom k (ok x) = ok (0, k + x.1)
-sizeFrom k (refused n p) = refused n 0
+abbrev pub size_from : ℕ → Answer Told → Answer Shaped
+size_from k (ok x) = ok (0, k + x.1)
+size_from k (refused n p) = refused n 0
 
 unfoldable pub shaped : LayoutRow → List ℕ → Answer Shaped
-shaped l bs = if eqb l.kind 5 then sizeFrom 0 (compoundRead l bs) else wholeOf l bs
+shaped l bs = if eqb l.kind 5 then size_from 0 (compound_read l bs) else whole_of l bs
 
 -- so many parts were read
 abbrev pub Fits : LayoutRow → List ℕ → ℕ → Type 0
-Fits l bs c = (long : ℕ) × (wholeOf l bs ≡ ok (c, long))
+Fits l bs c = (long : ℕ) × (whole_of l bs ≡ ok (c, long))
 
 abbrev pub Checked : LayoutRow → List ℕ → ℕ → Type 0
 Checked l bs c = (long : ℕ) × (shaped l bs ≡ ok (c, long))
@@ -141,17 +141,17 @@ KeptAll (refused n p) r old new = (r ≡ 0) × (new ≡ old)
 -- ---- room for the fields
 
 -- the most numbers that an item which is not compound, or a subfield, is listed with
-abbrev pub mostFields : LayoutRow → ℕ
-mostFields l = suc (holds (step_of l.kind) l.first l.most + step_of l.kind * l.most)
+abbrev pub most_fields : LayoutRow → ℕ
+most_fields l = suc (holds (step_of l.kind) l.first l.most + step_of l.kind * l.most)
 
 -- and so many subfields, the first one's place given
-abbrev pub mostIn : ℕ → ℕ → ℕ
-mostIn i zero = 0
-mostIn i (suc n) = mostFields (layoutAt (subfieldAt i)) + mostIn (i + 1) n
+abbrev pub most_in : ℕ → ℕ → ℕ
+most_in i zero = 0
+most_in i (suc n) = most_fields (layout_at (subfield_at i)) + most_in (i + 1) n
 
 -- a row that the code can work with: the primary octets of a compound item are in the table, and there is room for what is listed
-unfoldable pub itemSound : LayoutRow → Bool
-itemSound l =
+unfoldable pub item_sound : LayoutRow → Bool
+item_sound l =
     cond (eqb l.kind 5)
-    (leb l.first l.end && leb l.end primaryCount && leb (printed l) 2 && leb (mostIn (7 * l.first) (7 * printed l)) 8_192)
-    (leb (mostFields l) 8_192)
+    (leb l.first l.end && leb l.end primary_count && leb (printed l) 2 && leb (most_in (7 * l.first) (7 * printed l)) 8_192)
+    (leb (most_fields l) 8_192)

@@ -4,10 +4,10 @@ ghost use Rattle.std.specs.Prelude.{◌≡◌, Bool, true, ◌+◌, ◌*◌, ◌
 ghost use Rattle.std.proofs.lemmas.List.Edits.{sets};
 ghost use Rattle.rules.proofs.AnswerLaws.{Passes};
 ghost use Rattle.rules.specs.Presence.{flags};
-ghost use Rattle.rules.specs.FieldList.{absentField};
-ghost use Rattle.tables.specs.Tables.{subfieldCount, subfieldAt, layoutAt};
-ghost use Rattle.layouts.specs.Read.{rowSound, head_of};
-ghost use Rattle.compounds.specs.Compound.{count_of, partFields, placeRead, subfieldsRead, itemRead, shaped, mostFields, mostIn, Fits, Checked, Kept, KeptAll, itemSound};
+ghost use Rattle.rules.specs.FieldList.{absent_field};
+ghost use Rattle.tables.specs.Tables.{subfield_count, subfield_at, layout_at};
+ghost use Rattle.layouts.specs.Read.{row_sound, head_of};
+ghost use Rattle.compounds.specs.Compound.{count_of, part_fields, place_read, subfields_read, item_read, shaped, most_fields, most_in, Fits, Checked, Kept, KeptAll, item_sound};
 
 use super::primary::{Primary, primary_of};
 use layouts::{Shape, item_store, whole_of};
@@ -45,7 +45,7 @@ fn count_store(sub: bool, kind: u8, parts: usize, out: &mut [i64; 8192], start: 
 // So many numbers that say absent, from a place of the output on; the place after them.
 fn absent_store(n: usize, out: &mut [i64; 8192], start: usize) -> usize
     requires { start + n ≤ 8_192 }
-    ensures { (result ≡ start + n) × (out.new ≡ sets out.old start (replicate n absentField)) }
+    ensures { (result ≡ start + n) × (out.new ≡ sets out.old start (replicate n absent_field)) }
 {
     let mut left = n;
     let mut at = start;
@@ -66,8 +66,8 @@ fn parts_fields(
     out: &mut [i64; 8192],
     start: usize,
 ) -> usize
-    requires { (rowSound l ≡ true) × Fits l s.now parts × (start + mostFields l ≤ 8_192) }
-    ensures { (result ≡ start + length (partFields sub l parts s.now)) × (out.new ≡ sets out.old start (partFields sub l parts s.now)) }
+    requires { (row_sound l ≡ true) × Fits l s.now parts × (start + most_fields l ≤ 8_192) }
+    ensures { (result ≡ start + length (part_fields sub l parts s.now)) × (out.new ≡ sets out.old start (part_fields sub l parts s.now)) }
 {
     let at = count_store(sub, l.kind, parts, out, start);
     let end = item_store(l, s, parts, out, at);
@@ -86,8 +86,8 @@ pub struct Stored {
 
 // What the bit at a place of the table lists: the fields of its subfield; where it is not there one number; none where the bit has no subfield.
 fn place_fields(place: usize, there: bool, s: &[u8], out: &mut [i64; 8192], start: usize) -> Stored
-    requires { (place < subfieldCount) × (start + mostFields (layoutAt (subfieldAt place)) ≤ 8_192) }
-    ensures { Kept (placeRead place there s.now) start result out.old out.new }
+    requires { (place < subfield_count) × (start + most_fields (layout_at (subfield_at place)) ≤ 8_192) }
+    ensures { Kept (place_read place there s.now) start result out.old out.new }
 {
     let row = subfield_at(place);
     if !there {
@@ -126,10 +126,10 @@ fn subfields_fields(
     s: &[u8],
     out: &mut [i64; 8192],
 ) -> usize
-    requires places_bound { (first + places ≤ subfieldCount) × (places ≤ 63) × (bits < 2 ^ places) }
-    requires places_bound_2 { mostIn first places ≤ 8_192 }
-    requires passes { Passes (subfieldsRead first (flags places bits) s.now) }
-    ensures { KeptAll (subfieldsRead first (flags places bits) s.now) result out.old out.new }
+    requires places_bound { (first + places ≤ subfield_count) × (places ≤ 63) × (bits < 2 ^ places) }
+    requires places_bound_2 { most_in first places ≤ 8_192 }
+    requires passes { Passes (subfields_read first (flags places bits) s.now) }
+    ensures { KeptAll (subfields_read first (flags places bits) s.now) result out.old out.new }
 {
     let mut i = first;
     let mut more = places;
@@ -150,8 +150,8 @@ fn subfields_fields(
 
 // The fields of an item that was checked, at the start of the output; how many they are. Of a compound item `parts` is not looked at.
 pub fn item_fields(l: LayoutRow, s: &[u8], parts: usize, out: &mut [i64; 8192]) -> usize
-    requires { (rowSound l ≡ true) × (itemSound l ≡ true) × Checked l s.now parts }
-    ensures { KeptAll (itemRead l s.now) result out.old out.new }
+    requires { (row_sound l ≡ true) × (item_sound l ≡ true) × Checked l s.now parts }
+    ensures { KeptAll (item_read l s.now) result out.old out.new }
 {
     if l.kind != COMPOUND {
         return parts_fields(false, l, s, parts, out, 0);

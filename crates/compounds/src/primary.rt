@@ -1,7 +1,7 @@
 // The primary octets of a compound item: an octet whose FX bit is set is followed by another.
 ghost use Rattle.std.specs.Prelude.{◌≡◌, ◌+◌, ◌*◌, ◌/◌, ◌^◌, ◌≤◌, ◌<◌};
-ghost use Rattle.tables.specs.Tables.{primaryCount};
-ghost use Rattle.compounds.specs.Compound.{Small, known, last_of, beforeOf, primary, primaryIs};
+ghost use Rattle.tables.specs.Tables.{primary_count};
+ghost use Rattle.compounds.specs.Compound.{Small, known, last_of, before_of, primary, primary_is};
 
 use numbers::wide;
 use tables::{pow2, primary_at};
@@ -17,7 +17,7 @@ pub enum Primary {
 
 // Whether every bit of an octet, FX apart, has a subfield.
 fn is_known(row: usize, x: u8) -> bool
-    requires { row < primaryCount }
+    requires { row < primary_count }
     ensures { result ≡ known row (x / 2) }
 {
     let bits = x / 2;
@@ -34,8 +34,8 @@ fn raised(x: u8, left: usize) -> u64
 
 // The last primary octet, before so many printed ones that are not there.
 fn last_of(row: usize, left: usize, x: u8) -> Primary
-    requires { (row < primaryCount) × (left ≤ 7) }
-    ensures { primaryIs result ≡ last_of row left x }
+    requires { (row < primary_count) × (left ≤ 7) }
+    ensures { primary_is result ≡ last_of row left x }
 {
     if x / 2 == 0 {
         return Primary::Refused { number: 7 };
@@ -51,8 +51,8 @@ fn last_of(row: usize, left: usize, x: u8) -> Primary
 
 // One that is not the last: what those after it say, its own bits before theirs.
 fn before(row: usize, left: usize, x: u8, after: Primary) -> Primary
-    requires { (row < primaryCount) × (left ≤ 7) × Small left (primaryIs after) }
-    ensures { primaryIs result ≡ beforeOf row left x (primaryIs after) }
+    requires { (row < primary_count) × (left ≤ 7) × Small left (primary_is after) }
+    ensures { primary_is result ≡ before_of row left x (primary_is after) }
 {
     let Primary::Octets { bits, count } = after else {
         return after;
@@ -69,8 +69,8 @@ fn before(row: usize, left: usize, x: u8, after: Primary) -> Primary
 // The primary octets at the start of a part, from a row of the table on, so many printed ones left: 9 where one is not there, 6 where FX asks for more than
 // are printed; then 7 where the last is 00, 8 where a bit is set that has no subfield.
 pub fn primary_of(row: usize, left: usize, s: &[u8]) -> Primary
-    requires { (row + left ≤ primaryCount) × (left ≤ 7) }
-    ensures { primaryIs result ≡ primary row left s.now }
+    requires { (row + left ≤ primary_count) × (left ≤ 7) }
+    ensures { primary_is result ≡ primary row left s.now }
 {
     if left == 0 {
         return Primary::Refused { number: 6 };

@@ -1,9 +1,9 @@
 // The check of an item of any layout: its shape, and of a compound item its primary octets and then its subfields, one after another.
 ghost use Rattle.std.specs.Prelude.{◌≡◌, Bool, true, ◌+◌, ◌*◌, ◌^◌, ◌≤◌, ◌<◌, length};
 ghost use Rattle.rules.specs.Presence.{flags};
-ghost use Rattle.tables.specs.Tables.{primaryCount, subfieldCount, subfieldAt, layoutAt};
-ghost use Rattle.layouts.specs.Read.{shapeIs, rowSound};
-ghost use Rattle.compounds.specs.Compound.{placeRead, subfieldsRead, printed, compoundRead, sizeFrom, shaped, itemSound};
+ghost use Rattle.tables.specs.Tables.{primary_count, subfield_count, subfield_at, layout_at};
+ghost use Rattle.layouts.specs.Read.{shape_is, row_sound};
+ghost use Rattle.compounds.specs.Compound.{place_read, subfields_read, printed, compound_read, size_from, shaped, item_sound};
 
 use super::primary::{Primary, primary_of};
 use layouts::{Shape, whole_of};
@@ -11,8 +11,8 @@ use tables::{COMPOUND, LayoutRow, layout_at, pow2, subfield_at};
 
 // The shape of the subfield of a bit, if it is there: no parts, and its octets. A refusal is at the item's start, wherever it is inside.
 fn place_of(place: usize, there: bool, s: &[u8]) -> Shape
-    requires { place < subfieldCount }
-    ensures { shapeIs result ≡ sizeFrom 0 (placeRead place there s.now) }
+    requires { place < subfield_count }
+    ensures { shape_is result ≡ size_from 0 (place_read place there s.now) }
 {
     if !there {
         return Shape::Parts { count: 0, long: 0 };
@@ -25,8 +25,8 @@ fn place_of(place: usize, there: bool, s: &[u8]) -> Shape
 
 // The shape of the subfields that so many bits name, the first of them at a place of the table: no parts, and their octets.
 fn subfields_of(first: usize, places: usize, bits: u64, s: &[u8]) -> Shape
-    requires { (first + places ≤ subfieldCount) × (places ≤ 63) × (bits < 2 ^ places) }
-    ensures { shapeIs result ≡ sizeFrom 0 (subfieldsRead first (flags places bits) s.now) }
+    requires { (first + places ≤ subfield_count) × (places ≤ 63) × (bits < 2 ^ places) }
+    ensures { shape_is result ≡ size_from 0 (subfields_read first (flags places bits) s.now) }
 {
     let mut i = first;
     let mut more = places;
@@ -48,8 +48,8 @@ fn subfields_of(first: usize, places: usize, bits: u64, s: &[u8]) -> Shape
 
 // The shape of a compound item: its primary octets, 9, 6, 7, 8; then its subfields.
 fn compound_of(l: LayoutRow, s: &[u8]) -> Shape
-    requires { (l.first ≤ l.end) × (l.end ≤ primaryCount) × (printed l ≤ 2) }
-    ensures { shapeIs result ≡ sizeFrom 0 (compoundRead l s.now) }
+    requires { (l.first ≤ l.end) × (l.end ≤ primary_count) × (printed l ≤ 2) }
+    ensures { shape_is result ≡ size_from 0 (compound_read l s.now) }
 {
     let first = l.first;
     let octets = l.end - first;
@@ -71,8 +71,8 @@ fn compound_of(l: LayoutRow, s: &[u8]) -> Shape
 // The shape of an item of any layout whose fields are legal: 21 where there is no item; 9, 10, 6, 11; of a compound item 9, 6, 7, 8, then the first
 // refusal of its subfields, at the item's start. A compound item has no parts of its own.
 pub fn item_of(l: LayoutRow, s: &[u8]) -> Shape
-    requires { (rowSound l ≡ true) × (itemSound l ≡ true) }
-    ensures { shapeIs result ≡ shaped l s.now }
+    requires { (row_sound l ≡ true) × (item_sound l ≡ true) }
+    ensures { shape_is result ≡ shaped l s.now }
 {
     if l.kind == COMPOUND {
         return compound_of(l, s);

@@ -2,12 +2,12 @@
 ghost use Rattle.std.specs.Prelude.{◌≡◌, true, ◌+◌, ◌≤◌, ◌<◌, length};
 ghost use Rattle.rules.specs.Answer.{refused};
 ghost use Rattle.rules.specs.Catalogue.{categories};
-ghost use Rattle.rules.specs.Entry.{findRecord, findItem};
-ghost use Rattle.sets.specs.Sets.{categoryAt};
-ghost use Rattle.quick_items.specs.Item.{soundSteps};
+ghost use Rattle.rules.specs.Entry.{find_record, find_item};
+ghost use Rattle.sets.specs.Sets.{category_at};
+ghost use Rattle.quick_items.specs.Item.{sound_steps};
 ghost use Rattle.blocks.specs.Read.{Records};
 ghost use Rattle.finding.specs.Part.{VeryPart};
-ghost use Rattle.finding.specs.Found.{seekAt, recordSpan, Located, itemPlaceOf, itemSpan, spanIn};
+ghost use Rattle.finding.specs.Found.{seek_at, record_span, Located, item_place_of, item_span, span_in};
 
 use blocks::{BlockChecked, HEAD, LEAST, open_block};
 use items::{FrnFound, ItemCheck};
@@ -54,8 +54,8 @@ fn record_lost(number: u8, place: usize) -> RecordLocated
 
 // The record with a number, counted from 0, among those that fill a part, which starts at a place of its block.
 fn seek_record(t: &Steps, profile: usize, part: &[u8], from: usize, n: usize) -> RecordLocated
-    requires { (from + length part.now < 65536) × Records (categoryAt profile) part.now × (soundSteps t.now ≡ true) }
-    ensures { Located result (seekAt (categoryAt profile) from part.now n) }
+    requires { (from + length part.now < 65536) × Records (category_at profile) part.now × (sound_steps t.now ≡ true) }
+    ensures { Located result (seek_at (category_at profile) from part.now n) }
 {
     let mut rest = part;
     let mut at = from;
@@ -86,8 +86,8 @@ fn seek_record(t: &Steps, profile: usize, part: &[u8], from: usize, n: usize) ->
 
 // The record with a number, by a table that is lent.
 fn locate_record_by(t: &Steps, block: &[u8], n: usize) -> RecordLocated
-    requires { soundSteps t.now ≡ true }
-    ensures { Located result (findRecord categories block.now n) }
+    requires { sound_steps t.now ≡ true }
+    ensures { Located result (find_record categories block.now n) }
 {
     let opened = open_block(t, block, LEAST);
     let checked = opened.checked;
@@ -99,7 +99,7 @@ fn locate_record_by(t: &Steps, block: &[u8], n: usize) -> RecordLocated
 
 // The same, with a table of its own: where it lies, and its map.
 pub fn locate_record(block: &[u8], n: usize) -> RecordLocated
-    ensures { Located result (findRecord categories block.now n) }
+    ensures { Located result (find_record categories block.now n) }
 {
     let t = steps();
     locate_record_by(&t, block, n)
@@ -107,7 +107,7 @@ pub fn locate_record(block: &[u8], n: usize) -> RecordLocated
 
 // Its bytes, as that very part of the block; on refusal the empty part at the block's start.
 pub fn find_record(block: &[u8], n: usize) -> &[u8]
-    ensures { VeryPart block.entry result (spanIn (recordSpan (findRecord categories block.now n))) }
+    ensures { VeryPart block.entry result (span_in (record_span (find_record categories block.now n))) }
 {
     let located = locate_record(block, n);
     let answer = located.answer;
@@ -126,8 +126,8 @@ pub enum ItemLocated {
 
 // The item with a reference, the number after its slash, in the record with a number, by a table that is lent.
 fn locate_item_by(t: &Steps, block: &[u8], reference: u16, n: usize) -> ItemLocated
-    requires { soundSteps t.now ≡ true }
-    ensures { itemPlaceOf result ≡ itemSpan (findItem categories block.now reference n) }
+    requires { sound_steps t.now ≡ true }
+    ensures { item_place_of result ≡ item_span (find_item categories block.now reference n) }
 {
     let opened = open_block(t, block, LEAST);
     let checked = opened.checked;
@@ -177,7 +177,7 @@ fn locate_item_by(t: &Steps, block: &[u8], reference: u16, n: usize) -> ItemLoca
 
 // The same, with a table of its own: where it lies.
 pub fn locate_item(block: &[u8], reference: u16, n: usize) -> ItemLocated
-    ensures { itemPlaceOf result ≡ itemSpan (findItem categories block.now reference n) }
+    ensures { item_place_of result ≡ item_span (find_item categories block.now reference n) }
 {
     let t = steps();
     locate_item_by(&t, block, reference, n)
@@ -185,7 +185,7 @@ pub fn locate_item(block: &[u8], reference: u16, n: usize) -> ItemLocated
 
 // Its bytes, as that very part of the block; on refusal the empty part at the block's start.
 pub fn find_item(block: &[u8], reference: u16, n: usize) -> &[u8]
-    ensures { VeryPart block.entry result (spanIn (itemSpan (findItem categories block.now reference n))) }
+    ensures { VeryPart block.entry result (span_in (item_span (find_item categories block.now reference n))) }
 {
     let located = locate_item(block, reference, n);
     let ItemLocated::At { start, length } = located else {

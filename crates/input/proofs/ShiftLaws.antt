@@ -18,12 +18,12 @@ pub record Shifting (old : List ℕ) (from : ℕ) (new : List ℕ) (i : ℕ) : T
   pub done : take i new ≡ take i (drop from old)
   pub left : drop i new ≡ drop i old
 
-pub shifting-first : (s : List ℕ) (from : ℕ) → Shifting s from s 0
-shifting-first s from = record { size = refl; done = refl; left = refl }
+pub shifting_first : (s : List ℕ) (from : ℕ) → Shifting s from s 0
+shifting_first s from = record { size = refl; done = refl; left = refl }
 
-pub shifting-next : (old : List ℕ) (from : ℕ) (new : List ℕ) (i : ℕ) → Shifting old from new i → from + i < length old
+pub shifting_next : (old : List ℕ) (from : ℕ) (new : List ℕ) (i : ℕ) → Shifting old from new i → from + i < length old
     → Shifting old from (set new i (get_or new (from + i) 0)) (i + 1)
-shifting-next old from new i s h =
+shifting_next old from new i s h =
     let v : get_or new (from + i) 0 ≡ get_or (drop from old) i 0 =
     ap (λ (n : ℕ). get_or new n 0) (add_comm from i) ∙ sym (get_or-drop i new from 0)
     ∙ ap (λ (l : List ℕ). get_or l from 0) s.left

@@ -13,49 +13,49 @@ use lib.Dec.{eqb, lit<}
 use lib.ListN.{length, get_or, drop, get_or-map}
 use borrow.Author.Tests.{le-leb, lt-leb, lt-ltb, eqb-true}
 use Rattle.rules.specs.Answer.{ok, refused, ◌>>=◌, need◌or◌then◌, expect◌or◌}
-use Rattle.rules.specs.Layout.{Layout, readItem}
-use Rattle.rules.specs.Presence.{placeAt}
+use Rattle.rules.specs.Layout.{Layout, read_item}
+use Rattle.rules.specs.Presence.{place_at}
 use Rattle.rules.specs.Catalogue.{categories}
-use Rattle.rules.specs.Entry.{profileAt}
-use Rattle.rules.proofs.AnswerLaws.{Octets, bind-in, bind_assoc, bind-cong}
+use Rattle.rules.specs.Entry.{profile_at}
+use Rattle.rules.proofs.AnswerLaws.{Octets, bind_in, bind_assoc, bind_cong}
 use Rattle.tables.specs.declared.tables.LayoutRow.{LayoutRow}
 use Rattle.tables.specs.declared.tables.PlaceRow.{PlaceRow}
-use Rattle.tables.specs.Tables.{groupCount, layoutCount, profileCount, frnCount, groupAt, layoutIs, layoutAt, nowhere, profileRows, placeRowAt, placeIs}
-use Rattle.tables.specs.FieldRules.{singleOf, singles}
-use Rattle.tables.proofs.TableLaws.{place_is, place-row, place_none}
-use Rattle.layouts.specs.Read.{rows_at, part_at, legal, span, partSound, partsSound, partsLegal, faultAt, need◌or◌further◌then◌, Shaped, step_of, shape_by, shape_of, wholeOf, wholeSize, rowSound, singleSize}
+use Rattle.tables.specs.Tables.{group_count, layout_count, profile_count, frn_count, group_at, layout_is, layout_at, nowhere, profile_rows, place_row_at, place_is}
+use Rattle.tables.specs.FieldRules.{single_of, singles}
+use Rattle.tables.proofs.TableLaws.{place_is_lem, place_row_lem, place_none}
+use Rattle.layouts.specs.Read.{rows_at, part_at, legal, span, part_sound, parts_sound, parts_legal, fault_at, need◌or◌further◌then◌, Shaped, step_of, shape_by, shape_of, whole_of, whole_size, row_sound, single_size}
 use Rattle.layouts.proofs.PartLaws.{First, first_part}
-use Rattle.layouts.proofs.ReadLaws.{le-or-lt}
-use Rattle.layouts.proofs.ShapeLaws.{Rowed, rowed, fixed-one, fixed-short, fixed-cut, fixed-there}
-use Rattle.layouts.proofs.SoundLaws.{layout-sound}
-use Rattle.layouts.proofs.WholeLaws.{whole-stopped, equal-free}
-use Rattle.compounds.specs.Compound.{Told, itemSize, itemSound}
-use Rattle.compounds.proofs.ItemLaws.{item-told, no_row, row-item}
+use Rattle.layouts.proofs.ReadLaws.{le_or_lt}
+use Rattle.layouts.proofs.ShapeLaws.{Rowed, rowed, fixed_one, fixed_short, fixed_cut, fixed_there}
+use Rattle.layouts.proofs.SoundLaws.{layout_sound}
+use Rattle.layouts.proofs.WholeLaws.{whole_stopped, equal_free}
+use Rattle.compounds.specs.Compound.{Told, item_size, item_sound}
+use Rattle.compounds.proofs.ItemLaws.{item_told, no_row, row_item}
 use Rattle.compounds.proofs.SizeLaws.{whole_item, no_whole}
-use Rattle.items.specs.Answers.{size_of, checkAt}
+use Rattle.items.specs.Answers.{size_of, check_at}
 
 -- ---- how many octets an item takes
 
-size_is : (l : LayoutRow) (i : Layout) (bs : List ℕ) → rowSound l ≡ true → itemSound l ≡ true → layoutIs l ≡ some i → Octets bs → size_of i bs ≡ itemSize l bs
-unfolding size_of itemSize
+size_is : (l : LayoutRow) (i : Layout) (bs : List ℕ) → row_sound l ≡ true → item_sound l ≡ true → layout_is l ≡ some i → Octets bs → size_of i bs ≡ item_size l bs
+unfolding size_of item_size
 size_is l i bs r s h o =
-    sym (bind_assoc (readItem i bs) _ _ ∙ bind-cong _ _ _ (λ x. bind-in _ refl refl)) ∙ ap (λ m. m >>= (λ (x : Told). ok x.1)) (item-told l i bs r s h o)
+    sym (bind_assoc (read_item i bs) _ _ ∙ bind_cong _ _ _ (λ x. bind_in _ refl refl)) ∙ ap (λ m. m >>= (λ (x : Told). ok x.1)) (item_told l i bs r s h o)
 
-pub check-is : (r : PlaceRow) (profile frn : ℕ) (bs : List ℕ) → placeIs r ≡ placeAt (profileAt categories profile) frn → r.layout < layoutCount → Octets bs
-    → checkAt profile frn bs ≡ itemSize (layoutAt r.layout) bs
-unfolding placeIs checkAt itemSize expect◌or◌ ◌>>=◌
-check-is r profile frn bs h k o = go (layoutIs (layoutAt r.layout)) refl
+pub check_is : (r : PlaceRow) (profile frn : ℕ) (bs : List ℕ) → place_is r ≡ place_at (profile_at categories profile) frn → r.layout < layout_count → Octets bs
+    → check_at profile frn bs ≡ item_size (layout_at r.layout) bs
+unfolding place_is check_at item_size expect◌or◌ ◌>>=◌
+check_is r profile frn bs h k o = go (layout_is (layout_at r.layout)) refl
   where
-    go : (x : Option Layout) → layoutIs (layoutAt r.layout) ≡ x → checkAt profile frn bs ≡ itemSize (layoutAt r.layout) bs
-    go none e = rw (← h, e, no_row (layoutAt r.layout) bs e)
-    go (some i) e = rw (← h, e) (size_is (layoutAt r.layout) i bs (layout-sound r.layout k) (row-item r.layout k) e o)
+    go : (x : Option Layout) → layout_is (layout_at r.layout) ≡ x → check_at profile frn bs ≡ item_size (layout_at r.layout) bs
+    go none e = rw (← h, e, no_row (layout_at r.layout) bs e)
+    go (some i) e = rw (← h, e) (size_is (layout_at r.layout) i bs (layout_sound r.layout k) (row_item r.layout k) e o)
 
 -- ---- an item with one part
 
 -- its place in the table says so
-pub single-is : (i : ℕ) → get_or singles i 0 ≡ singleOf (layoutAt (placeRowAt i).layout)
-unfolding singles placeRowAt layoutAt
-single-is i = get_or-map (λ r. singleOf (layoutAt r.layout)) (profileRows 1 categories) i nowhere
+pub single_is : (i : ℕ) → get_or singles i 0 ≡ single_of (layout_at (place_row_at i).layout)
+unfolding singles place_row_at layout_at
+single_is i = get_or-map (λ r. single_of (layout_at r.layout)) (profile_rows 1 categories) i nowhere
 
 pub record Single (l : LayoutRow) (g : ℕ) : Type 0 where
   pub kind : l.kind ≡ 1
@@ -64,102 +64,102 @@ pub record Single (l : LayoutRow) (g : ℕ) : Type 0 where
 -- a free one, of so many octets
 pub record Free (l : LayoutRow) (n : ℕ) : Type 0 where
   pub kind : l.kind ≡ 1
-  pub free : (groupAt l.first).free ≡ true
-  pub size : (groupAt l.first).octets ≡ n
+  pub free : (group_at l.first).free ≡ true
+  pub size : (group_at l.first).octets ≡ n
 
 -- the number in the table says which
-pub single_of : (l : LayoutRow) (n : ℕ) → rowSound l ≡ true → n ≡ singleOf l → 8 ≤ n → Single l (n - 8)
-single_of l n s e h = go (eqb l.kind 1) refl (groupAt l.first).free e
+pub single_of_lem : (l : LayoutRow) (n : ℕ) → row_sound l ≡ true → n ≡ single_of l → 8 ≤ n → Single l (n - 8)
+single_of_lem l n s e h = go (eqb l.kind 1) refl (group_at l.first).free e
   where
-    go : (t : Bool) → eqb l.kind 1 ≡ t → (u : Bool) → n ≡ cond t (cond u (groupAt l.first).octets (8 + l.first)) 0 → Single l (n - 8)
+    go : (t : Bool) → eqb l.kind 1 ≡ t → (u : Bool) → n ≡ cond t (cond u (group_at l.first).octets (8 + l.first)) 0 → Single l (n - 8)
     go true q true r =
         let k : l.kind ≡ 1 = eqb-true l.kind 1 q in
-        absurd (omega (arith, fixed-short l (rowed l s) k))
+        absurd (omega (arith, fixed_short l (rowed l s) k))
     go true q false r = record { kind = eqb-true l.kind 1 q; group = omega arith }
     go false q u r = absurd (omega arith)
 
-pub free_of : (l : LayoutRow) (n : ℕ) → n ≡ singleOf l → 0 < n → n < 8 → Free l n
-free_of l n e h k = go (eqb l.kind 1) refl (groupAt l.first).free refl e
+pub free_of : (l : LayoutRow) (n : ℕ) → n ≡ single_of l → 0 < n → n < 8 → Free l n
+free_of l n e h k = go (eqb l.kind 1) refl (group_at l.first).free refl e
   where
-    go : (t : Bool) → eqb l.kind 1 ≡ t → (u : Bool) → (groupAt l.first).free ≡ u → n ≡ cond t (cond u (groupAt l.first).octets (8 + l.first)) 0 → Free l n
+    go : (t : Bool) → eqb l.kind 1 ≡ t → (u : Bool) → (group_at l.first).free ≡ u → n ≡ cond t (cond u (group_at l.first).octets (8 + l.first)) 0 → Free l n
     go true q true f r = record { kind = eqb-true l.kind 1 q; free = f; size = sym r }
     go true q false f r = absurd (omega arith)
     go false q u f r = absurd (omega arith)
 
 -- how many octets, by what was told of its parts
-pub check-whole : (l : LayoutRow) (bs : List ℕ) (c long : ℕ) → ok (c, long) ≡ wholeOf l bs → ok long ≡ wholeSize l bs
-unfolding wholeSize ◌>>=◌
-check-whole l bs c long e = rw (← e)
+pub check_whole : (l : LayoutRow) (bs : List ℕ) (c long : ℕ) → ok (c, long) ≡ whole_of l bs → ok long ≡ whole_size l bs
+unfolding whole_size ◌>>=◌
+check_whole l bs c long e = rw (← e)
 
 -- an item with one part is not compound
-pub one-part : (l : LayoutRow) (bs : List ℕ) → l.kind ≡ 1 → wholeSize l bs ≡ itemSize l bs
-one-part l bs h = whole_item l bs (λ e. absurd (omega (arith, h, e)))
+pub one_part : (l : LayoutRow) (bs : List ℕ) → l.kind ≡ 1 → whole_size l bs ≡ item_size l bs
+one_part l bs h = whole_item l bs (λ e. absurd (omega (arith, h, e)))
 
 -- it needs no look
-module _ (l : LayoutRow) (n : ℕ) (bs : List ℕ) (s : rowSound l ≡ true) (o : Octets bs) (f : Free l n) where
-  pub free-cut : length bs < n → refused 9 0 ≡ wholeSize l bs
-  unfolding wholeSize ◌>>=◌
-  free-cut h = sym (rw (whole-stopped l bs 9 0 (sym (fixed-cut l bs f.kind (sym f.size) h))))
+module _ (l : LayoutRow) (n : ℕ) (bs : List ℕ) (s : row_sound l ≡ true) (o : Octets bs) (f : Free l n) where
+  pub free_cut : length bs < n → refused 9 0 ≡ whole_size l bs
+  unfolding whole_size ◌>>=◌
+  free_cut h = sym (rw (whole_stopped l bs 9 0 (sym (fixed_cut l bs f.kind (sym f.size) h))))
 
-  pub free-there : n ≤ length bs → ok n ≡ wholeSize l bs
-  free-there h =
-      check-whole l bs 1 n
-      (equal-free l bs 1 n (sym (fixed-there l bs f.kind (sym f.size) h)) s o (λ e. absurd (omega (arith, f.kind, e))) (sym f.free) refl)
+  pub free_there : n ≤ length bs → ok n ≡ whole_size l bs
+  free_there h =
+      check_whole l bs 1 n
+      (equal_free l bs 1 n (sym (fixed_there l bs f.kind (sym f.size) h)) s o (λ e. absurd (omega (arith, f.kind, e))) (sym f.free) refl)
 
-one-part-size : (u : Bool) (p n : ℕ) → (need u or 11 further p then ok n) ≡ (◌>>=◌ {A = Shaped} (need (u && true) or 11 further p then ok (1, n)) (λ s. ok s.1))
+one_part_size : (u : Bool) (p n : ℕ) → (need u or 11 further p then ok n) ≡ (◌>>=◌ {A = Shaped} (need (u && true) or 11 further p then ok (1, n)) (λ s. ok s.1))
 unfolding need◌or◌further◌then◌ ◌>>=◌
-one-part-size true p n = refl
-one-part-size false p n = refl
+one_part_size true p n = refl
+one_part_size false p n = refl
 
-pub single-size : (l : LayoutRow) (g : ℕ) (bs : List ℕ) → Single l g → singleSize g bs ≡ wholeSize l bs
-unfolding singleSize wholeSize wholeOf shape_of shape_by partsLegal need◌or◌then◌ ◌>>=◌
-single-size l g bs s =
+pub single_size_lem : (l : LayoutRow) (g : ℕ) (bs : List ℕ) → Single l g → single_size g bs ≡ whole_size l bs
+unfolding single_size whole_size whole_of shape_of shape_by parts_legal need◌or◌then◌ ◌>>=◌
+single_size_lem l g bs s =
     ⊎_elim
-    (λ (h : (groupAt l.first).octets ≤ length bs). rw (← s.group, s.kind, le-leb (groupAt l.first).octets (length bs) h) (one-part-size (legal (rows_at l.first) (part_at 0 l.first bs)) (faultAt 0 l.first 1 0 bs) (groupAt l.first).octets))
-    (λ (h : length bs < (groupAt l.first).octets). rw (← s.group, s.kind, lt-leb (groupAt l.first).octets (length bs) h))
-    (le-or-lt (groupAt l.first).octets (length bs))
+    (λ (h : (group_at l.first).octets ≤ length bs). rw (← s.group, s.kind, le-leb (group_at l.first).octets (length bs) h) (one_part_size (legal (rows_at l.first) (part_at 0 l.first bs)) (fault_at 0 l.first 1 0 bs) (group_at l.first).octets))
+    (λ (h : length bs < (group_at l.first).octets). rw (← s.group, s.kind, lt-leb (group_at l.first).octets (length bs) h))
+    (le_or_lt (group_at l.first).octets (length bs))
 
 -- what the check of one part asks, and its answers
-pub single-sound : (l : LayoutRow) (g : ℕ) → rowSound l ≡ true → Single l g → (g < groupCount) × (partSound 0 (groupAt g) ≡ true)
-single-sound l g s h =
+pub single_sound : (l : LayoutRow) (g : ℕ) → row_sound l ≡ true → Single l g → (g < group_count) × (part_sound 0 (group_at g) ≡ true)
+single_sound l g s h =
     let r : Rowed l = rowed l s in
-    let f : First 0 l.first 1 [] 0 = first_part 0 l.first 1 [] 0 (lit< tt) (subst (λ x. partsSound 0 l.first x ≡ true) (fixed-one l r h.kind) (subst (λ x. partsSound (step_of x) l.first l.most ≡ true) h.kind r.parts)) in
-    subst (λ x. (x < groupCount) × (partSound 0 (groupAt x) ≡ true)) h.group (f.inside, f.sound)
+    let f : First 0 l.first 1 [] 0 = first_part 0 l.first 1 [] 0 (lit< tt) (subst (λ x. parts_sound 0 l.first x ≡ true) (fixed_one l r h.kind) (subst (λ x. parts_sound (step_of x) l.first l.most ≡ true) h.kind r.parts)) in
+    subst (λ x. (x < group_count) × (part_sound 0 (group_at x) ≡ true)) h.group (f.inside, f.sound)
 
-module _ (g : ℕ) (bs : List ℕ) {m : ℕ} (em : m ≡ (groupAt g).octets) where
-  pub single-cut : length bs < m → refused 9 0 ≡ singleSize g bs
-  unfolding singleSize need◌or◌then◌
-  single-cut h = rw (← em, lt-leb m (length bs) h)
+module _ (g : ℕ) (bs : List ℕ) {m : ℕ} (em : m ≡ (group_at g).octets) where
+  pub single_cut : length bs < m → refused 9 0 ≡ single_size g bs
+  unfolding single_size need◌or◌then◌
+  single_cut h = rw (← em, lt-leb m (length bs) h)
 
   module _ (h : m ≤ length bs) {t : Bool} (et : t ≡ legal (rows_at g) (part_at 0 g (drop 0 bs))) where
-    pub single-legal : t ≡ true → ok m ≡ singleSize g bs
-    unfolding singleSize need◌or◌then◌ need◌or◌further◌then◌
-    single-legal e = let d : legal (rows_at g) (part_at 0 g bs) ≡ true = sym et ∙ e in rw (le-leb (groupAt g).octets (length bs) (omega arith), d, em)
+    pub single_legal : t ≡ true → ok m ≡ single_size g bs
+    unfolding single_size need◌or◌then◌ need◌or◌further◌then◌
+    single_legal e = let d : legal (rows_at g) (part_at 0 g bs) ≡ true = sym et ∙ e in rw (le-leb (group_at g).octets (length bs) (omega arith), d, em)
 
-    pub single-barred : t ≡ false → {p : ℕ} → p ≡ faultAt 0 g 1 0 bs → refused 11 p ≡ singleSize g bs
-    unfolding singleSize need◌or◌then◌ need◌or◌further◌then◌
-    single-barred e ep = let d : legal (rows_at g) (part_at 0 g bs) ≡ false = sym et ∙ e in rw (le-leb (groupAt g).octets (length bs) (omega arith), d, ep)
+    pub single_barred : t ≡ false → {p : ℕ} → p ≡ fault_at 0 g 1 0 bs → refused 11 p ≡ single_size g bs
+    unfolding single_size need◌or◌then◌ need◌or◌further◌then◌
+    single_barred e ep = let d : legal (rows_at g) (part_at 0 g bs) ≡ false = sym et ∙ e in rw (le-leb (group_at g).octets (length bs) (omega arith), d, ep)
 
     -- what the place of the fault asks
-    pub single-walk : partSound 0 (groupAt g) ≡ true → g < groupCount → (partsSound 0 g 1 ≡ true) × (0 + span 0 g 1 ≤ length bs)
-    unfolding partsSound span
-    single-walk s k = (rw (lt-ltb g groupCount k, s), omega (arith, add-zero (groupAt g).octets))
+    pub single_walk : part_sound 0 (group_at g) ≡ true → g < group_count → (parts_sound 0 g 1 ≡ true) × (0 + span 0 g 1 ≤ length bs)
+    unfolding parts_sound span
+    single_walk s k = (rw (lt-ltb g group_count k, s), omega (arith, add-zero (group_at g).octets))
 
 -- ---- the place of an item
 
-pub check-place : (profile frn : ℕ) (bs : List ℕ) → profile < profileCount → frn < frnCount → Octets bs → itemSize (layoutAt (placeRowAt (profile * frnCount + frn)).layout) bs ≡ checkAt profile frn bs
-check-place profile frn bs h k o = sym (check-is (placeRowAt (profile * frnCount + frn)) profile frn bs (place_is profile frn h k) (place-row (profile * frnCount + frn)) o)
+pub check_place : (profile frn : ℕ) (bs : List ℕ) → profile < profile_count → frn < frn_count → Octets bs → item_size (layout_at (place_row_at (profile * frn_count + frn)).layout) bs ≡ check_at profile frn bs
+check_place profile frn bs h k o = sym (check_is (place_row_at (profile * frn_count + frn)) profile frn bs (place_is_lem profile frn h k) (place_row_lem (profile * frn_count + frn)) o)
 
 -- the same by its parts, where it has parts of its own
-pub whole-check : (profile frn : ℕ) (bs : List ℕ) (n : ℕ) → profile < profileCount → frn < frnCount → Octets bs → wholeSize (layoutAt (placeRowAt (profile * frnCount + frn)).layout) bs ≡ ok n → checkAt profile frn bs ≡ ok n
-whole-check profile frn bs n h k o e =
-    let l : LayoutRow = layoutAt (placeRowAt (profile * frnCount + frn)).layout in
-    sym (check-place profile frn bs h k o) ∙ sym (whole_item l bs (no_whole l bs n e)) ∙ e
+pub whole_check : (profile frn : ℕ) (bs : List ℕ) (n : ℕ) → profile < profile_count → frn < frn_count → Octets bs → whole_size (layout_at (place_row_at (profile * frn_count + frn)).layout) bs ≡ ok n → check_at profile frn bs ≡ ok n
+whole_check profile frn bs n h k o e =
+    let l : LayoutRow = layout_at (place_row_at (profile * frn_count + frn)).layout in
+    sym (check_place profile frn bs h k o) ∙ sym (whole_item l bs (no_whole l bs n e)) ∙ e
 
-pub plain-check : (profile frn : ℕ) (bs : List ℕ) → profile < profileCount → frn < frnCount → Octets bs → ¬ ((layoutAt (placeRowAt (profile * frnCount + frn)).layout).kind ≡ 5)
-    → wholeSize (layoutAt (placeRowAt (profile * frnCount + frn)).layout) bs ≡ checkAt profile frn bs
-plain-check profile frn bs h k o z = whole_item (layoutAt (placeRowAt (profile * frnCount + frn)).layout) bs z ∙ check-place profile frn bs h k o
+pub plain_check : (profile frn : ℕ) (bs : List ℕ) → profile < profile_count → frn < frn_count → Octets bs → ¬ ((layout_at (place_row_at (profile * frn_count + frn)).layout).kind ≡ 5)
+    → whole_size (layout_at (place_row_at (profile * frn_count + frn)).layout) bs ≡ check_at profile frn bs
+plain_check profile frn bs h k o z = whole_item (layout_at (place_row_at (profile * frn_count + frn)).layout) bs z ∙ check_place profile frn bs h k o
 
-pub no_place : (profile frn : ℕ) (bs : List ℕ) → placeIs nowhere ≡ placeAt (profileAt categories profile) frn → refused 21 0 ≡ checkAt profile frn bs
-unfolding checkAt expect◌or◌ ◌>>=◌
-no_place profile frn bs e = rw (← e, place_none)
+pub no_place_lem : (profile frn : ℕ) (bs : List ℕ) → place_is nowhere ≡ place_at (profile_at categories profile) frn → refused 21 0 ≡ check_at profile frn bs
+unfolding check_at expect◌or◌ ◌>>=◌
+no_place_lem profile frn bs e = rw (← e, place_none)

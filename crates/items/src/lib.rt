@@ -1,15 +1,15 @@
 // One item of categories 017, 018 and 061, over its layout: where a profile has it, its check, and its fields read.
 ghost use Rattle.std.specs.Prelude.{◌≡◌, true, ◌<◌, ◌+◌};
 ghost use Rattle.rules.specs.Chain.{flatten};
-ghost use Rattle.rules.specs.Presence.{placeAt};
+ghost use Rattle.rules.specs.Presence.{place_at};
 ghost use Rattle.rules.specs.Answer.{expect◌or◌};
 ghost use Rattle.rules.specs.Catalogue.{categories};
-ghost use Rattle.rules.specs.Entry.{profileAt, layout_of, readOne, leaves};
-ghost use Rattle.tables.specs.Tables.{groupCount, layoutCount, placeCount, placeIs, layoutIs, layoutAt, groupAt, placeRowAt};
-ghost use Rattle.tables.specs.Places.{isNamed, frnAs};
-ghost use Rattle.layouts.specs.Read.{partSound, singleSize};
-ghost use Rattle.compounds.specs.Compound.{itemSize};
-ghost use Rattle.items.specs.Answers.{referenceIn, frnOf, placeRow, rowNamed, checkedOf, checkAt, read_of, count_of};
+ghost use Rattle.rules.specs.Entry.{profile_at, layout_of, read_one, leaves};
+ghost use Rattle.tables.specs.Tables.{group_count, layout_count, place_count, place_is, layout_is, layout_at, group_at, place_row_at};
+ghost use Rattle.tables.specs.Places.{is_named, frn_as};
+ghost use Rattle.layouts.specs.Read.{part_sound, single_size};
+ghost use Rattle.compounds.specs.Compound.{item_size};
+ghost use Rattle.items.specs.Answers.{reference_in, frn_of, place_row, row_named, checked_of, check_at, read_of, count_of};
 
 use compounds::{item_fields, item_of};
 use layouts::{Shape, fault_at, part_legal};
@@ -21,7 +21,7 @@ use tables::{
 
 // What a profile has at an FRN.
 fn place_of(profile: usize, frn: usize) -> PlaceRow
-    ensures { (placeIs result ≡ placeAt (profileAt categories profile) frn) × (result.layout < layoutCount) × (result ≡ placeRow profile frn) }
+    ensures { (place_is result ≡ place_at (profile_at categories profile) frn) × (result.layout < layout_count) × (result ≡ place_row profile frn) }
 {
     if profile < PROFILES {
         if frn < FRNS {
@@ -36,7 +36,7 @@ fn place_of(profile: usize, frn: usize) -> PlaceRow
 
 // Whether the item of a profile at an FRN has a reference.
 fn is_named(profile: usize, frn: usize, reference: u16) -> bool
-    ensures { result ≡ isNamed reference (placeAt (profileAt categories profile) frn) }
+    ensures { result ≡ is_named reference (place_at (profile_at categories profile) frn) }
 {
     let p = place_of(profile, frn);
     if p.layout == 0 {
@@ -47,7 +47,7 @@ fn is_named(profile: usize, frn: usize, reference: u16) -> bool
 
 // The reference of the item of a profile at an FRN, the number after its slash; 0 where there is none.
 pub fn reference_of(profile: usize, frn: usize) -> u16
-    ensures { result ≡ referenceIn (placeAt (profileAt categories profile) frn) }
+    ensures { result ≡ reference_in (place_at (profile_at categories profile) frn) }
 {
     let p = place_of(profile, frn);
     if p.layout == 0 {
@@ -66,7 +66,7 @@ pub enum FrnFound {
 
 // The FRN of the item with a reference: the number after its slash.
 pub fn frn_of(profile: usize, reference: u16) -> FrnFound
-    ensures { frnOf result ≡ frnAs reference 1 (flatten (profileAt categories profile)) }
+    ensures { frn_of result ≡ frn_as reference 1 (flatten (profile_at categories profile)) }
 {
     let mut frn: usize = 1;
     while frn < FRNS {
@@ -91,8 +91,8 @@ pub enum ItemCheck {
 
 // How many octets an item with one part takes, by the group of the part, which has a rule.
 fn check_single(group: usize, part: &[u8]) -> ItemCheck
-    requires { (group < groupCount) × (partSound 0 (groupAt group) ≡ true) }
-    ensures { checkedOf result ≡ singleSize group part.now }
+    requires { (group < group_count) × (part_sound 0 (group_at group) ≡ true) }
+    ensures { checked_of result ≡ single_size group part.now }
 {
     let size = size_at(group);
     if part.len() < size {
@@ -112,8 +112,8 @@ fn check_single(group: usize, part: &[u8]) -> ItemCheck
 
 // How many octets the item at a place of the tables takes: most items have one part, and most of these are free.
 fn check_at(place: usize, part: &[u8]) -> ItemCheck
-    requires { place < placeCount }
-    ensures { checkedOf result ≡ itemSize (layoutAt (placeRowAt place).layout) part.now }
+    requires { place < place_count }
+    ensures { checked_of result ≡ item_size (layout_at (place_row_at place).layout) part.now }
 {
     let single = single_at(place);
     if 8 <= single {
@@ -137,7 +137,7 @@ fn check_at(place: usize, part: &[u8]) -> ItemCheck
 // How many octets the item of a profile at an FRN takes, which starts the part: 21 where the profile has none there; 9, 10, 9 of the body, 6, 11; of a compound
 // item 9, 6, 7, 8, then the first refusal of its subfields.
 pub fn check_item(profile: usize, frn: usize, part: &[u8]) -> ItemCheck
-    ensures { checkedOf result ≡ checkAt profile frn part.now }
+    ensures { checked_of result ≡ check_at profile frn part.now }
 {
     if profile < PROFILES {
         if frn < FRNS {
@@ -154,7 +154,7 @@ pub fn check_item(profile: usize, frn: usize, part: &[u8]) -> ItemCheck
 
 // The place of the layout of an item, by its category and reference: that of no item where there is none.
 pub fn layout_of(category: u8, reference: u16) -> usize
-    ensures { (result < layoutCount) × ((expect layoutIs (layoutAt result) or 21) ≡ layout_of categories category reference) × (result ≡ rowNamed category reference) }
+    ensures { (result < layout_count) × ((expect layout_is (layout_at result) or 21) ≡ layout_of categories category reference) × (result ≡ row_named category reference) }
 {
     let profile = profile_of(category);
     match frn_of(profile, reference) {
@@ -178,8 +178,8 @@ pub enum ItemRead {
 // The fields of an item that is all of the octets lent, from its highest bit down, at the start of the output: 21 for a reference that is no
 // item of the category, and for any other category; then those of its check; 18 where octets follow. A refusal changes nothing.
 pub fn read_item(category: u8, reference: u16, item: &[u8], fields: &mut [i64; 8192]) -> ItemRead
-    ensures answer { read_of result ≡ count_of (readOne categories category reference item.now) }
-    ensures left { fields.new ≡ leaves (readOne categories category reference item.now) fields.old }
+    ensures answer { read_of result ≡ count_of (read_one categories category reference item.now) }
+    ensures left { fields.new ≡ leaves (read_one categories category reference item.now) fields.old }
 {
     let l = layout_at(layout_of(category, reference));
     match item_of(l, item) {

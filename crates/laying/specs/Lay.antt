@@ -6,33 +6,33 @@ use Rattle.rules.specs.declared.Shape.{Shape}
 use Rattle.rules.specs.declared.Shape.TheVariants.{Whole, InLog}
 use Rattle.rules.specs.declared.Edition.{Edition}
 use Rattle.rules.specs.declared.Mark.{Mark}
-use Rattle.rules.specs.Mark.{logBytes, bytes4, marksBytes}
-use Rattle.rules.specs.Sheet.{fieldBytes}
-use Rattle.rules.proofs.SheetSteps.{totalsFields}
+use Rattle.rules.specs.Mark.{log_bytes, bytes4, marks_bytes}
+use Rattle.rules.specs.Sheet.{field_bytes}
+use Rattle.rules.proofs.SheetSteps.{totals_fields}
 use Rattle.marks.specs.Lists.{span}
 use Rattle.laying.specs.declared.Written.{Written}
 use Rattle.laying.specs.declared.Written.TheVariants.{Length, Refused}
 
 -- the bytes of a mark after its place
-abbrev pub restBytes : Shape → Mark → List ℕ
-restBytes f m = logBytes f m ++ (m.station ∷ m.comment ∷ 0 ∷ [])
+abbrev pub rest_bytes : Shape → Mark → List ℕ
+rest_bytes f m = log_bytes f m ++ (m.station ∷ m.comment ∷ 0 ∷ [])
 
 -- the head of a field
-unfoldable pub headBytes : ℕ → ℕ → List ℕ
-headBytes t n = t ∷ n / 256 ∷ n % 256 ∷ []
+unfoldable pub head_bytes : ℕ → ℕ → List ℕ
+head_bytes t n = t ∷ n / 256 ∷ n % 256 ∷ []
 
 -- ---- a sheet of n marks, numbered, the first so many of them log 0's
-abbrev pub listsSize : Bool → ℕ → ℕ
-listsSize true n = 6 + n * 7
-listsSize false n = 3 + n * 8
+abbrev pub lists_size : Bool → ℕ → ℕ
+lists_size true n = 6 + n * 7
+lists_size false n = 3 + n * 8
 
-unfoldable pub listsBytes : Bool → (ℕ → Mark) → ℕ → ℕ → List ℕ
-listsBytes true nth n first = fieldBytes 5 (marksBytes (InLog 0) (span nth 0 (first - 0))) ++ fieldBytes 6 (marksBytes (InLog 1) (span nth first (n - first)))
-listsBytes false nth n first = fieldBytes 3 (marksBytes Whole (span nth 0 (n - 0)))
+unfoldable pub lists_bytes : Bool → (ℕ → Mark) → ℕ → ℕ → List ℕ
+lists_bytes true nth n first = field_bytes 5 (marks_bytes (InLog 0) (span nth 0 (first - 0))) ++ field_bytes 6 (marks_bytes (InLog 1) (span nth first (n - first)))
+lists_bytes false nth n first = field_bytes 3 (marks_bytes Whole (span nth 0 (n - 0)))
 
-unfoldable pub newBytes : Edition → ℕ → (ℕ → Mark) → ℕ → ℕ → List ℕ
-newBytes e code nth n first =
-    (fieldBytes 1 (e.byte ∷ []) ++ fieldBytes 2 (bytes4 code)) ++ (listsBytes e.split nth n first ++ totalsFields e.totals (span nth 0 n))
+unfoldable pub new_bytes : Edition → ℕ → (ℕ → Mark) → ℕ → ℕ → List ℕ
+new_bytes e code nth n first =
+    (field_bytes 1 (e.byte ∷ []) ++ field_bytes 2 (bytes4 code)) ++ (lists_bytes e.split nth n first ++ totals_fields e.totals (span nth 0 n))
 
 -- ---- the answer
 abbrev pub written_of : Answer (List ℕ) → Written

@@ -3,13 +3,13 @@
 ghost use Rattle.std.specs.Prelude.{◌≡◌, [], ◌∷◌, ◌++◌, ◌+◌, ◌-◌, ◌*◌, ◌<◌, ◌≤◌, length};
 ghost use Rattle.std.proofs.lemmas.List.Edits.{sets};
 ghost use Rattle.rules.specs.Answer.{ok};
-ghost use Rattle.rules.specs.Mark.{size, bytes4, markBytes, marksBytes, totals};
-ghost use Rattle.rules.specs.Sheet.{fieldBytes};
-ghost use Rattle.rules.proofs.SheetSteps.{totalsFields};
+ghost use Rattle.rules.specs.Mark.{size, bytes4, mark_bytes, marks_bytes, totals};
+ghost use Rattle.rules.specs.Sheet.{field_bytes};
+ghost use Rattle.rules.proofs.SheetSteps.{totals_fields};
 ghost use Rattle.rules.specs.SheetChange.{fitted};
-ghost use Rattle.marks.specs.Lists.{Held, span, newCount, newAt, Sound};
-ghost use Rattle.viewing.specs.Read.{totalsSize};
-ghost use Rattle.laying.specs.Lay.{restBytes, headBytes, listsSize, listsBytes, newBytes, Wrote};
+ghost use Rattle.marks.specs.Lists.{Held, span, new_count, new_at, Sound};
+ghost use Rattle.viewing.specs.Read.{totals_size};
+ghost use Rattle.laying.specs.Lay.{rest_bytes, head_bytes, lists_size, lists_bytes, new_bytes, Wrote};
 
 use marks::{Change, Lists};
 use rules::{Edition, Mark, Shape};
@@ -30,7 +30,7 @@ fn put_four(n: u32, out: &mut [u8], at: usize)
 // The bytes of a mark after its place.
 fn put_rest(m: Mark, shape: Shape, out: &mut [u8], at: usize)
     requires { at + size shape ≤ length out.old + 4 }
-    ensures { out.new ≡ sets out.old at (restBytes shape m) }
+    ensures { out.new ≡ sets out.old at (rest_bytes shape m) }
 {
     match shape {
         Shape::Whole => {
@@ -49,7 +49,7 @@ fn put_rest(m: Mark, shape: Shape, out: &mut [u8], at: usize)
 
 fn put_mark(m: Mark, shape: Shape, out: &mut [u8], at: usize)
     requires { at + size shape ≤ length out.old }
-    ensures { out.new ≡ sets out.old at (markBytes shape m) }
+    ensures { out.new ≡ sets out.old at (mark_bytes shape m) }
 {
     put_four(m.place, out, at);
     put_rest(m, shape, out, at + 4);
@@ -68,9 +68,9 @@ fn put_marks(
     out: &mut [u8],
     at: usize,
 ) -> usize
-    requires a_le_b { (a ≤ b) × ((b ≤ newCount change lists) × (Sound change lists × Held lists s.now)) }
+    requires a_le_b { (a ≤ b) × ((b ≤ new_count change lists) × (Sound change lists × Held lists s.now)) }
     requires shape_in_bounds { at + (b - a) * size shape ≤ length out.old }
-    ensures { (result ≡ at + (b - a) * size shape) × (out.new ≡ sets out.old at (marksBytes shape (span (newAt change lists s.now) a (b - a)))) }
+    ensures { (result ≡ at + (b - a) * size shape) × (out.new ≡ sets out.old at (marks_bytes shape (span (new_at change lists s.now) a (b - a)))) }
 {
     let size = marks::size_of(shape);
     let mut j = a;
@@ -87,7 +87,7 @@ fn put_marks(
 // The head of a field: its tag and its body's length.
 fn put_head(tag: u8, len: usize, out: &mut [u8], at: usize)
     requires { (len < 65536) × (at + 3 ≤ length out.old) }
-    ensures { out.new ≡ sets out.old at (headBytes tag len) }
+    ensures { out.new ≡ sets out.old at (head_bytes tag len) }
 {
     out[at] = tag;
     out[at + 1] = (len / 256) as u8;
@@ -106,9 +106,9 @@ fn put_list(
     out: &mut [u8],
     at: usize,
 ) -> usize
-    requires a_le_b { (a ≤ b) × ((b ≤ newCount change lists) × (Sound change lists × Held lists s.now)) }
+    requires a_le_b { (a ≤ b) × ((b ≤ new_count change lists) × (Sound change lists × Held lists s.now)) }
     requires shape_bound { ((b - a) * size shape < 65536) × (at + 3 + (b - a) * size shape ≤ length out.old) }
-    ensures { (result ≡ at + 3 + (b - a) * size shape) × (out.new ≡ sets out.old at (fieldBytes tag (marksBytes shape (span (newAt change lists s.now) a (b - a))))) }
+    ensures { (result ≡ at + 3 + (b - a) * size shape) × (out.new ≡ sets out.old at (field_bytes tag (marks_bytes shape (span (new_at change lists s.now) a (b - a))))) }
 {
     let len = (b - a) * marks::size_of(shape);
     put_head(tag, len, out, at);
@@ -118,7 +118,7 @@ fn put_list(
 // The fields before the marks: the edition, and the offset in two's complement.
 fn put_start(edition: u8, code: u32, out: &mut [u8])
     requires { 11 ≤ length out.old }
-    ensures { out.new ≡ sets out.old 0 (fieldBytes 1 (edition ∷ []) ++ fieldBytes 2 (bytes4 code)) }
+    ensures { out.new ≡ sets out.old 0 (field_bytes 1 (edition ∷ []) ++ field_bytes 2 (bytes4 code)) }
 {
     put_head(1, 1, out, 0);
     out[3] = edition;
@@ -128,9 +128,9 @@ fn put_start(edition: u8, code: u32, out: &mut [u8])
 
 // The field of totals of the changed list: a fresh count.
 fn put_totals(s: &[u8], lists: Lists, change: Change, n: usize, out: &mut [u8], at: usize)
-    requires n_value { (n ≡ newCount change lists) × (Sound change lists × Held lists s.now) }
+    requires n_value { (n ≡ new_count change lists) × (Sound change lists × Held lists s.now) }
     requires n_bound { (n < 65536) × (at + 15 ≤ length out.old) }
-    ensures { out.new ≡ sets out.old at (fieldBytes 4 (totals (span (newAt change lists s.now) 0 n))) }
+    ensures { out.new ≡ sets out.old at (field_bytes 4 (totals (span (new_at change lists s.now) 0 n))) }
 {
     put_head(4, 12, out, at);
     let mut j: u8 = 0;
@@ -154,9 +154,9 @@ fn put_last(
     out: &mut [u8],
     at: usize,
 )
-    requires n_value { (n ≡ newCount change lists) × (Sound change lists × Held lists s.now) }
-    requires n_bound { (n < 65536) × (at + totalsSize totals ≤ length out.old) }
-    ensures { out.new ≡ sets out.old at (totalsFields totals (span (newAt change lists s.now) 0 n)) }
+    requires n_value { (n ≡ new_count change lists) × (Sound change lists × Held lists s.now) }
+    requires n_bound { (n < 65536) × (at + totals_size totals ≤ length out.old) }
+    ensures { out.new ≡ sets out.old at (totals_fields totals (span (new_at change lists s.now) 0 n)) }
 {
     if totals {
         put_totals(s, lists, change, n, out, at);
@@ -173,9 +173,9 @@ fn put_lists(
     split: bool,
     out: &mut [u8],
 ) -> usize
-    requires n_value { (n ≡ newCount change lists) × (Sound change lists × Held lists s.now) }
-    requires first_le_n { (first ≤ n) × ((n ≤ 8191) × (11 + listsSize split n ≤ length out.old)) }
-    ensures { (result ≡ 11 + listsSize split n) × (out.new ≡ sets out.old 11 (listsBytes split (newAt change lists s.now) n first)) }
+    requires n_value { (n ≡ new_count change lists) × (Sound change lists × Held lists s.now) }
+    requires first_le_n { (first ≤ n) × ((n ≤ 8191) × (11 + lists_size split n ≤ length out.old)) }
+    ensures { (result ≡ 11 + lists_size split n) × (out.new ≡ sets out.old 11 (lists_bytes split (new_at change lists s.now) n first)) }
 {
     if split {
         let p = put_list(s, lists, change, 0, first, 5, Shape::InLog(0), out, 11);
@@ -186,7 +186,7 @@ fn put_lists(
 
 fn lists_size(n: usize, split: bool) -> usize
     requires { n ≤ 8191 }
-    ensures { (result ≡ listsSize split n) × (result < 70000) }
+    ensures { (result ≡ lists_size split n) × (result < 70000) }
 {
     if split { 6 + n * 7 } else { 3 + n * 8 }
 }
@@ -211,9 +211,9 @@ pub fn lay_sheet(
     code: u32,
     out: &mut [u8],
 ) -> Written
-    requires n_value { (n ≡ newCount change lists) × (Sound change lists × Held lists s.now) }
+    requires n_value { (n ≡ new_count change lists) × (Sound change lists × Held lists s.now) }
     requires first_le_n { (first ≤ n) × (n ≤ 8191) }
-    ensures { Wrote result (fitted (length out.old) (ok (newBytes edition code (newAt change lists s.now) n first))) out.old out.new }
+    ensures { Wrote result (fitted (length out.old) (ok (new_bytes edition code (new_at change lists s.now) n first))) out.old out.new }
 {
     let split = edition.split;
     let totals = edition.totals;

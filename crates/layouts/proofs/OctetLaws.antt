@@ -17,9 +17,9 @@ use Rattle.rules.proofs.AnswerLaws.{Octets}
 
 -- ---- octets of a slice
 
-pub octets-known : (bs : List ℕ) → ((i : ℕ) → get_or bs i 0 < 256) → Octets bs
-octets-known [] h = tt
-octets-known (b ∷ bs) h = (h 0, octets-known bs (λ i. h (suc i)))
+pub octets_known : (bs : List ℕ) → ((i : ℕ) → get_or bs i 0 < 256) → Octets bs
+octets_known [] h = tt
+octets_known (b ∷ bs) h = (h 0, octets_known bs (λ i. h (suc i)))
 
 -- ---- one octet more
 
@@ -28,12 +28,12 @@ unfolding joined
 joined_snoc [] b = omega arith
 joined_snoc (x ∷ xs) b = rw (joined_snoc xs b, length-append xs (b ∷ []), pow-add 256 (length xs) 1) (omega arith)
 
-pub joined-suc : (bs : List ℕ) (i : ℕ) → i < length bs → joined (take (suc i) bs) ≡ joined (take i bs) * 256 + get_or bs i 0
-joined-suc bs i h = rw (take-suc bs i 0) (joined_snoc (take i bs) (get_or bs i 0))
+pub joined_suc : (bs : List ℕ) (i : ℕ) → i < length bs → joined (take (suc i) bs) ≡ joined (take i bs) * 256 + get_or bs i 0
+joined_suc bs i h = rw (take-suc bs i 0) (joined_snoc (take i bs) (get_or bs i 0))
 
-pub joined-nil : joined [] ≡ 0
+pub joined_nil : joined [] ≡ 0
 unfolding joined
-joined-nil = refl
+joined_nil = refl
 
 -- ---- the loop that gathers them
 
@@ -46,16 +46,16 @@ pub record Gathering (s : List ℕ) (at size n i : ℕ) : Type 0 where
   pub same : n ≡ joined (take i (drop at s))
 
 pub begun : (s : List ℕ) (at size : ℕ) → Gathering s at size 0 0
-begun s at size = record { le = omega arith; small = pow_pos 0; same = sym joined-nil }
+begun s at size = record { le = omega arith; small = pow_pos 0; same = sym joined_nil }
 
-more-small : (n i b : ℕ) → n < 2 ^ (8 * i) → b < 256 → n * 256 + b < 2 ^ (8 * (i + 1))
-more-small n i b h k = subst (λ (x : ℕ). n * 256 + b < x) (sym (pow8 i)) (digits_lt h k)
+more_small : (n i b : ℕ) → n < 2 ^ (8 * i) → b < 256 → n * 256 + b < 2 ^ (8 * (i + 1))
+more_small n i b h k = subst (λ (x : ℕ). n * 256 + b < x) (sym (pow8 i)) (digits_lt h k)
 
-pub more-fits : (n i b : ℕ) → i < 8 → n < 2 ^ (8 * i) → b < 256 → n * 256 + b < 2 ^ 64
-more-fits n i b l h k = lt_of_lt_of_le (more-small n i b h k) (pow_mono {j = 64} (omega arith))
+pub more_fits : (n i b : ℕ) → i < 8 → n < 2 ^ (8 * i) → b < 256 → n * 256 + b < 2 ^ 64
+more_fits n i b l h k = lt_of_lt_of_le (more_small n i b h k) (pow_mono {j = 64} (omega arith))
 
-pub times-fits : (n i : ℕ) → n < 2 ^ (8 * i) → i < 8 → n * 256 < 2 ^ 64
-times-fits n i h k = omega (arith, more-fits n i 0 k h (lit< tt))
+pub times_fits : (n i : ℕ) → n < 2 ^ (8 * i) → i < 8 → n * 256 < 2 ^ 64
+times_fits n i h k = omega (arith, more_fits n i 0 k h (lit< tt))
 
 pub gathered : (s : List ℕ) (at size n i b : ℕ) → Gathering s at size n i → i < size → at + size ≤ length s → (b ≡ get_or s (at + i) 0) × (b < 256)
     → Gathering s at size (n * 256 + b) (i + 1)
@@ -63,8 +63,8 @@ gathered s at size n i b g h k eb =
     let l : i < length (drop at s) = omega (arith, length-drop at s) in
     record {
       le = omega arith;
-      small = more-small n i b g.small eb.1;
-      same = rw (add-one i, joined-suc (drop at s) i l, g.same, eb.0, get_or-drop at s i 0);
+      small = more_small n i b g.small eb.1;
+      same = rw (add-one i, joined_suc (drop at s) i l, g.same, eb.0, get_or-drop at s i 0);
     }
 
 pub all_read : (s : List ℕ) (at size n i : ℕ) → Gathering s at size n i → size ≤ i → (n ≡ joined (take size (drop at s))) × (n < 2 ^ (8 * size))
@@ -78,8 +78,8 @@ pow256 : (k : ℕ) → 256 ^ k ≡ 2 ^ (8 * k)
 pow256 zero = refl
 pow256 (suc k) = pow-suc 256 k ∙ ap (λ x. x * 256) (pow256 k) ∙ sym (pow8 k) ∙ ap (λ x. 2 ^ (8 * x)) (add-one k)
 
-pub joined-lt : (bs : List ℕ) → Octets bs → joined bs < 2 ^ (8 * length bs)
+pub joined_lt : (bs : List ℕ) → Octets bs → joined bs < 2 ^ (8 * length bs)
 unfolding joined
-joined-lt [] h = pow_pos 0
-joined-lt (b ∷ bs) h =
-    rw (pow256 (length bs), ← add-one (length bs), pow8 (length bs)) (omega (arith, digits_lt h.0 (joined-lt bs h.1)))
+joined_lt [] h = pow_pos 0
+joined_lt (b ∷ bs) h =
+    rw (pow256 (length bs), ← add-one (length bs), pow8 (length bs)) (omega (arith, digits_lt h.0 (joined_lt bs h.1)))

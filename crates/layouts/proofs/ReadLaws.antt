@@ -19,93 +19,93 @@ use lib.Pow.{shr_lt}
 use borrow.Author.Tests.{le-leb, lt-leb, lt-ltb, le-ltb, leb-true, leb-false, eqb-true}
 use Rattle.rules.specs.Answer.{Answer, ok, refused, ◌>>=◌, need◌or◌then◌, if◌then◌else◌}
 use Rattle.rules.specs.Field.{Field, Kind, spare, value, unsigned, signed, any, bits, half, get, unpack}
-use Rattle.rules.specs.Chain.{joined, readNum, readMany, readChain}
-use Rattle.rules.specs.Format.{Group, Format, fixed, repeated, led, extended, read_parts, groups, least, unpackAll, readPlain}
-use Rattle.rules.proofs.AnswerLaws.{Octets, both_left, both_right, need-bind, ok-inj, refused-ok, need-elim, bind-elim, if-inv, some_inj, none-some, octets-drop}
-use Rattle.rules.proofs.ChainLaws.{octets-take}
+use Rattle.rules.specs.Chain.{joined, read_num, read_many, read_chain}
+use Rattle.rules.specs.Format.{Group, Format, fixed, repeated, led, extended, read_parts, groups, least, unpack_all, read_plain}
+use Rattle.rules.proofs.AnswerLaws.{Octets, both_left, both_right, need_bind, ok_inj, refused_ok, need_elim, bind_elim, if_inv, some_inj, none_some, octets_drop}
+use Rattle.rules.proofs.ChainLaws.{octets_take}
 use Rattle.rules.specs.Catalogue.{categories}
 use Rattle.tables.specs.declared.tables.LayoutRow.{LayoutRow}
 use Rattle.tables.specs.Tables as t
-use Rattle.tables.specs.Tables.{groupCount, fields, fieldRow, groupIs, groupRows, noGroupRow, groupAt, formatIs, formatBy}
-use Rattle.tables.proofs.TableLaws.{fields_at, groups-long}
-use Rattle.layouts.specs.Read.{rows, rows_at, part_at, width, legal, values, span, holds, partSound, partsSound, partsLegal, faultAt, need◌or◌further◌then◌, partValues, Shaped, chain, head_of, step_of, listShape, shape_by, shape_of, readKind, read_by, isOctet, rowSound}
-use Rattle.layouts.proofs.FieldCodes.{Wide, width-bits, unpack-is}
-use Rattle.layouts.proofs.OctetLaws.{joined-lt}
-use Rattle.layouts.proofs.PartLaws.{PartSound, part_sound}
-use Rattle.layouts.proofs.ShapeLaws.{Rowed, rowed, fixed-one, led-many, led-size, led-octet, chain-ends, chain-inside}
+use Rattle.tables.specs.Tables.{group_count, fields, field_row, group_is, group_rows, no_group_row, group_at, format_is, format_by}
+use Rattle.tables.proofs.TableLaws.{fields_at, groups_long}
+use Rattle.layouts.specs.Read.{rows, rows_at, part_at, width, legal, values, span, holds, part_sound, parts_sound, parts_legal, fault_at, need◌or◌further◌then◌, part_values, Shaped, chain, head_of, step_of, list_shape, shape_by, shape_of, read_kind, read_by, is_octet, row_sound}
+use Rattle.layouts.proofs.FieldCodes.{Wide, width_bits, unpack_is}
+use Rattle.layouts.proofs.OctetLaws.{joined_lt}
+use Rattle.layouts.proofs.PartLaws.{PartSound, part_sound_lem}
+use Rattle.layouts.proofs.ShapeLaws.{Rowed, rowed, fixed_one, led_many, led_size, led_octet, chain_ends, chain_inside}
 
 -- ---- the fields of a group
 
-take-map : {A B : Type 0} (f : A → B) (k : ℕ) (l : List A) → take k (map f l) ≡ map f (take k l)
-take-map f zero l = refl
-take-map f (suc k) [] = refl
-take-map f (suc k) (a ∷ l) = ap (λ m. f a ∷ m) (take-map f k l)
+take_map : {A B : Type 0} (f : A → B) (k : ℕ) (l : List A) → take k (map f l) ≡ map f (take k l)
+take_map f zero l = refl
+take_map f (suc k) [] = refl
+take_map f (suc k) (a ∷ l) = ap (λ m. f a ∷ m) (take_map f k l)
 
-drop-map : {A B : Type 0} (f : A → B) (k : ℕ) (l : List A) → drop k (map f l) ≡ map f (drop k l)
-drop-map f zero l = refl
-drop-map f (suc k) [] = refl
-drop-map f (suc k) (a ∷ l) = drop-map f k l
+drop_map : {A B : Type 0} (f : A → B) (k : ℕ) (l : List A) → drop k (map f l) ≡ map f (drop k l)
+drop_map f zero l = refl
+drop_map f (suc k) [] = refl
+drop_map f (suc k) (a ∷ l) = drop_map f k l
 
-pub rows-map : (a e : ℕ) → rows a e ≡ map fieldRow (slice a e fields)
+pub rows_map : (a e : ℕ) → rows a e ≡ map field_row (slice a e fields)
 unfolding rows
-rows-map a e = ap (drop a) (take-map fieldRow e fields) ∙ drop-map fieldRow a (take e fields)
+rows_map a e = ap (drop a) (take_map field_row e fields) ∙ drop_map field_row a (take e fields)
 
-wide-take : (k : ℕ) (fs : List Field) → Wide fs → Wide (take k fs)
-wide-take zero fs h = tt
-wide-take (suc k) [] h = tt
-wide-take (suc k) (spare w ∷ fs) h = wide-take k fs h
-wide-take (suc k) (value w j ∷ fs) h = (h.0, wide-take k fs h.1)
+wide_take : (k : ℕ) (fs : List Field) → Wide fs → Wide (take k fs)
+wide_take zero fs h = tt
+wide_take (suc k) [] h = tt
+wide_take (suc k) (spare w ∷ fs) h = wide_take k fs h
+wide_take (suc k) (value w j ∷ fs) h = (h.0, wide_take k fs h.1)
 
-wide-drop : (k : ℕ) (fs : List Field) → Wide fs → Wide (drop k fs)
-wide-drop zero fs h = h
-wide-drop (suc k) [] h = tt
-wide-drop (suc k) (spare w ∷ fs) h = wide-drop k fs h
-wide-drop (suc k) (value w j ∷ fs) h = wide-drop k fs h.1
+wide_drop : (k : ℕ) (fs : List Field) → Wide fs → Wide (drop k fs)
+wide_drop zero fs h = h
+wide_drop (suc k) [] h = tt
+wide_drop (suc k) (spare w ∷ fs) h = wide_drop k fs h
+wide_drop (suc k) (value w j ∷ fs) h = wide_drop k fs h.1
 
 is_wide : List Field → Bool
 is_wide [] = true
 is_wide (spare w ∷ fs) = is_wide fs
 is_wide (value w k ∷ fs) = leb 1 w && is_wide fs
 
-is-wide : (fs : List Field) → is_wide fs ≡ true → Wide fs
+is_wide_lem : (fs : List Field) → is_wide fs ≡ true → Wide fs
 unfolding is_wide
-is-wide [] h = tt
-is-wide (spare w ∷ fs) h = is-wide fs h
-is-wide (value w k ∷ fs) h = (leb-true 1 w (both_left (leb 1 w) (is_wide fs) h), is-wide fs (both_right (leb 1 w) (is_wide fs) h))
+is_wide_lem [] h = tt
+is_wide_lem (spare w ∷ fs) h = is_wide_lem fs h
+is_wide_lem (value w k ∷ fs) h = (leb-true 1 w (both_left (leb 1 w) (is_wide fs) h), is_wide_lem fs (both_right (leb 1 w) (is_wide fs) h))
 
-wide-fields : Wide fields
+wide_fields : Wide fields
 unfolding is_wide fields t.groups t.layouts categories
-wide-fields = is-wide fields refl
+wide_fields = is_wide_lem fields refl
 
-pub wide-slice : (a e : ℕ) → Wide (slice a e fields)
-wide-slice a e = wide-drop a (take e fields) (wide-take e fields wide-fields)
+pub wide_slice : (a e : ℕ) → Wide (slice a e fields)
+wide_slice a e = wide_drop a (take e fields) (wide_take e fields wide_fields)
 
 -- a part's number fits its fields
-pub part_small : (step g : ℕ) (bs : List ℕ) → Octets bs → PartSound step (groupAt g) → (groupAt g).octets ≤ length bs → part_at step g bs < 2 ^ bits (fields_at g)
+pub part_small : (step g : ℕ) (bs : List ℕ) → Octets bs → PartSound step (group_at g) → (group_at g).octets ≤ length bs → part_at step g bs < 2 ^ bits (fields_at g)
 part_small step g bs o s h =
-    let l : length (take (groupAt g).octets bs) ≡ (groupAt g).octets = length-take-le (groupAt g).octets bs h in
-    let n : joined (take (groupAt g).octets bs) < 2 ^ (8 * (groupAt g).octets) =
-    subst (λ k. joined (take (groupAt g).octets bs) < 2 ^ (8 * k)) l (joined-lt (take (groupAt g).octets bs) (octets-take (groupAt g).octets bs o)) in
-    let w : width (rows_at g) ≡ bits (fields_at g) = ap width (rows-map (groupAt g).first (groupAt g).end) ∙ width-bits (fields_at g) in
-    let e : 8 * (groupAt g).octets ≡ bits (fields_at g) + step = omega (arith, s.whole) in
-    shr_lt (bits (fields_at g)) step (subst (λ k. joined (take (groupAt g).octets bs) < 2 ^ k) e n)
+    let l : length (take (group_at g).octets bs) ≡ (group_at g).octets = length-take-le (group_at g).octets bs h in
+    let n : joined (take (group_at g).octets bs) < 2 ^ (8 * (group_at g).octets) =
+    subst (λ k. joined (take (group_at g).octets bs) < 2 ^ (8 * k)) l (joined_lt (take (group_at g).octets bs) (octets_take (group_at g).octets bs o)) in
+    let w : width (rows_at g) ≡ bits (fields_at g) = ap width (rows_map (group_at g).first (group_at g).end) ∙ width_bits (fields_at g) in
+    let e : 8 * (group_at g).octets ≡ bits (fields_at g) + step = omega (arith, s.whole) in
+    shr_lt (bits (fields_at g)) step (subst (λ k. joined (take (group_at g).octets bs) < 2 ^ k) e n)
 
-part-is : (step g : ℕ) (bs : List ℕ) → Octets bs → PartSound step (groupAt g) → (groupAt g).octets ≤ length bs
+part_is : (step g : ℕ) (bs : List ℕ) → Octets bs → PartSound step (group_at g) → (group_at g).octets ≤ length bs
     → unpack (fields_at g) (part_at step g bs) ≡ (need legal (rows_at g) (part_at step g bs) or 11 then ok (values (rows_at g) (part_at step g bs)))
-part-is step g bs o s h =
-    rw (rows-map (groupAt g).first (groupAt g).end)
-    (unpack-is (fields_at g) (part_at step g bs) (wide-slice (groupAt g).first (groupAt g).end) (part_small step g bs o s h))
+part_is step g bs o s h =
+    rw (rows_map (group_at g).first (group_at g).end)
+    (unpack_is (fields_at g) (part_at step g bs) (wide_slice (group_at g).first (group_at g).end) (part_small step g bs o s h))
 
 -- ---- the parts of an item unpacked
 
-unfoldable partNumbers : ℕ → ℕ → ℕ → List ℕ → List ℕ
-partNumbers step g zero bs = []
-partNumbers step g (suc c) bs = part_at step g bs ∷ partNumbers step (g + step) c (drop (groupAt g).octets bs)
+unfoldable part_numbers : ℕ → ℕ → ℕ → List ℕ → List ℕ
+part_numbers step g zero bs = []
+part_numbers step g (suc c) bs = part_at step g bs ∷ part_numbers step (g + step) c (drop (group_at g).octets bs)
 
-length-numbers : (step g c : ℕ) (bs : List ℕ) → length (partNumbers step g c bs) ≡ c
-unfolding partNumbers
-length-numbers step g zero bs = refl
-length-numbers step g (suc c) bs = ap suc (length-numbers step (g + step) c (drop (groupAt g).octets bs))
+length_numbers : (step g c : ℕ) (bs : List ℕ) → length (part_numbers step g c bs) ≡ c
+unfolding part_numbers
+length_numbers step g zero bs = refl
+length_numbers step g (suc c) bs = ap suc (length_numbers step (g + step) c (drop (group_at g).octets bs))
 
 -- the fields of so many parts are those of the groups
 Grouping : ℕ → ℕ → ℕ → List (List Field) → Type 0
@@ -113,78 +113,78 @@ Grouping step g zero gs = Unit {0}
 Grouping step g (suc c) [] = ⊥
 Grouping step g (suc c) (fs ∷ gs) = (fs ≡ fields_at g) × Grouping step (g + step) c gs
 
-need-cons : (s t : Bool) (v : List ℤ) (vs : List (List ℤ))
+need_cons : (s t : Bool) (v : List ℤ) (vs : List (List ℤ))
     → ((need s or 11 then ok v) >>= (λ a. (need t or 11 then ok vs) >>= (λ as'. ok (a ∷ as')))) ≡ (need (s && t) or 11 then ok (v ∷ vs))
 unfolding need◌or◌then◌ ◌>>=◌
-need-cons true true v vs = refl
-need-cons true false v vs = refl
-need-cons false t v vs = refl
+need_cons true true v vs = refl
+need_cons true false v vs = refl
+need_cons false t v vs = refl
 
-unpacked : (step g c : ℕ) (gs : List (List Field)) (bs : List ℕ) → Octets bs → partsSound step g c ≡ true → span step g c ≤ length bs → Grouping step g c gs
-    → unpackAll gs (partNumbers step g c bs) ≡ (need partsLegal step g c bs or 11 then ok (partValues step g c bs))
-unfolding unpackAll partNumbers Grouping partsSound span partsLegal partValues need◌or◌then◌
+unpacked : (step g c : ℕ) (gs : List (List Field)) (bs : List ℕ) → Octets bs → parts_sound step g c ≡ true → span step g c ≤ length bs → Grouping step g c gs
+    → unpack_all gs (part_numbers step g c bs) ≡ (need parts_legal step g c bs or 11 then ok (part_values step g c bs))
+unfolding unpack_all part_numbers Grouping parts_sound span parts_legal part_values need◌or◌then◌
 unpacked step g zero gs bs o s h e = refl
 unpacked step g (suc c) [] bs o s h e = absurd e
 unpacked step g (suc c) (fs ∷ gs) bs o s h e =
-    let a = ltb g groupCount in
-    let b = partSound step (groupAt g) in
-    let d = partsSound step (g + step) c in
-    let p : PartSound step (groupAt g) = part_sound step (groupAt g) (both_right a b (both_left (a && b) d s)) in
-    rw (e.0, part-is step g bs o p (omega arith), unpacked step (g + step) c gs (drop (groupAt g).octets bs) (octets-drop (groupAt g).octets bs o) (both_right (a && b) d s) (omega (arith, length-drop (groupAt g).octets bs)) e.1)
-    (need-cons (legal (rows_at g) (part_at step g bs)) (partsLegal step (g + step) c (drop (groupAt g).octets bs)) _ _)
+    let a = ltb g group_count in
+    let b = part_sound step (group_at g) in
+    let d = parts_sound step (g + step) c in
+    let p : PartSound step (group_at g) = part_sound_lem step (group_at g) (both_right a b (both_left (a && b) d s)) in
+    rw (e.0, part_is step g bs o p (omega arith), unpacked step (g + step) c gs (drop (group_at g).octets bs) (octets_drop (group_at g).octets bs o) (both_right (a && b) d s) (omega (arith, length-drop (group_at g).octets bs)) e.1)
+    (need_cons (legal (rows_at g) (part_at step g bs)) (parts_legal step (g + step) c (drop (group_at g).octets bs)) _ _)
 
 -- ---- lists and other equal parts
 
-pub le-or-lt : (a b : ℕ) → (a ≤ b) ⊎ (b < a)
-le-or-lt a b = go (leb a b) refl
+pub le_or_lt : (a b : ℕ) → (a ≤ b) ⊎ (b < a)
+le_or_lt a b = go (leb a b) refl
   where
     go : (t : Bool) → leb a b ≡ t → (a ≤ b) ⊎ (b < a)
     go true e = inl (leb-true a b e)
     go false e = inr (leb-false a b e)
 
 -- a test, both ways
-pub same-leb : (a b c d : ℕ) → (a ≤ b → c ≤ d) → (c ≤ d → a ≤ b) → leb a b ≡ leb c d
-same-leb a b c d f g =
+pub same_leb : (a b c d : ℕ) → (a ≤ b → c ≤ d) → (c ≤ d → a ≤ b) → leb a b ≡ leb c d
+same_leb a b c d f g =
     ⊎_elim
     (λ h. le-leb a b h ∙ sym (le-leb c d (f h)))
-    (λ h. lt-leb a b h ∙ sym (lt-leb c d (⊎_elim (λ k. absurd (omega (arith, g k))) (λ k. k) (le-or-lt c d))))
-    (le-or-lt a b)
+    (λ h. lt-leb a b h ∙ sym (lt-leb c d (⊎_elim (λ k. absurd (omega (arith, g k))) (λ k. k) (le_or_lt c d))))
+    (le_or_lt a b)
 
 many_is : (g c : ℕ) (bs : List ℕ)
-    → readMany (groupAt g).octets c bs ≡ (need leb (c * (groupAt g).octets) (length bs) or 9 then ok (partNumbers 0 g c bs, drop (c * (groupAt g).octets) bs))
-unfolding readMany readNum partNumbers ◌>>=◌ need◌or◌then◌
-many_is g zero bs = rw (zero-mul (groupAt g).octets, leb-zero (length bs))
+    → read_many (group_at g).octets c bs ≡ (need leb (c * (group_at g).octets) (length bs) or 9 then ok (part_numbers 0 g c bs, drop (c * (group_at g).octets) bs))
+unfolding read_many read_num part_numbers ◌>>=◌ need◌or◌then◌
+many_is g zero bs = rw (zero-mul (group_at g).octets, leb-zero (length bs))
 many_is g (suc c) bs =
-    let k = (groupAt g).octets in
+    let k = (group_at g).octets in
     ⊎_elim
     (λ (h : k ≤ length bs).
     let m : leb (c * k) (length (drop k bs)) ≡ leb (suc c * k) (length bs) =
-    same-leb (c * k) (length (drop k bs)) (suc c * k) (length bs) (λ l. omega (arith, l, length-drop k bs)) (λ l. omega (arith, l, length-drop k bs)) in
+    same_leb (c * k) (length (drop k bs)) (suc c * k) (length bs) (λ l. omega (arith, l, length-drop k bs)) (λ l. omega (arith, l, length-drop k bs)) in
     let a : k + c * k ≡ suc c * k = omega arith in
     let d : drop (c * k) (drop k bs) ≡ drop (suc c * k) bs = drop-drop (c * k) k bs ∙ ap (λ j. drop j bs) a in
     rw (le-leb k (length bs) h, many_is g c (drop k bs), m, d, add-zero g, div-one (joined (take k bs)))
-    (need-bind (leb (suc c * k) (length bs)) 9 (ok (partNumbers 0 g c (drop k bs), drop (suc c * k) bs)) _))
+    (need_bind (leb (suc c * k) (length bs)) 9 (ok (part_numbers 0 g c (drop k bs), drop (suc c * k) bs)) _))
     (λ (h : length bs < k).
     rw (lt-leb k (length bs) h, lt-leb (suc c * k) (length bs) (omega arith)))
-    (le-or-lt k (length bs))
+    (le_or_lt k (length bs))
 
-pub span-equal : (g c : ℕ) → span 0 g c ≡ c * (groupAt g).octets
+pub span_equal : (g c : ℕ) → span 0 g c ≡ c * (group_at g).octets
 unfolding span
-span-equal g zero = sym (zero-mul (groupAt g).octets)
-span-equal g (suc c) = rw (add-zero g, span-equal g c) (omega arith)
+span_equal g zero = sym (zero-mul (group_at g).octets)
+span_equal g (suc c) = rw (add-zero g, span_equal g c) (omega arith)
 
 -- of one octet each
-many-one : (g c : ℕ) (bs : List ℕ) → (groupAt g).octets ≡ 1 → readMany 1 c bs ≡ (need leb c (length bs) or 9 then ok (partNumbers 0 g c bs, drop c bs))
-many-one g c bs one = rw mul-one at (rw one at (many_is g c bs))
+many_one : (g c : ℕ) (bs : List ℕ) → (group_at g).octets ≡ 1 → read_many 1 c bs ≡ (need leb c (length bs) or 9 then ok (part_numbers 0 g c bs, drop c bs))
+many_one g c bs one = rw mul-one at (rw one at (many_is g c bs))
 
-span-one : (g c : ℕ) → (groupAt g).octets ≡ 1 → span 0 g c ≡ c
-span-one g c one = span-equal g c ∙ ap (λ x. c * x) one ∙ mul-one c
+span_one : (g c : ℕ) → (group_at g).octets ≡ 1 → span 0 g c ≡ c
+span_one g c one = span_equal g c ∙ ap (λ x. c * x) one ∙ mul-one c
 
-grouping-equal : (g c hi : ℕ) (fs : List Field) → fs ≡ fields_at g → c ≤ hi → Grouping 0 g c (replicate hi fs)
+grouping_equal : (g c hi : ℕ) (fs : List Field) → fs ≡ fields_at g → c ≤ hi → Grouping 0 g c (replicate hi fs)
 unfolding Grouping
-grouping-equal g zero hi fs e h = tt
-grouping-equal g (suc c) zero fs e h = absurd (not-suc-le-zero h)
-grouping-equal g (suc c) (suc hi) fs e h = (e, subst (λ x. Grouping 0 x c (replicate hi fs)) (sym (add-zero g)) (grouping-equal g c hi fs e (le_of_suc-le-suc h)))
+grouping_equal g zero hi fs e h = tt
+grouping_equal g (suc c) zero fs e h = absurd (not-suc-le-zero h)
+grouping_equal g (suc c) (suc hi) fs e h = (e, subst (λ x. Grouping 0 x c (replicate hi fs)) (sym (add-zero g)) (grouping_equal g c hi fs e (le_of_suc-le-suc h)))
 
 -- ---- an item whose octets are there
 
@@ -193,162 +193,162 @@ pub data Eleven {A : Type 0} (m : Answer A) : Type 0 where
   fine : (a : A) → m ≡ ok a → Eleven m
   eleven : m ≡ refused 11 0 → Eleven m
 
-eleven-need : {A : Type 0} (t : Bool) (x : Answer A) → Eleven x → Eleven (need t or 11 then x)
+eleven_need : {A : Type 0} (t : Bool) (x : Answer A) → Eleven x → Eleven (need t or 11 then x)
 unfolding need◌or◌then◌
-eleven-need true x e = e
-eleven-need false x e = eleven refl
+eleven_need true x e = e
+eleven_need false x e = eleven refl
 
-eleven-bind : {A B : Type 0} (m : Answer A) (f : A → Answer B) → Eleven m → ((a : A) → Eleven (f a)) → Eleven (m >>= f)
+eleven_bind : {A B : Type 0} (m : Answer A) (f : A → Answer B) → Eleven m → ((a : A) → Eleven (f a)) → Eleven (m >>= f)
 unfolding ◌>>=◌
-eleven-bind m f (fine a e) h = rw e (h a)
-eleven-bind m f (eleven e) h = rw e (eleven refl)
+eleven_bind m f (fine a e) h = rw e (h a)
+eleven_bind m f (eleven e) h = rw e (eleven refl)
 
-eleven-get : (w c : ℕ) (k : Kind) → Eleven (get w k c)
+eleven_get : (w c : ℕ) (k : Kind) → Eleven (get w k c)
 unfolding get if◌then◌else◌
-eleven-get w c (unsigned lo hi) = eleven-need _ _ (eleven-need _ _ (fine _ refl))
-eleven-get w c (signed lo hi) = go (ltb c (half w))
+eleven_get w c (unsigned lo hi) = eleven_need _ _ (eleven_need _ _ (fine _ refl))
+eleven_get w c (signed lo hi) = go (ltb c (half w))
   where
     go : (t : Bool) → Eleven (if t then need leb c hi or 11 then ok (pos c) else need ltb c (half w + half w) or 11 then need ltb (half w + half w - suc c) lo or 11 then ok (negsuc (half w + half w - suc c)))
-    go true = eleven-need _ _ (fine _ refl)
-    go false = eleven-need _ _ (eleven-need _ _ (fine _ refl))
+    go true = eleven_need _ _ (fine _ refl)
+    go false = eleven_need _ _ (eleven_need _ _ (fine _ refl))
 
-eleven-unpack : (fs : List Field) (n : ℕ) → Eleven (unpack fs n)
+eleven_unpack : (fs : List Field) (n : ℕ) → Eleven (unpack fs n)
 unfolding unpack
-eleven-unpack [] n = eleven-need _ _ (fine _ refl)
-eleven-unpack (spare w ∷ fs) n = eleven-need _ _ (eleven-unpack fs _)
-eleven-unpack (value w k ∷ fs) n = eleven-bind _ _ (eleven-get w _ k) (λ v. eleven-need _ _ (eleven-bind _ _ (eleven-unpack fs _) (λ vs. fine _ refl)))
+eleven_unpack [] n = eleven_need _ _ (fine _ refl)
+eleven_unpack (spare w ∷ fs) n = eleven_need _ _ (eleven_unpack fs _)
+eleven_unpack (value w k ∷ fs) n = eleven_bind _ _ (eleven_get w _ k) (λ v. eleven_need _ _ (eleven_bind _ _ (eleven_unpack fs _) (λ vs. fine _ refl)))
 
 -- more parts than there may be
-too_many : (gs : List (List Field)) (ns : List ℕ) → length gs < length ns → unpackAll gs ns ≡ refused 11 0
-unfolding unpackAll ◌>>=◌
+too_many : (gs : List (List Field)) (ns : List ℕ) → length gs < length ns → unpack_all gs ns ≡ refused 11 0
+unfolding unpack_all ◌>>=◌
 too_many gs [] h = absurd (not-suc-le-zero h)
 too_many [] (n ∷ ns) h = refl
-too_many (fs ∷ gs) (n ∷ ns) h = go (eleven-unpack fs n) (too_many gs ns (le_of_suc-le-suc h))
+too_many (fs ∷ gs) (n ∷ ns) h = go (eleven_unpack fs n) (too_many gs ns (le_of_suc-le-suc h))
   where
-    go : Eleven (unpack fs n) → unpackAll gs ns ≡ refused 11 0 → (unpack fs n >>= (λ v. unpackAll gs ns >>= (λ vs. ok (v ∷ vs)))) ≡ refused 11 0
+    go : Eleven (unpack fs n) → unpack_all gs ns ≡ refused 11 0 → (unpack fs n >>= (λ v. unpack_all gs ns >>= (λ vs. ok (v ∷ vs)))) ≡ refused 11 0
     go (fine v e) t = rw (e, t)
     go (eleven e) t = rw e
 
 -- the fields of a part refuse at the item's start
-fault-start : (step g c at : ℕ) (bs : List ℕ) → faultAt step g c at bs ≡ 0
-unfolding faultAt
-fault-start step g c at bs = refl
+fault_start : (step g c at : ℕ) (bs : List ℕ) → fault_at step g c at bs ≡ 0
+unfolding fault_at
+fault_start step g c at bs = refl
 
-need-with : {A B : Type 0} (t : Bool) (a : A) (b : B) {p : ℕ} → p ≡ 0 → ◌>>=◌ {B = A × B} (need t or 11 then ok a) (λ x. ok (x, b)) ≡ (need t or 11 further p then ok (a, b))
+need_with : {A B : Type 0} (t : Bool) (a : A) (b : B) {p : ℕ} → p ≡ 0 → ◌>>=◌ {B = A × B} (need t or 11 then ok a) (λ x. ok (x, b)) ≡ (need t or 11 further p then ok (a, b))
 unfolding need◌or◌then◌ need◌or◌further◌then◌ ◌>>=◌
-need-with true a b e = refl
-need-with false a b e = ap (refused 11) (sym e)
+need_with true a b e = refl
+need_with false a b e = ap (refused 11) (sym e)
 
-pub further-elim : {A C : Type 0} (t : Bool) (n p : ℕ) (x : Answer A) {a : A} → (need t or n further p then x) ≡ ok a → (t ≡ true → x ≡ ok a → C) → C
+pub further_elim : {A C : Type 0} (t : Bool) (n p : ℕ) (x : Answer A) {a : A} → (need t or n further p then x) ≡ ok a → (t ≡ true → x ≡ ok a → C) → C
 unfolding need◌or◌further◌then◌
-further-elim true n p x h k = k refl h
-further-elim false n p x h k = refused-ok h
+further_elim true n p x h k = k refl h
+further_elim false n p x h k = refused_ok h
 
 module _ (l : Format) (bs : List ℕ) where
-  stopped : (n p : ℕ) → read_parts l bs ≡ refused n p → readPlain l bs ≡ refused n p
-  unfolding readPlain ◌>>=◌
+  stopped : (n p : ℕ) → read_parts l bs ≡ refused n p → read_plain l bs ≡ refused n p
+  unfolding read_plain ◌>>=◌
   stopped n p e = rw e
 
-  too_few : (ns rest : List ℕ) → read_parts l bs ≡ ok (ns, rest) → length ns < least l → readPlain l bs ≡ refused 11 0
-  unfolding readPlain ◌>>=◌ need◌or◌then◌
+  too_few : (ns rest : List ℕ) → read_parts l bs ≡ ok (ns, rest) → length ns < least l → read_plain l bs ≡ refused 11 0
+  unfolding read_plain ◌>>=◌ need◌or◌then◌
   too_few ns rest e h = rw (e, lt-leb (least l) (length ns) h)
 
-  past-groups : (ns rest : List ℕ) → read_parts l bs ≡ ok (ns, rest) → least l ≤ length ns → length (groups l) < length ns → readPlain l bs ≡ refused 11 0
-  unfolding readPlain ◌>>=◌ need◌or◌then◌
-  past-groups ns rest e h k = rw (e, le-leb (least l) (length ns) h, too_many (groups l) ns k)
+  past_groups : (ns rest : List ℕ) → read_parts l bs ≡ ok (ns, rest) → least l ≤ length ns → length (groups l) < length ns → read_plain l bs ≡ refused 11 0
+  unfolding read_plain ◌>>=◌ need◌or◌then◌
+  past_groups ns rest e h k = rw (e, le-leb (least l) (length ns) h, too_many (groups l) ns k)
 
-  all_there : (step g c at : ℕ) (ds rest : List ℕ) → read_parts l bs ≡ ok (partNumbers step g c ds, rest) → least l ≤ c → Octets ds → partsSound step g c ≡ true → span step g c ≤ length ds
-      → Grouping step g c (groups l) → readPlain l bs ≡ (need partsLegal step g c ds or 11 further faultAt step g c at bs then ok (partValues step g c ds, rest))
-  unfolding readPlain ◌>>=◌ need◌or◌then◌
+  all_there : (step g c at : ℕ) (ds rest : List ℕ) → read_parts l bs ≡ ok (part_numbers step g c ds, rest) → least l ≤ c → Octets ds → parts_sound step g c ≡ true → span step g c ≤ length ds
+      → Grouping step g c (groups l) → read_plain l bs ≡ (need parts_legal step g c ds or 11 further fault_at step g c at bs then ok (part_values step g c ds, rest))
+  unfolding read_plain ◌>>=◌ need◌or◌then◌
   all_there step g c at ds rest e h o s k u =
-      rw (e, le-leb (least l) (length (partNumbers step g c ds)) (subst (λ x. least l ≤ x) (sym (length-numbers step g c ds)) h), unpacked step g c (groups l) ds o s k u)
-      (need-with (partsLegal step g c ds) (partValues step g c ds) rest (fault-start step g c at bs))
+      rw (e, le-leb (least l) (length (part_numbers step g c ds)) (subst (λ x. least l ≤ x) (sym (length_numbers step g c ds)) h), unpacked step g c (groups l) ds o s k u)
+      (need_with (parts_legal step g c ds) (part_values step g c ds) rest (fault_start step g c at bs))
 
 -- fewer parts
-pub parts-fewer : (step g c d : ℕ) → c ≤ d → partsSound step g d ≡ true → partsSound step g c ≡ true
-unfolding partsSound
-parts-fewer step g zero d h e = refl
-parts-fewer step g (suc c) zero h e = absurd (not-suc-le-zero h)
-parts-fewer step g (suc c) (suc d) h e =
-    let a = ltb g groupCount && partSound step (groupAt g) in
-    rw (both_left a (partsSound step (g + step) d) e) (parts-fewer step (g + step) c d (le_of_suc-le-suc h) (both_right a (partsSound step (g + step) d) e))
+pub parts_fewer : (step g c d : ℕ) → c ≤ d → parts_sound step g d ≡ true → parts_sound step g c ≡ true
+unfolding parts_sound
+parts_fewer step g zero d h e = refl
+parts_fewer step g (suc c) zero h e = absurd (not-suc-le-zero h)
+parts_fewer step g (suc c) (suc d) h e =
+    let a = ltb g group_count && part_sound step (group_at g) in
+    rw (both_left a (parts_sound step (g + step) d) e) (parts_fewer step (g + step) c d (le_of_suc-le-suc h) (both_right a (parts_sound step (g + step) d) e))
 
 -- the octet before the parts
-head-is : (bs : List ℕ) → 1 ≤ length bs → readNum 9 1 bs ≡ ok (get_or bs 0 0, drop 1 bs)
-unfolding readNum joined need◌or◌then◌
-head-is [] h = absurd (not-suc-le-zero h)
-head-is (b ∷ bs) h =
+head_is : (bs : List ℕ) → 1 ≤ length bs → read_num 9 1 bs ≡ ok (get_or bs 0 0, drop 1 bs)
+unfolding read_num joined need◌or◌then◌
+head_is [] h = absurd (not-suc-le-zero h)
+head_is (b ∷ bs) h =
     let e : b * 1 + 0 ≡ b = omega arith in
     rw (le-leb 1 (suc (length bs)) h, e)
 
-no-head : (bs : List ℕ) → length bs < 1 → readNum 9 1 bs ≡ refused 9 0
-unfolding readNum need◌or◌then◌
-no-head bs h = rw (lt-leb 1 (length bs) h)
+no_head_lem : (bs : List ℕ) → length bs < 1 → read_num 9 1 bs ≡ refused 9 0
+unfolding read_num need◌or◌then◌
+no_head_lem bs h = rw (lt-leb 1 (length bs) h)
 
-octet-small : (bs : List ℕ) → Octets bs → get_or bs 0 0 < 256
-octet-small [] o = lit< tt
-octet-small (b ∷ bs) o = o.0
+octet_small : (bs : List ℕ) → Octets bs → get_or bs 0 0 < 256
+octet_small [] o = lit< tt
+octet_small (b ∷ bs) o = o.0
 
-octet-is : (fs : List Field) → isOctet fs ≡ true → fs ≡ any 8 ∷ []
-octet-is [] e = absurd (false≢true e)
-octet-is (spare w ∷ fs) e = absurd (false≢true e)
-octet-is (value w (unsigned lo hi) ∷ []) e =
+octet_is : (fs : List Field) → is_octet fs ≡ true → fs ≡ any 8 ∷ []
+octet_is [] e = absurd (false≢true e)
+octet_is (spare w ∷ fs) e = absurd (false≢true e)
+octet_is (value w (unsigned lo hi) ∷ []) e =
     let u = both_left (eqb w 8 && eqb lo 0) (eqb hi 255) e in
     let a : w ≡ 8 = eqb-true w 8 (both_left (eqb w 8) (eqb lo 0) u) in
     let b : lo ≡ 0 = eqb-true lo 0 (both_right (eqb w 8) (eqb lo 0) u) in
     let c : hi ≡ 255 = eqb-true hi 255 (both_right (eqb w 8 && eqb lo 0) (eqb hi 255) e) in
     rw (a, b, c)
-octet-is (value w (unsigned lo hi) ∷ (f ∷ fs)) e = absurd (false≢true e)
-octet-is (value w (signed lo hi) ∷ fs) e = absurd (false≢true e)
+octet_is (value w (unsigned lo hi) ∷ (f ∷ fs)) e = absurd (false≢true e)
+octet_is (value w (signed lo hi) ∷ fs) e = absurd (false≢true e)
 
 -- ---- parts with an FX bit
 
-abbrev allGroups : List Group
-allGroups = map groupIs (groupRows 0 t.groups)
+abbrev all_groups : List Group
+all_groups = map group_is (group_rows 0 t.groups)
 
-all-groups : length allGroups ≡ groupCount
-all-groups = length-map (groupRows 0 t.groups) groupIs ∙ groups-long
+all_groups_lem : length all_groups ≡ group_count
+all_groups_lem = length-map (group_rows 0 t.groups) group_is ∙ groups_long
 
-groups-cons : (g e : ℕ) → g < e → e ≤ groupCount → slice g e allGroups ≡ groupIs (groupAt g) ∷ slice (g + 1) e allGroups
-unfolding groupAt
-groups-cons g e h k =
+groups_cons : (g e : ℕ) → g < e → e ≤ group_count → slice g e all_groups ≡ group_is (group_at g) ∷ slice (g + 1) e all_groups
+unfolding group_at
+groups_cons g e h k =
     rw (add-one g)
-    (slice-cons g e allGroups (groupIs noGroupRow) h (subst (λ n. e ≤ n) (sym all-groups) k)
-    ∙ ap (λ x. x ∷ slice (suc g) e allGroups) (get_or-map groupIs (groupRows 0 t.groups) g noGroupRow))
+    (slice-cons g e all_groups (group_is no_group_row) h (subst (λ n. e ≤ n) (sym all_groups_lem) k)
+    ∙ ap (λ x. x ∷ slice (suc g) e all_groups) (get_or-map group_is (group_rows 0 t.groups) g no_group_row))
 
 -- what a chain's shape says of its parts
-chainParts : ℕ → List ℕ → Shaped → Answer (List ℕ × List ℕ)
-chainParts g bs s = ok (partNumbers 1 g s.0 bs, drop s.1 bs)
+chain_parts : ℕ → List ℕ → Shaped → Answer (List ℕ × List ℕ)
+chain_parts g bs s = ok (part_numbers 1 g s.0 bs, drop s.1 bs)
 
 chain_next : (g : ℕ) (bs : List ℕ) (m : Answer Shaped)
-    → ◌>>=◌ {B = List ℕ × List ℕ} (m >>= chainParts (g + 1) (drop (groupAt g).octets bs)) (λ x. ok (part_at 1 g bs ∷ x.0, x.1))
-    ≡ (◌>>=◌ {B = Shaped} m (λ s. ok (s.0 + 1, s.1 + (groupAt g).octets)) >>= chainParts g bs)
-unfolding ◌>>=◌ chainParts partNumbers
+    → ◌>>=◌ {B = List ℕ × List ℕ} (m >>= chain_parts (g + 1) (drop (group_at g).octets bs)) (λ x. ok (part_at 1 g bs ∷ x.0, x.1))
+    ≡ (◌>>=◌ {B = Shaped} m (λ s. ok (s.0 + 1, s.1 + (group_at g).octets)) >>= chain_parts g bs)
+unfolding ◌>>=◌ chain_parts part_numbers
 chain_next g bs (ok s) =
-    let c : (groupAt g).octets + s.1 ≡ s.1 + (groupAt g).octets = omega arith in
-    rw (add-one s.0, drop-drop s.1 (groupAt g).octets bs, c)
+    let c : (group_at g).octets + s.1 ≡ s.1 + (group_at g).octets = omega arith in
+    rw (add-one s.0, drop-drop s.1 (group_at g).octets bs, c)
 chain_next g bs (refused n p) = refl
 
-chain-is : (n g e : ℕ) (bs : List ℕ) → g + n ≡ e → e ≤ groupCount → readChain 9 6 (map (λ x. x.size) (slice g e allGroups)) bs ≡ (chain g n bs >>= chainParts g bs)
-unfolding chain readChain readNum chainParts partNumbers ◌>>=◌ need◌or◌then◌ if◌then◌else◌
-chain-is zero g e bs h k =
+chain_is : (n g e : ℕ) (bs : List ℕ) → g + n ≡ e → e ≤ group_count → read_chain 9 6 (map (λ x. x.size) (slice g e all_groups)) bs ≡ (chain g n bs >>= chain_parts g bs)
+unfolding chain read_chain read_num chain_parts part_numbers ◌>>=◌ need◌or◌then◌ if◌then◌else◌
+chain_is zero g e bs h k =
     let j : g ≡ e = omega arith in
-    rw (j, slice_empty e allGroups)
-chain-is (suc n) g e bs h k =
-    let j = (groupAt g).octets in
+    rw (j, slice_empty e all_groups)
+chain_is (suc n) g e bs h k =
+    let j = (group_at g).octets in
     let m : g + 1 + n ≡ e = omega arith in
-    rw (groups-cons g e (omega arith) k)
+    rw (groups_cons g e (omega arith) k)
     (⊎_elim
-    (λ (l : j ≤ length bs). rw (le-leb j (length bs) l) (go (eqb (joined (take j bs) % 2) 0) (chain-is n (g + 1) e (drop j bs) m k)))
+    (λ (l : j ≤ length bs). rw (le-leb j (length bs) l) (go (eqb (joined (take j bs) % 2) 0) (chain_is n (g + 1) e (drop j bs) m k)))
     (λ (l : length bs < j). rw (lt-leb j (length bs) l))
-    (le-or-lt j (length bs)))
+    (le_or_lt j (length bs)))
   where
-    go : (t : Bool) → readChain 9 6 (map (λ x. x.size) (slice (g + 1) e allGroups)) (drop (groupAt g).octets bs) ≡ (chain (g + 1) n (drop (groupAt g).octets bs) >>= chainParts (g + 1) (drop (groupAt g).octets bs))
-        → (if t then ok (part_at 1 g bs ∷ [], drop (groupAt g).octets bs)
-        else ◌>>=◌ {B = List ℕ × List ℕ} (readChain 9 6 (map (λ x. x.size) (slice (g + 1) e allGroups)) (drop (groupAt g).octets bs)) (λ x. ok (part_at 1 g bs ∷ x.0, x.1)))
-        ≡ ((if t then ok (1, (groupAt g).octets) else ◌>>=◌ {B = Shaped} (chain (g + 1) n (drop (groupAt g).octets bs)) (λ s. ok (s.0 + 1, s.1 + (groupAt g).octets))) >>= chainParts g bs)
+    go : (t : Bool) → read_chain 9 6 (map (λ x. x.size) (slice (g + 1) e all_groups)) (drop (group_at g).octets bs) ≡ (chain (g + 1) n (drop (group_at g).octets bs) >>= chain_parts (g + 1) (drop (group_at g).octets bs))
+        → (if t then ok (part_at 1 g bs ∷ [], drop (group_at g).octets bs)
+        else ◌>>=◌ {B = List ℕ × List ℕ} (read_chain 9 6 (map (λ x. x.size) (slice (g + 1) e all_groups)) (drop (group_at g).octets bs)) (λ x. ok (part_at 1 g bs ∷ x.0, x.1)))
+        ≡ ((if t then ok (1, (group_at g).octets) else ◌>>=◌ {B = Shaped} (chain (g + 1) n (drop (group_at g).octets bs)) (λ s. ok (s.0 + 1, s.1 + (group_at g).octets))) >>= chain_parts g bs)
     go true r = refl
-    go false r = rw r (chain_next g bs (chain (g + 1) n (drop (groupAt g).octets bs)))
+    go false r = rw r (chain_next g bs (chain (g + 1) n (drop (group_at g).octets bs)))
 
 -- the parts that a chain has
 pub record Chained (g n c long : ℕ) (bs : List ℕ) : Type 0 where
@@ -359,58 +359,58 @@ pub record Chained (g n c long : ℕ) (bs : List ℕ) : Type 0 where
 
 pub chained : (n g : ℕ) (bs : List ℕ) (s : Shaped) → chain g n bs ≡ ok s → Chained g n s.0 s.1 bs
 unfolding chain span
-chained zero g bs s h = refused-ok h
+chained zero g bs s h = refused_ok h
 chained (suc n) g bs s h =
-    need-elim (leb (groupAt g).octets (length bs)) 9 _ h λ l h₁.
+    need_elim (leb (group_at g).octets (length bs)) 9 _ h λ l h₁.
     ⊎_elim
-    (λ (t, u). one l (ok-inj u))
-    (λ (t, u). bind-elim (chain (g + 1) n (drop (groupAt g).octets bs)) _ u λ x p h₂. more x l (chained n (g + 1) (drop (groupAt g).octets bs) x p) (ok-inj h₂))
-    (if-inv (eqb (joined (take (groupAt g).octets bs) % 2) 0) _ _ h₁)
+    (λ (t, u). one l (ok_inj u))
+    (λ (t, u). bind_elim (chain (g + 1) n (drop (group_at g).octets bs)) _ u λ x p h₂. more x l (chained n (g + 1) (drop (group_at g).octets bs) x p) (ok_inj h₂))
+    (if_inv (eqb (joined (take (group_at g).octets bs) % 2) 0) _ _ h₁)
   where
-    one : T (leb (groupAt g).octets (length bs)) → ◌≡◌ {A = Shaped} (1, (groupAt g).octets) s → Chained g (suc n) s.0 s.1 bs
-    one l e = subst (λ (x : Shaped). Chained g (suc n) x.0 x.1 bs) e (record { some = lit≤ tt; few = omega arith; spans = add-zero (groupAt g).octets; there = leb→le _ _ l })
+    one : T (leb (group_at g).octets (length bs)) → ◌≡◌ {A = Shaped} (1, (group_at g).octets) s → Chained g (suc n) s.0 s.1 bs
+    one l e = subst (λ (x : Shaped). Chained g (suc n) x.0 x.1 bs) e (record { some = lit≤ tt; few = omega arith; spans = add-zero (group_at g).octets; there = leb→le _ _ l })
 
-    more : (x : Shaped) → T (leb (groupAt g).octets (length bs)) → Chained (g + 1) n x.0 x.1 (drop (groupAt g).octets bs) → ◌≡◌ {A = Shaped} (x.0 + 1, x.1 + (groupAt g).octets) s → Chained g (suc n) s.0 s.1 bs
+    more : (x : Shaped) → T (leb (group_at g).octets (length bs)) → Chained (g + 1) n x.0 x.1 (drop (group_at g).octets bs) → ◌≡◌ {A = Shaped} (x.0 + 1, x.1 + (group_at g).octets) s → Chained g (suc n) s.0 s.1 bs
     more x l d e =
-        let h : (groupAt g).octets ≤ length bs = leb→le _ _ l in
+        let h : (group_at g).octets ≤ length bs = leb→le _ _ l in
         subst (λ (y : Shaped). Chained g (suc n) y.0 y.1 bs) e
         (record {
           some = omega arith;
           few = omega (arith, d.few);
           spans = rw (add-one x.0, d.spans) (omega arith);
-          there = omega (arith, d.there, length-drop (groupAt g).octets bs);
+          there = omega (arith, d.there, length-drop (group_at g).octets bs);
         })
 
-grouping-chain : (c g e : ℕ) → g + c ≤ e → e ≤ groupCount → Grouping 1 g c (map (λ x. x.fields) (slice g e allGroups))
+grouping_chain : (c g e : ℕ) → g + c ≤ e → e ≤ group_count → Grouping 1 g c (map (λ x. x.fields) (slice g e all_groups))
 unfolding Grouping
-grouping-chain zero g e h k = tt
-grouping-chain (suc c) g e h k = rw (groups-cons g e (omega arith) k) (refl, grouping-chain c (g + 1) e (omega arith) k)
+grouping_chain zero g e h k = tt
+grouping_chain (suc c) g e h k = rw (groups_cons g e (omega arith) k) (refl, grouping_chain c (g + 1) e (omega arith) k)
 
 -- ---- by how the parts lie
 
 module _ (lo hi a e : ℕ) (bs : List ℕ) (o : Octets bs) where
   -- one part
-  fixed_reads : partsSound 0 a 1 ≡ true → readPlain (fixed (groupIs (groupAt a))) bs ≡ readKind 1 lo hi a e bs
+  fixed_reads : parts_sound 0 a 1 ≡ true → read_plain (fixed (group_is (group_at a))) bs ≡ read_kind 1 lo hi a e bs
   unfolding shape_by read_parts Grouping need◌or◌then◌ ◌>>=◌
   fixed_reads s =
-      let k = (groupAt a).octets in
+      let k = (group_at a).octets in
       let j : 1 * k ≡ k = omega arith in
       let m = rw j at (many_is a 1 bs) in
       ⊎_elim
       (λ (h : k ≤ length bs).
-      let r : read_parts (fixed (groupIs (groupAt a))) bs ≡ ok (partNumbers 0 a 1 bs, drop k bs) = rw (m, le-leb k (length bs) h) in
-      all_there (fixed (groupIs (groupAt a))) bs 0 a 1 0 bs (drop k bs) r (lit≤ tt) o s (omega (arith, span-equal a 1)) (refl, tt)
+      let r : read_parts (fixed (group_is (group_at a))) bs ≡ ok (part_numbers 0 a 1 bs, drop k bs) = rw (m, le-leb k (length bs) h) in
+      all_there (fixed (group_is (group_at a))) bs 0 a 1 0 bs (drop k bs) r (lit≤ tt) o s (omega (arith, span_equal a 1)) (refl, tt)
       ∙ rw (le-leb k (length bs) h))
       (λ (h : length bs < k).
-      stopped (fixed (groupIs (groupAt a))) bs 9 0 (rw (m, lt-leb k (length bs) h)) ∙ rw (lt-leb k (length bs) h))
-      (le-or-lt k (length bs))
+      stopped (fixed (group_is (group_at a))) bs 9 0 (rw (m, lt-leb k (length bs) h)) ∙ rw (lt-leb k (length bs) h))
+      (le_or_lt k (length bs))
 
   -- a count octet and parts
-  list-reads : partsSound 0 a hi ≡ true → readPlain (repeated lo hi (groupIs (groupAt a))) bs ≡ readKind 2 lo hi a e bs
-  unfolding shape_by listShape read_parts need◌or◌then◌ ◌>>=◌
-  list-reads s =
-      let l = repeated lo hi (groupIs (groupAt a)) in
-      let k = (groupAt a).octets in
+  list_reads : parts_sound 0 a hi ≡ true → read_plain (repeated lo hi (group_is (group_at a))) bs ≡ read_kind 2 lo hi a e bs
+  unfolding shape_by list_shape read_parts need◌or◌then◌ ◌>>=◌
+  list_reads s =
+      let l = repeated lo hi (group_is (group_at a)) in
+      let k = (group_at a).octets in
       let c = get_or bs 0 0 in
       let ds = drop 1 bs in
       ⊎_elim
@@ -418,37 +418,37 @@ module _ (lo hi a e : ℕ) (bs : List ℕ) (o : Octets bs) where
       let long : length ds ≡ length bs - 1 = length-drop 1 bs in
       ⊎_elim
       (λ (h₁ : 1 + c * k ≤ length bs).
-      let r : read_parts l bs ≡ ok (partNumbers 0 a c ds, drop (c * k) ds) = rw (head-is bs h, many_is a c ds, le-leb (c * k) (length ds) (omega arith)) in
+      let r : read_parts l bs ≡ ok (part_numbers 0 a c ds, drop (c * k) ds) = rw (head_is bs h, many_is a c ds, le-leb (c * k) (length ds) (omega arith)) in
       let d : drop (c * k) ds ≡ drop (1 + c * k) bs = drop-drop (c * k) 1 bs in
       ⊎_elim
       (λ (h₂ : lo ≤ c).
       ⊎_elim
       (λ (h₃ : c ≤ hi).
-      all_there l bs 0 a c 1 ds (drop (c * k) ds) r h₂ (octets-drop 1 bs o) (parts-fewer 0 a c hi h₃ s) (omega (arith, span-equal a c)) (grouping-equal a c hi (fields_at a) refl h₃)
+      all_there l bs 0 a c 1 ds (drop (c * k) ds) r h₂ (octets_drop 1 bs o) (parts_fewer 0 a c hi h₃ s) (omega (arith, span_equal a c)) (grouping_equal a c hi (fields_at a) refl h₃)
       ∙ rw (le-leb 1 (length bs) h, le-leb (1 + c * k) (length bs) h₁, le-leb lo c h₂, le-leb c hi h₃, d))
       (λ (h₃ : hi < c).
-      past-groups l bs (partNumbers 0 a c ds) (drop (c * k) ds) r (rw (length-numbers 0 a c ds) h₂) (rw (length-numbers 0 a c ds, length-replicate hi (fields_at a)) h₃)
+      past_groups l bs (part_numbers 0 a c ds) (drop (c * k) ds) r (rw (length_numbers 0 a c ds) h₂) (rw (length_numbers 0 a c ds, length-replicate hi (fields_at a)) h₃)
       ∙ rw (le-leb 1 (length bs) h, le-leb (1 + c * k) (length bs) h₁, le-leb lo c h₂, lt-leb c hi h₃))
-      (le-or-lt c hi))
+      (le_or_lt c hi))
       (λ (h₂ : c < lo).
-      too_few l bs (partNumbers 0 a c ds) (drop (c * k) ds) r (rw (length-numbers 0 a c ds) h₂)
+      too_few l bs (part_numbers 0 a c ds) (drop (c * k) ds) r (rw (length_numbers 0 a c ds) h₂)
       ∙ rw (le-leb 1 (length bs) h, le-leb (1 + c * k) (length bs) h₁, lt-leb lo c h₂))
-      (le-or-lt lo c))
+      (le_or_lt lo c))
       (λ (h₁ : length bs < 1 + c * k).
-      stopped l bs 9 0 (rw (head-is bs h, many_is a c ds, lt-leb (c * k) (length ds) (omega arith)))
+      stopped l bs 9 0 (rw (head_is bs h, many_is a c ds, lt-leb (c * k) (length ds) (omega arith)))
       ∙ rw (le-leb 1 (length bs) h, lt-leb (1 + c * k) (length bs) h₁))
-      (le-or-lt (1 + c * k) (length bs)))
-      (λ (h : length bs < 1). stopped l bs 9 0 (rw (no-head bs h)) ∙ rw (lt-leb 1 (length bs) h))
-      (le-or-lt 1 (length bs))
+      (le_or_lt (1 + c * k) (length bs)))
+      (λ (h : length bs < 1). stopped l bs 9 0 (rw (no_head_lem bs h)) ∙ rw (lt-leb 1 (length bs) h))
+      (le_or_lt 1 (length bs))
 
   -- a length octet and contents
-  led-reads : partsSound 0 a 254 ≡ true → (groupAt a).octets ≡ 1 → isOctet (fields_at a) ≡ true → readPlain (led lo) bs ≡ readKind 3 lo hi a e bs
+  led_reads : parts_sound 0 a 254 ≡ true → (group_at a).octets ≡ 1 → is_octet (fields_at a) ≡ true → read_plain (led lo) bs ≡ read_kind 3 lo hi a e bs
   unfolding shape_by read_parts need◌or◌then◌ ◌>>=◌
-  led-reads s one oct =
+  led_reads s one oct =
       let l = led lo in
       let c = get_or bs 0 0 in
       let ds = drop 1 bs in
-      let m = many-one a (c - 1) ds one in
+      let m = many_one a (c - 1) ds one in
       ⊎_elim
       (λ (h : 1 ≤ length bs).
       let long : length ds ≡ length bs - 1 = length-drop 1 bs in
@@ -456,87 +456,87 @@ module _ (lo hi a e : ℕ) (bs : List ℕ) (o : Octets bs) where
       (λ (h₁ : suc lo ≤ c).
       ⊎_elim
       (λ (h₂ : c ≤ length bs).
-      let r : read_parts l bs ≡ ok (partNumbers 0 a (c - 1) ds, drop (c - 1) ds) = rw (head-is bs h, lt-ltb lo c h₁, m, le-leb (c - 1) (length ds) (omega arith)) in
+      let r : read_parts l bs ≡ ok (part_numbers 0 a (c - 1) ds, drop (c - 1) ds) = rw (head_is bs h, lt-ltb lo c h₁, m, le-leb (c - 1) (length ds) (omega arith)) in
       let j : 1 + (c - 1) ≡ c = omega arith in
       let d : drop (c - 1) ds ≡ drop c bs = drop-drop (c - 1) 1 bs ∙ ap (λ x. drop x bs) j in
-      let few : c - 1 ≤ 254 = omega (arith, octet-small bs o) in
-      all_there l bs 0 a (c - 1) 1 ds (drop (c - 1) ds) r (omega arith) (octets-drop 1 bs o) (parts-fewer 0 a (c - 1) 254 few s) (omega (arith, span-one a (c - 1) one))
-      (grouping-equal a (c - 1) 254 (any 8 ∷ []) (sym (octet-is (fields_at a) oct)) few)
+      let few : c - 1 ≤ 254 = omega (arith, octet_small bs o) in
+      all_there l bs 0 a (c - 1) 1 ds (drop (c - 1) ds) r (omega arith) (octets_drop 1 bs o) (parts_fewer 0 a (c - 1) 254 few s) (omega (arith, span_one a (c - 1) one))
+      (grouping_equal a (c - 1) 254 (any 8 ∷ []) (sym (octet_is (fields_at a) oct)) few)
       ∙ rw (le-leb 1 (length bs) h, lt-ltb lo c h₁, le-leb c (length bs) h₂, d))
       (λ (h₂ : length bs < c).
-      stopped l bs 9 0 (rw (head-is bs h, lt-ltb lo c h₁, m, lt-leb (c - 1) (length ds) (omega arith)))
+      stopped l bs 9 0 (rw (head_is bs h, lt-ltb lo c h₁, m, lt-leb (c - 1) (length ds) (omega arith)))
       ∙ rw (le-leb 1 (length bs) h, lt-ltb lo c h₁, lt-leb c (length bs) h₂))
-      (le-or-lt c (length bs)))
+      (le_or_lt c (length bs)))
       (λ (h₁ : c < suc lo).
-      stopped l bs 10 0 (rw (head-is bs h, le-ltb lo c (le_of_suc-le-suc h₁)))
+      stopped l bs 10 0 (rw (head_is bs h, le-ltb lo c (le_of_suc-le-suc h₁)))
       ∙ rw (le-leb 1 (length bs) h, le-ltb lo c (le_of_suc-le-suc h₁)))
-      (le-or-lt (suc lo) c))
-      (λ (h : length bs < 1). stopped l bs 9 0 (rw (no-head bs h)) ∙ rw (lt-leb 1 (length bs) h))
-      (le-or-lt 1 (length bs))
+      (le_or_lt (suc lo) c))
+      (λ (h : length bs < 1). stopped l bs 9 0 (rw (no_head_lem bs h)) ∙ rw (lt-leb 1 (length bs) h))
+      (le_or_lt 1 (length bs))
 
   -- parts as far as the FX bits say
-  chain-reads : partsSound 1 a hi ≡ true → a + hi ≡ e → e ≤ groupCount → readPlain (extended (slice a e allGroups)) bs ≡ readKind 4 lo hi a e bs
-  unfolding shape_by read_parts chainParts ◌>>=◌
-  chain-reads s h k = go (chain a (e - a) bs) refl
+  chain_reads : parts_sound 1 a hi ≡ true → a + hi ≡ e → e ≤ group_count → read_plain (extended (slice a e all_groups)) bs ≡ read_kind 4 lo hi a e bs
+  unfolding shape_by read_parts chain_parts ◌>>=◌
+  chain_reads s h k = go (chain a (e - a) bs) refl
     where
       l : Format
-      l = extended (slice a e allGroups)
+      l = extended (slice a e all_groups)
 
-      parts_are : read_parts l bs ≡ (chain a (e - a) bs >>= chainParts a bs)
-      parts_are = chain-is (e - a) a e bs (omega arith) k
+      parts_are : read_parts l bs ≡ (chain a (e - a) bs >>= chain_parts a bs)
+      parts_are = chain_is (e - a) a e bs (omega arith) k
 
-      go : (m : Answer Shaped) → chain a (e - a) bs ≡ m → readPlain l bs ≡ readKind 4 lo hi a e bs
+      go : (m : Answer Shaped) → chain a (e - a) bs ≡ m → read_plain l bs ≡ read_kind 4 lo hi a e bs
       go (ok x) q =
           let d : Chained a (e - a) x.0 x.1 bs = chained (e - a) a bs x q in
-          all_there l bs 1 a x.0 0 bs (drop x.1 bs) (parts_are ∙ rw q) d.some o (parts-fewer 1 a x.0 hi (omega (arith, d.few)) s) (omega (arith, d.spans, d.there))
-          (grouping-chain x.0 a e (omega (arith, d.few)) k)
+          all_there l bs 1 a x.0 0 bs (drop x.1 bs) (parts_are ∙ rw q) d.some o (parts_fewer 1 a x.0 hi (omega (arith, d.few)) s) (omega (arith, d.spans, d.there))
+          (grouping_chain x.0 a e (omega (arith, d.few)) k)
           ∙ rw q
       go (refused n p) q = stopped l bs n p (parts_are ∙ rw q) ∙ rw q
 
 -- ---- an item by its row is the rules' item
 
-pub reads : (l : LayoutRow) (i : Format) (bs : List ℕ) → rowSound l ≡ true → formatIs l ≡ some i → Octets bs → readPlain i bs ≡ read_by l bs
-unfolding formatIs formatBy read_by
+pub reads : (l : LayoutRow) (i : Format) (bs : List ℕ) → row_sound l ≡ true → format_is l ≡ some i → Octets bs → read_plain i bs ≡ read_by l bs
+unfolding format_is format_by read_by
 reads l i bs s h o = go l.kind refl
   where
     r : Rowed l
     r = rowed l s
 
-    by : (k : ℕ) → l.kind ≡ k → formatBy k l.least l.most (groupIs (groupAt l.first)) (slice l.first l.end allGroups) ≡ some i
-    by k e = subst (λ x. formatBy x l.least l.most (groupIs (groupAt l.first)) (slice l.first l.end allGroups) ≡ some i) e h
+    by : (k : ℕ) → l.kind ≡ k → format_by k l.least l.most (group_is (group_at l.first)) (slice l.first l.end all_groups) ≡ some i
+    by k e = subst (λ x. format_by x l.least l.most (group_is (group_at l.first)) (slice l.first l.end all_groups) ≡ some i) e h
 
-    at-kind : (k : ℕ) (j : Format) → l.kind ≡ k → some j ≡ some i → readPlain j bs ≡ readKind k l.least l.most l.first l.end bs → readPlain i bs ≡ readKind l.kind l.least l.most l.first l.end bs
-    at-kind k j e f g = ap (λ x. readPlain x bs) (sym (some_inj f)) ∙ g ∙ ap (λ x. readKind x l.least l.most l.first l.end bs) (sym e)
+    at_kind : (k : ℕ) (j : Format) → l.kind ≡ k → some j ≡ some i → read_plain j bs ≡ read_kind k l.least l.most l.first l.end bs → read_plain i bs ≡ read_kind l.kind l.least l.most l.first l.end bs
+    at_kind k j e f g = ap (λ x. read_plain x bs) (sym (some_inj f)) ∙ g ∙ ap (λ x. read_kind x l.least l.most l.first l.end bs) (sym e)
 
-    sound : (k n : ℕ) → l.kind ≡ k → l.most ≡ n → partsSound (step_of k) l.first n ≡ true
-    sound k n e f = subst (λ x. partsSound (step_of k) l.first x ≡ true) f (subst (λ x. partsSound (step_of x) l.first l.most ≡ true) e r.parts)
+    sound : (k n : ℕ) → l.kind ≡ k → l.most ≡ n → parts_sound (step_of k) l.first n ≡ true
+    sound k n e f = subst (λ x. parts_sound (step_of k) l.first x ≡ true) f (subst (λ x. parts_sound (step_of x) l.first l.most ≡ true) e r.parts)
 
-    go : (k : ℕ) → l.kind ≡ k → readPlain i bs ≡ readKind l.kind l.least l.most l.first l.end bs
-    go zero e = none-some (by 0 e)
-    go (suc zero) e = at-kind 1 (fixed (groupIs (groupAt l.first))) e (by 1 e) (fixed_reads l.least l.most l.first l.end bs o (sound 1 1 e (fixed-one l r e)))
-    go (suc (suc zero)) e = at-kind 2 (repeated l.least l.most (groupIs (groupAt l.first))) e (by 2 e) (list-reads l.least l.most l.first l.end bs o (sound 2 l.most e refl))
+    go : (k : ℕ) → l.kind ≡ k → read_plain i bs ≡ read_kind l.kind l.least l.most l.first l.end bs
+    go zero e = none_some (by 0 e)
+    go (suc zero) e = at_kind 1 (fixed (group_is (group_at l.first))) e (by 1 e) (fixed_reads l.least l.most l.first l.end bs o (sound 1 1 e (fixed_one l r e)))
+    go (suc (suc zero)) e = at_kind 2 (repeated l.least l.most (group_is (group_at l.first))) e (by 2 e) (list_reads l.least l.most l.first l.end bs o (sound 2 l.most e refl))
     go (suc (suc (suc zero))) e =
-        at-kind 3 (led l.least) e (by 3 e) (led-reads l.least l.most l.first l.end bs o (sound 3 254 e (led-many l r e)) (led-size l r e) (led-octet l r e))
+        at_kind 3 (led l.least) e (by 3 e) (led_reads l.least l.most l.first l.end bs o (sound 3 254 e (led_many l r e)) (led_size l r e) (led_octet l r e))
     go (suc (suc (suc (suc zero)))) e =
-        at-kind 4 (extended (slice l.first l.end allGroups)) e (by 4 e)
-        (chain-reads l.least l.most l.first l.end bs o (sound 4 l.most e refl) (chain-ends l r e) (chain-inside l r e))
-    go (suc (suc (suc (suc (suc k))))) e = none-some (by (suc (suc (suc (suc (suc k))))) e)
+        at_kind 4 (extended (slice l.first l.end all_groups)) e (by 4 e)
+        (chain_reads l.least l.most l.first l.end bs o (sound 4 l.most e refl) (chain_ends l r e) (chain_inside l r e))
+    go (suc (suc (suc (suc (suc k))))) e = none_some (by (suc (suc (suc (suc (suc k))))) e)
 
 -- ---- what a shape says of the parts: they are there, in the tables and in the item
 
 pub record Fitting (l : LayoutRow) (bs : List ℕ) (c long : ℕ) : Type 0 where
   pub few : c ≤ l.most
-  pub sound : partsSound (step_of l.kind) l.first c ≡ true
+  pub sound : parts_sound (step_of l.kind) l.first c ≡ true
   pub room : holds (step_of l.kind) l.first c ≤ 8_192
   pub spans : head_of l.kind + span (step_of l.kind) l.first c ≡ long
   pub there : long ≤ length bs
 
 -- fewer parts have fewer values
-pub holds-fewer : (step g c d : ℕ) → c ≤ d → holds step g c ≤ holds step g d
+pub holds_fewer : (step g c d : ℕ) → c ≤ d → holds step g c ≤ holds step g d
 unfolding holds
-holds-fewer step g zero d h = zero-le
-holds-fewer step g (suc c) zero h = absurd (not-suc-le-zero h)
-holds-fewer step g (suc c) (suc d) h = omega (arith, holds-fewer step (g + step) c d (le_of_suc-le-suc h))
+holds_fewer step g zero d h = zero-le
+holds_fewer step g (suc c) zero h = absurd (not-suc-le-zero h)
+holds_fewer step g (suc c) (suc d) h = omega (arith, holds_fewer step (g + step) c d (le_of_suc-le-suc h))
 
 -- the number of parts is one that the layout allows
 record Counted (k hi a : ℕ) (bs : List ℕ) (c long : ℕ) : Type 0 where
@@ -544,59 +544,59 @@ record Counted (k hi a : ℕ) (bs : List ℕ) (c long : ℕ) : Type 0 where
   spans : head_of k + span (step_of k) a c ≡ long
   there : long ≤ length bs
 
-fixed-counted : (lo hi a e : ℕ) (bs : List ℕ) (s : Shaped) → hi ≡ 1 → shape_by 1 lo hi a e bs ≡ ok s → Counted 1 hi a bs s.0 s.1
+fixed_counted : (lo hi a e : ℕ) (bs : List ℕ) (s : Shaped) → hi ≡ 1 → shape_by 1 lo hi a e bs ≡ ok s → Counted 1 hi a bs s.0 s.1
 unfolding shape_by
-fixed-counted lo hi a e bs s h q =
-    need-elim (leb (groupAt a).octets (length bs)) 9 _ q λ t u.
-    subst (λ (x : Shaped). Counted 1 hi a bs x.0 x.1) (ok-inj u)
-    (record { few = omega arith; spans = omega (arith, span-equal a 1); there = leb→le _ _ t })
+fixed_counted lo hi a e bs s h q =
+    need_elim (leb (group_at a).octets (length bs)) 9 _ q λ t u.
+    subst (λ (x : Shaped). Counted 1 hi a bs x.0 x.1) (ok_inj u)
+    (record { few = omega arith; spans = omega (arith, span_equal a 1); there = leb→le _ _ t })
 
 list_counted : (lo hi a e : ℕ) (bs : List ℕ) (s : Shaped) → shape_by 2 lo hi a e bs ≡ ok s → Counted 2 hi a bs s.0 s.1
-unfolding shape_by listShape
+unfolding shape_by list_shape
 list_counted lo hi a e bs s q =
-    need-elim _ 9 _ q λ t₀ u₀.
-    need-elim _ 9 _ u₀ λ t₁ u₁.
-    need-elim _ 11 _ u₁ λ t₂ u₂.
-    need-elim _ 11 _ u₂ λ t₃ u₃.
-    subst (λ (x : Shaped). Counted 2 hi a bs x.0 x.1) (ok-inj u₃)
-    (record { few = leb→le _ _ t₃; spans = ap (λ x. 1 + x) (span-equal a (get_or bs 0 0)); there = leb→le _ _ t₁ })
+    need_elim _ 9 _ q λ t₀ u₀.
+    need_elim _ 9 _ u₀ λ t₁ u₁.
+    need_elim _ 11 _ u₁ λ t₂ u₂.
+    need_elim _ 11 _ u₂ λ t₃ u₃.
+    subst (λ (x : Shaped). Counted 2 hi a bs x.0 x.1) (ok_inj u₃)
+    (record { few = leb→le _ _ t₃; spans = ap (λ x. 1 + x) (span_equal a (get_or bs 0 0)); there = leb→le _ _ t₁ })
 
-led-counted : (lo hi a e : ℕ) (bs : List ℕ) (s : Shaped) → Octets bs → hi ≡ 254 → (groupAt a).octets ≡ 1 → shape_by 3 lo hi a e bs ≡ ok s → Counted 3 hi a bs s.0 s.1
+led_counted : (lo hi a e : ℕ) (bs : List ℕ) (s : Shaped) → Octets bs → hi ≡ 254 → (group_at a).octets ≡ 1 → shape_by 3 lo hi a e bs ≡ ok s → Counted 3 hi a bs s.0 s.1
 unfolding shape_by
-led-counted lo hi a e bs s o h one q =
-    need-elim _ 9 _ q λ t₀ u₀.
-    need-elim _ 10 _ u₀ λ t₁ u₁.
-    need-elim _ 9 _ u₁ λ t₂ u₂.
+led_counted lo hi a e bs s o h one q =
+    need_elim _ 9 _ q λ t₀ u₀.
+    need_elim _ 10 _ u₀ λ t₁ u₁.
+    need_elim _ 9 _ u₁ λ t₂ u₂.
     let k : lo < get_or bs 0 0 = ltb→lt _ _ t₁ in
-    subst (λ (x : Shaped). Counted 3 hi a bs x.0 x.1) (ok-inj u₂)
+    subst (λ (x : Shaped). Counted 3 hi a bs x.0 x.1) (ok_inj u₂)
     (record {
-      few = omega (arith, octet-small bs o);
-      spans = omega (arith, span-one a (get_or bs 0 0 - 1) one);
+      few = omega (arith, octet_small bs o);
+      spans = omega (arith, span_one a (get_or bs 0 0 - 1) one);
       there = leb→le _ _ t₂;
     })
 
-chain-counted : (lo hi a e : ℕ) (bs : List ℕ) (s : Shaped) → a + hi ≡ e → shape_by 4 lo hi a e bs ≡ ok s → Counted 4 hi a bs s.0 s.1
+chain_counted : (lo hi a e : ℕ) (bs : List ℕ) (s : Shaped) → a + hi ≡ e → shape_by 4 lo hi a e bs ≡ ok s → Counted 4 hi a bs s.0 s.1
 unfolding shape_by
-chain-counted lo hi a e bs s h q =
+chain_counted lo hi a e bs s h q =
     let d : Chained a (e - a) s.0 s.1 bs = chained (e - a) a bs s q in
     record { few = omega (arith, d.few); spans = omega (arith, d.spans); there = d.there }
 
-none-counted : (lo hi a e : ℕ) (bs : List ℕ) (s : Shaped) {C : Type 0} → shape_by 0 lo hi a e bs ≡ ok s → C
+none_counted : (lo hi a e : ℕ) (bs : List ℕ) (s : Shaped) {C : Type 0} → shape_by 0 lo hi a e bs ≡ ok s → C
 unfolding shape_by
-none-counted lo hi a e bs s q = refused-ok q
+none_counted lo hi a e bs s q = refused_ok q
 
-past-counted : (k lo hi a e : ℕ) (bs : List ℕ) (s : Shaped) {C : Type 0} → shape_by (suc (suc (suc (suc (suc k))))) lo hi a e bs ≡ ok s → C
+past_counted : (k lo hi a e : ℕ) (bs : List ℕ) (s : Shaped) {C : Type 0} → shape_by (suc (suc (suc (suc (suc k))))) lo hi a e bs ≡ ok s → C
 unfolding shape_by
-past-counted k lo hi a e bs s q = refused-ok q
+past_counted k lo hi a e bs s q = refused_ok q
 
-pub fitting : (l : LayoutRow) (bs : List ℕ) (s : Shaped) → rowSound l ≡ true → Octets bs → shape_of l bs ≡ ok s → Fitting l bs s.0 s.1
+pub fitting : (l : LayoutRow) (bs : List ℕ) (s : Shaped) → row_sound l ≡ true → Octets bs → shape_of l bs ≡ ok s → Fitting l bs s.0 s.1
 unfolding shape_of
 fitting l bs s h o q =
     let d : Counted l.kind l.most l.first bs s.0 s.1 = go l.kind refl in
     record {
       few = d.few;
-      sound = parts-fewer (step_of l.kind) l.first s.0 l.most d.few r.parts;
-      room = le_trans (holds-fewer (step_of l.kind) l.first s.0 l.most d.few) r.room;
+      sound = parts_fewer (step_of l.kind) l.first s.0 l.most d.few r.parts;
+      room = le_trans (holds_fewer (step_of l.kind) l.first s.0 l.most d.few) r.room;
       spans = d.spans;
       there = d.there;
     }
@@ -611,9 +611,9 @@ fitting l bs s h o q =
     back k e d = subst (λ x. Counted x l.most l.first bs s.0 s.1) (sym e) d
 
     go : (k : ℕ) → l.kind ≡ k → Counted l.kind l.most l.first bs s.0 s.1
-    go zero e = none-counted l.least l.most l.first l.end bs s (by 0 e)
-    go (suc zero) e = back 1 e (fixed-counted l.least l.most l.first l.end bs s (fixed-one l r e) (by 1 e))
+    go zero e = none_counted l.least l.most l.first l.end bs s (by 0 e)
+    go (suc zero) e = back 1 e (fixed_counted l.least l.most l.first l.end bs s (fixed_one l r e) (by 1 e))
     go (suc (suc zero)) e = back 2 e (list_counted l.least l.most l.first l.end bs s (by 2 e))
-    go (suc (suc (suc zero))) e = back 3 e (led-counted l.least l.most l.first l.end bs s o (led-many l r e) (led-size l r e) (by 3 e))
-    go (suc (suc (suc (suc zero)))) e = back 4 e (chain-counted l.least l.most l.first l.end bs s (chain-ends l r e) (by 4 e))
-    go (suc (suc (suc (suc (suc k))))) e = past-counted k l.least l.most l.first l.end bs s (by (suc (suc (suc (suc (suc k))))) e)
+    go (suc (suc (suc zero))) e = back 3 e (led_counted l.least l.most l.first l.end bs s o (led_many l r e) (led_size l r e) (by 3 e))
+    go (suc (suc (suc (suc zero)))) e = back 4 e (chain_counted l.least l.most l.first l.end bs s (chain_ends l r e) (by 4 e))
+    go (suc (suc (suc (suc (suc k))))) e = past_counted k l.least l.most l.first l.end bs s (by (suc (suc (suc (suc (suc k))))) e)

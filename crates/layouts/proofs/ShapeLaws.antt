@@ -15,16 +15,16 @@ use Rattle.rules.specs.Answer.{Answer, ok, refused, ◌>>=◌, need◌or◌then�
 use Rattle.rules.specs.Chain.{joined}
 use Rattle.rules.proofs.AnswerLaws.{both_left, both_right}
 use Rattle.tables.specs.declared.tables.LayoutRow.{LayoutRow}
-use Rattle.tables.specs.Tables.{groupCount, fields, groupAt}
-use Rattle.layouts.specs.Read.{holds, partsSound, Shaped, chain, step_of, listShape, shape_by, shape_of, isOctet, rowSoundBy, rowSound}
-use Rattle.layouts.proofs.OctetLaws.{joined-suc}
-use Rattle.layouts.proofs.PartLaws.{PartSound, part_sound, First, first_part}
+use Rattle.tables.specs.Tables.{group_count, fields, group_at}
+use Rattle.layouts.specs.Read.{holds, parts_sound, Shaped, chain, step_of, list_shape, shape_by, shape_of, is_octet, row_sound_by, row_sound}
+use Rattle.layouts.proofs.OctetLaws.{joined_suc}
+use Rattle.layouts.proofs.PartLaws.{PartSound, part_sound_lem, First, first_part}
 
 -- ---- the FX bit is that of the last octet
 
 low_bit : (bs : List ℕ) (k : ℕ) → 1 ≤ k → k ≤ length bs → joined (take k bs) % 2 ≡ get_or bs (k - 1) 0 % 2
 low_bit bs zero h l = absurd (not-suc-le-zero h)
-low_bit bs (suc i) h l = let e : suc i - 1 ≡ i = omega arith in rw (e, joined-suc bs i l) (omega arith)
+low_bit bs (suc i) h l = let e : suc i - 1 ≡ i = omega arith in rw (e, joined_suc bs i l) (omega arith)
 
 -- ---- a turn of the loop
 
@@ -39,21 +39,21 @@ moved_none (refused n p) = refl
 pub record Chaining (first last : ℕ) (s : List ℕ) (g at count : ℕ) : Type 0 where
   pub place : at ≤ length s
   pub few : count + first ≡ g
-  pub sound : partsSound 1 g (last - g) ≡ true
+  pub sound : parts_sound 1 g (last - g) ≡ true
   pub same : (chain g (last - g) (drop at s) >>= moved count at) ≡ chain first (last - first) s
 
-pub chain-begun : (first last : ℕ) (s : List ℕ) → partsSound 1 first (last - first) ≡ true → Chaining first last s first 0 0
-chain-begun first last s h =
+pub chain_begun : (first last : ℕ) (s : List ℕ) → parts_sound 1 first (last - first) ≡ true → Chaining first last s first 0 0
+chain_begun first last s h =
     record { place = omega arith; few = omega arith; sound = h; same = moved_none (chain first (last - first) s) }
 
-chain-cons : (g n : ℕ) (bs : List ℕ) → 0 < n
+chain_cons : (g n : ℕ) (bs : List ℕ) → 0 < n
     → chain g n bs
-    ≡ (need leb (groupAt g).octets (length bs) or 9 then
-    if eqb (joined (take (groupAt g).octets bs) % 2) 0 then ok (1, (groupAt g).octets)
-    else chain (g + 1) (n - 1) (drop (groupAt g).octets bs) >>= moved 1 (groupAt g).octets)
+    ≡ (need leb (group_at g).octets (length bs) or 9 then
+    if eqb (joined (take (group_at g).octets bs) % 2) 0 then ok (1, (group_at g).octets)
+    else chain (g + 1) (n - 1) (drop (group_at g).octets bs) >>= moved 1 (group_at g).octets)
 unfolding chain
-chain-cons g zero bs h = absurd (not-suc-le-zero h)
-chain-cons g (suc n) bs h = let e : suc n - 1 ≡ n = omega arith in rw e refl
+chain_cons g zero bs h = absurd (not-suc-le-zero h)
+chain_cons g (suc n) bs h = let e : suc n - 1 ≡ n = omega arith in rw e refl
 
 -- two moves are one
 moved_twice : (m : Answer Shaped) (size count at : ℕ) → ((m >>= moved 1 size) >>= moved count at) ≡ (m >>= moved (count + 1) (at + size))
@@ -64,22 +64,22 @@ moved_twice (ok x) size count at =
     rw (a, b)
 moved_twice (refused n p) size count at = refl
 
-module _ (first last : ℕ) (s : List ℕ) (g at count : ℕ) (c : Chaining first last s g at count) (h : g < last) {m : ℕ} (em : m ≡ (groupAt g).octets) where
-  pub chain-group : First 1 g (last - g) s at
-  chain-group = first_part 1 g (last - g) s at (omega arith) c.sound
+module _ (first last : ℕ) (s : List ℕ) (g at count : ℕ) (c : Chaining first last s g at count) (h : g < last) {m : ℕ} (em : m ≡ (group_at g).octets) where
+  pub chain_group : First 1 g (last - g) s at
+  chain_group = first_part 1 g (last - g) s at (omega arith) c.sound
 
-  pub chain-some : 1 ≤ m
-  chain-some = subst (λ x. 1 ≤ x) (sym em) (part_sound 1 (groupAt g) chain-group.sound).some
+  pub chain_some : 1 ≤ m
+  chain_some = subst (λ x. 1 ≤ x) (sym em) (part_sound_lem 1 (group_at g) chain_group.sound).some
 
   whole : chain first (last - first) s
       ≡ ((need leb (m) (length (drop at s)) or 9 then
       if eqb (joined (take (m) (drop at s)) % 2) 0 then ok (1, m)
       else chain (g + 1) (last - g - 1) (drop (m) (drop at s)) >>= moved 1 (m)) >>= moved count at)
-  whole = sym c.same ∙ ap (λ m. m >>= moved count at) (rw em (chain-cons g (last - g) (drop at s) (omega arith)))
+  whole = sym c.same ∙ ap (λ m. m >>= moved count at) (rw em (chain_cons g (last - g) (drop at s) (omega arith)))
 
-  pub chain-short : length s - at < m → refused 9 0 ≡ chain first (last - first) s
+  pub chain_short : length s - at < m → refused 9 0 ≡ chain first (last - first) s
   unfolding need◌or◌then◌ ◌>>=◌
-  chain-short l =
+  chain_short l =
       let k : length (drop at s) < m = omega (arith, length-drop at s) in
       sym (whole ∙ rw (lt-leb (m) (length (drop at s)) k))
 
@@ -89,12 +89,12 @@ module _ (first last : ℕ) (s : List ℕ) (g at count : ℕ) (c : Chaining firs
 
     bit : joined (take (m) (drop at s)) % 2 ≡ get_or s (at + m - 1) 0 % 2
     bit =
-        let e : at + (m - 1) ≡ at + m - 1 = omega (arith, chain-some) in
-        low_bit (drop at s) (m) (chain-some) (omega (arith, length-drop at s)) ∙ ap (λ x. x % 2) (get_or-drop at s (m - 1) 0 ∙ ap (λ i. get_or s i 0) e)
+        let e : at + (m - 1) ≡ at + m - 1 = omega (arith, chain_some) in
+        low_bit (drop at s) (m) (chain_some) (omega (arith, length-drop at s)) ∙ ap (λ x. x % 2) (get_or-drop at s (m - 1) 0 ∙ ap (λ i. get_or s i 0) e)
 
-    pub chain-last : eqb (get_or s (at + m - 1) 0 % 2) 0 ≡ true → ok (count + 1, at + m) ≡ chain first (last - first) s
+    pub chain_last : eqb (get_or s (at + m - 1) 0 % 2) 0 ≡ true → ok (count + 1, at + m) ≡ chain first (last - first) s
     unfolding need◌or◌then◌ ◌>>=◌ if◌then◌else◌
-    chain-last e =
+    chain_last e =
         let a : 1 + count ≡ count + 1 = omega arith in
         let b : m + at ≡ at + m = omega arith in
         sym (whole ∙ rw (long, bit, e, a, b))
@@ -106,89 +106,89 @@ module _ (first last : ℕ) (s : List ℕ) (g at count : ℕ) (c : Chaining firs
         record {
           place = omega arith;
           few = omega (arith, c.few);
-          sound = subst (λ x. partsSound 1 (g + 1) x ≡ true) n chain-group.rest;
+          sound = subst (λ x. parts_sound 1 (g + 1) x ≡ true) n chain_group.rest;
           same =
               sym (whole ∙ rw (long, bit, e)
               (moved_twice (chain (g + 1) (last - g - 1) (drop (m) (drop at s))) (m) count at
               ∙ rw (drop-drop (m) at s, n)));
         }
 
-pub chain-past : (first last : ℕ) (s : List ℕ) (g at count : ℕ) → Chaining first last s g at count → last ≤ g → refused 6 0 ≡ chain first (last - first) s
+pub chain_past : (first last : ℕ) (s : List ℕ) (g at count : ℕ) → Chaining first last s g at count → last ≤ g → refused 6 0 ≡ chain first (last - first) s
 unfolding chain ◌>>=◌
-chain-past first last s g at count c h =
+chain_past first last s g at count c h =
     let z : last - g ≡ 0 = omega arith in
     sym (ap (λ n. chain g n (drop at s) >>= moved count at) z) ∙ c.same
 
 -- ---- sound rows
 
 pub record Rowed (l : LayoutRow) : Type 0 where
-  pub parts : partsSound (step_of l.kind) l.first l.most ≡ true
+  pub parts : parts_sound (step_of l.kind) l.first l.most ≡ true
   pub room : holds (step_of l.kind) l.first l.most ≤ 8_192
-  pub by : rowSoundBy l.kind l.most l.first l.end ≡ true
+  pub by : row_sound_by l.kind l.most l.first l.end ≡ true
 
-pub rowed : (l : LayoutRow) → rowSound l ≡ true → Rowed l
-unfolding rowSound
+pub rowed : (l : LayoutRow) → row_sound l ≡ true → Rowed l
+unfolding row_sound
 rowed l e =
-    let a = partsSound (step_of l.kind) l.first l.most in
+    let a = parts_sound (step_of l.kind) l.first l.most in
     let b = leb (holds (step_of l.kind) l.first l.most) 8_192 in
-    let c = rowSoundBy l.kind l.most l.first l.end in
+    let c = row_sound_by l.kind l.most l.first l.end in
     let u : a && b ≡ true = both_left (a && b) c e in
     record { parts = both_left a b u; room = leb-true _ _ (both_right a b u); by = both_right (a && b) c e }
 
 pub record Grouped (l : LayoutRow) : Type 0 where
-  pub inside : l.first < groupCount
-  pub sound : PartSound 0 (groupAt l.first)
+  pub inside : l.first < group_count
+  pub sound : PartSound 0 (group_at l.first)
 
 module _ (l : LayoutRow) (r : Rowed l) where
   grouped : step_of l.kind ≡ 0 → 1 ≤ l.most → Grouped l
   grouped e h =
-      let f : First 0 l.first l.most [] 0 = first_part 0 l.first l.most [] 0 h (subst (λ x. partsSound x l.first l.most ≡ true) e r.parts) in
-      record { inside = f.inside; sound = part_sound 0 (groupAt l.first) f.sound }
+      let f : First 0 l.first l.most [] 0 = first_part 0 l.first l.most [] 0 h (subst (λ x. parts_sound x l.first l.most ≡ true) e r.parts) in
+      record { inside = f.inside; sound = part_sound_lem 0 (group_at l.first) f.sound }
 
-  by_kind : (k : ℕ) → l.kind ≡ k → rowSoundBy k l.most l.first l.end ≡ true
-  by_kind k e = subst (λ x. rowSoundBy x l.most l.first l.end ≡ true) e r.by
+  by_kind : (k : ℕ) → l.kind ≡ k → row_sound_by k l.most l.first l.end ≡ true
+  by_kind k e = subst (λ x. row_sound_by x l.most l.first l.end ≡ true) e r.by
 
-  step-kind : (k : ℕ) → l.kind ≡ k → step_of l.kind ≡ step_of k
-  step-kind k e = ap step_of e
+  step_kind : (k : ℕ) → l.kind ≡ k → step_of l.kind ≡ step_of k
+  step_kind k e = ap step_of e
 
-  pub fixed-one : l.kind ≡ 1 → l.most ≡ 1
-  fixed-one e = eqb-true _ _ (both_left (eqb l.most 1) _ (by_kind 1 e))
+  pub fixed_one : l.kind ≡ 1 → l.most ≡ 1
+  fixed_one e = eqb-true _ _ (both_left (eqb l.most 1) _ (by_kind 1 e))
 
-  pub fixed-short : l.kind ≡ 1 → (groupAt l.first).octets ≤ 7
-  fixed-short e = leb-true _ _ (both_right (eqb l.most 1) _ (by_kind 1 e))
+  pub fixed_short : l.kind ≡ 1 → (group_at l.first).octets ≤ 7
+  fixed_short e = leb-true _ _ (both_right (eqb l.most 1) _ (by_kind 1 e))
 
-  pub fixed-group : l.kind ≡ 1 → Grouped l
-  fixed-group e = grouped (step-kind 1 e) (omega (arith, fixed-one e))
+  pub fixed_group : l.kind ≡ 1 → Grouped l
+  fixed_group e = grouped (step_kind 1 e) (omega (arith, fixed_one e))
 
-  pub list-group : l.kind ≡ 2 → Grouped l
-  list-group e = grouped (step-kind 2 e) (leb-true _ _ (by_kind 2 e))
+  pub list_group : l.kind ≡ 2 → Grouped l
+  list_group e = grouped (step_kind 2 e) (leb-true _ _ (by_kind 2 e))
 
-  pub led-many : l.kind ≡ 3 → l.most ≡ 254
-  led-many e = let t = by_kind 3 e in eqb-true _ _ (both_left (eqb l.most 254) _ (both_left (eqb l.most 254 && eqb (groupAt l.first).octets 1) _ t))
+  pub led_many : l.kind ≡ 3 → l.most ≡ 254
+  led_many e = let t = by_kind 3 e in eqb-true _ _ (both_left (eqb l.most 254) _ (both_left (eqb l.most 254 && eqb (group_at l.first).octets 1) _ t))
 
-  pub led-size : l.kind ≡ 3 → (groupAt l.first).octets ≡ 1
-  led-size e = let t = by_kind 3 e in eqb-true _ _ (both_right (eqb l.most 254) _ (both_left (eqb l.most 254 && eqb (groupAt l.first).octets 1) _ t))
+  pub led_size : l.kind ≡ 3 → (group_at l.first).octets ≡ 1
+  led_size e = let t = by_kind 3 e in eqb-true _ _ (both_right (eqb l.most 254) _ (both_left (eqb l.most 254 && eqb (group_at l.first).octets 1) _ t))
 
-  pub led-octet : l.kind ≡ 3 → isOctet (slice (groupAt l.first).first (groupAt l.first).end fields) ≡ true
-  led-octet e = let t = by_kind 3 e in both_right (eqb l.most 254 && eqb (groupAt l.first).octets 1) _ t
+  pub led_octet : l.kind ≡ 3 → is_octet (slice (group_at l.first).first (group_at l.first).end fields) ≡ true
+  led_octet e = let t = by_kind 3 e in both_right (eqb l.most 254 && eqb (group_at l.first).octets 1) _ t
 
-  pub led-group : l.kind ≡ 3 → Grouped l
-  led-group e = grouped (step-kind 3 e) (omega (arith, led-many e))
+  pub led_group : l.kind ≡ 3 → Grouped l
+  led_group e = grouped (step_kind 3 e) (omega (arith, led_many e))
 
-  pub chain-ends : l.kind ≡ 4 → l.first + l.most ≡ l.end
-  chain-ends e = let t = by_kind 4 e in eqb-true _ _ (both_left (eqb (l.first + l.most) l.end) _ t)
+  pub chain_ends : l.kind ≡ 4 → l.first + l.most ≡ l.end
+  chain_ends e = let t = by_kind 4 e in eqb-true _ _ (both_left (eqb (l.first + l.most) l.end) _ t)
 
-  chain-many : l.kind ≡ 4 → l.most ≡ l.end - l.first
-  chain-many e = omega (arith, chain-ends e)
+  chain_many : l.kind ≡ 4 → l.most ≡ l.end - l.first
+  chain_many e = omega (arith, chain_ends e)
 
-  pub chain-inside : l.kind ≡ 4 → l.end ≤ groupCount
-  chain-inside e = let t = by_kind 4 e in leb-true _ _ (both_right (eqb (l.first + l.most) l.end) _ t)
+  pub chain_inside : l.kind ≡ 4 → l.end ≤ group_count
+  chain_inside e = let t = by_kind 4 e in leb-true _ _ (both_right (eqb (l.first + l.most) l.end) _ t)
 
-  pub chain-parts : l.kind ≡ 4 → partsSound 1 l.first (l.end - l.first) ≡ true
-  chain-parts e = subst (λ x. partsSound x l.first (l.end - l.first) ≡ true) (step-kind 4 e) (subst (λ x. partsSound (step_of l.kind) l.first x ≡ true) (chain-many e) r.parts)
+  pub chain_parts_lem : l.kind ≡ 4 → parts_sound 1 l.first (l.end - l.first) ≡ true
+  chain_parts_lem e = subst (λ x. parts_sound x l.first (l.end - l.first) ≡ true) (step_kind 4 e) (subst (λ x. parts_sound (step_of l.kind) l.first x ≡ true) (chain_many e) r.parts)
 
-  pub few-kinds : l.kind ≤ 5
-  few-kinds = go l.kind refl
+  pub few_kinds : l.kind ≤ 5
+  few_kinds = go l.kind refl
     where
       go : (k : ℕ) → l.kind ≡ k → k ≤ 5
       go zero e = lit≤ tt
@@ -201,89 +201,89 @@ module _ (l : LayoutRow) (r : Rowed l) where
           omega arith
 
   -- what is left when each other way has been tested
-  pub a-list : ¬ (l.kind ≡ 0) → ¬ (l.kind ≡ 5) → ¬ (l.kind ≡ 1) → ¬ (l.kind ≡ 4) → ¬ (l.kind ≡ 3) → l.kind ≡ 2
-  a-list a f b d e = omega (arith, few-kinds)
+  pub a_list : ¬ (l.kind ≡ 0) → ¬ (l.kind ≡ 5) → ¬ (l.kind ≡ 1) → ¬ (l.kind ≡ 4) → ¬ (l.kind ≡ 3) → l.kind ≡ 2
+  a_list a f b d e = omega (arith, few_kinds)
 
 -- ---- the shape by how the parts lie
 
 module _ (l : LayoutRow) (bs : List ℕ) where
-  shape-kind : (k : ℕ) → l.kind ≡ k → shape_of l bs ≡ shape_by k l.least l.most l.first l.end bs
+  shape_kind : (k : ℕ) → l.kind ≡ k → shape_of l bs ≡ shape_by k l.least l.most l.first l.end bs
   unfolding shape_of
-  shape-kind k e = ap (λ x. shape_by x l.least l.most l.first l.end bs) e
+  shape_kind k e = ap (λ x. shape_by x l.least l.most l.first l.end bs) e
 
-  pub no-shape : l.kind ≡ 0 → refused 21 0 ≡ shape_of l bs
+  pub no_shape : l.kind ≡ 0 → refused 21 0 ≡ shape_of l bs
   unfolding shape_by
-  no-shape e = sym (shape-kind 0 e)
+  no_shape e = sym (shape_kind 0 e)
 
-  pub no-parts : l.kind ≡ 5 → refused 21 0 ≡ shape_of l bs
+  pub no_parts : l.kind ≡ 5 → refused 21 0 ≡ shape_of l bs
   unfolding shape_by
-  no-parts e = sym (shape-kind 5 e)
+  no_parts e = sym (shape_kind 5 e)
 
-  fixed-is : l.kind ≡ 1 → shape_of l bs ≡ (need leb (groupAt l.first).octets (length bs) or 9 then ok (1, (groupAt l.first).octets))
+  fixed_is : l.kind ≡ 1 → shape_of l bs ≡ (need leb (group_at l.first).octets (length bs) or 9 then ok (1, (group_at l.first).octets))
   unfolding shape_by
-  fixed-is e = shape-kind 1 e
+  fixed_is e = shape_kind 1 e
 
-  pub fixed-cut : l.kind ≡ 1 → {m : ℕ} → m ≡ (groupAt l.first).octets → length bs < m → refused 9 0 ≡ shape_of l bs
+  pub fixed_cut : l.kind ≡ 1 → {m : ℕ} → m ≡ (group_at l.first).octets → length bs < m → refused 9 0 ≡ shape_of l bs
   unfolding need◌or◌then◌
-  fixed-cut e em h = sym (fixed-is e ∙ rw (← em, lt-leb _ _ h))
+  fixed_cut e em h = sym (fixed_is e ∙ rw (← em, lt-leb _ _ h))
 
-  pub fixed-there : l.kind ≡ 1 → {m : ℕ} → m ≡ (groupAt l.first).octets → m ≤ length bs → ok (1, m) ≡ shape_of l bs
+  pub fixed_there : l.kind ≡ 1 → {m : ℕ} → m ≡ (group_at l.first).octets → m ≤ length bs → ok (1, m) ≡ shape_of l bs
   unfolding need◌or◌then◌
-  fixed-there e em h = sym (fixed-is e ∙ rw (← em, le-leb _ _ h))
+  fixed_there e em h = sym (fixed_is e ∙ rw (← em, le-leb _ _ h))
 
-  pub chain-shape : l.kind ≡ 4 → chain l.first (l.end - l.first) bs ≡ shape_of l bs
+  pub chain_shape : l.kind ≡ 4 → chain l.first (l.end - l.first) bs ≡ shape_of l bs
   unfolding shape_by
-  chain-shape e = sym (shape-kind 4 e)
+  chain_shape e = sym (shape_kind 4 e)
 
-  pub list-shape : l.kind ≡ 2 → 1 ≤ length bs → listShape l.least l.most (groupAt l.first).octets (get_or bs 0 0) (length bs) ≡ shape_of l bs
+  pub list_shape_lem : l.kind ≡ 2 → 1 ≤ length bs → list_shape l.least l.most (group_at l.first).octets (get_or bs 0 0) (length bs) ≡ shape_of l bs
   unfolding shape_by need◌or◌then◌
-  list-shape e h = sym (shape-kind 2 e ∙ rw (le-leb 1 (length bs) h))
+  list_shape_lem e h = sym (shape_kind 2 e ∙ rw (le-leb 1 (length bs) h))
 
   -- no count or length octet
-  pub no-head : ¬ (l.kind ≡ 0) → ¬ (l.kind ≡ 5) → ¬ (l.kind ≡ 1) → ¬ (l.kind ≡ 4) → l.kind ≤ 5 → length bs < 1 → refused 9 0 ≡ shape_of l bs
+  pub no_head_lem : ¬ (l.kind ≡ 0) → ¬ (l.kind ≡ 5) → ¬ (l.kind ≡ 1) → ¬ (l.kind ≡ 4) → l.kind ≤ 5 → length bs < 1 → refused 9 0 ≡ shape_of l bs
   unfolding shape_by need◌or◌then◌
-  no-head a f b d few h = go l.kind refl
+  no_head_lem a f b d few h = go l.kind refl
     where
       go : (k : ℕ) → l.kind ≡ k → refused 9 0 ≡ shape_of l bs
       go zero e = absurd (a e)
       go (suc zero) e = absurd (b e)
-      go (suc (suc zero)) e = sym (shape-kind 2 e ∙ rw (lt-leb 1 (length bs) h))
-      go (suc (suc (suc zero))) e = sym (shape-kind 3 e ∙ rw (lt-leb 1 (length bs) h))
+      go (suc (suc zero)) e = sym (shape_kind 2 e ∙ rw (lt-leb 1 (length bs) h))
+      go (suc (suc (suc zero))) e = sym (shape_kind 3 e ∙ rw (lt-leb 1 (length bs) h))
       go (suc (suc (suc (suc zero)))) e = absurd (d e)
       go (suc (suc (suc (suc (suc k))))) e = absurd (f (omega (arith, e)))
 
-  led-is : l.kind ≡ 3 → 1 ≤ length bs
+  led_is : l.kind ≡ 3 → 1 ≤ length bs
       → shape_of l bs ≡ (need ltb l.least (get_or bs 0 0) or 10 then need leb (get_or bs 0 0) (length bs) or 9 then ok (get_or bs 0 0 - 1, get_or bs 0 0))
   unfolding shape_by need◌or◌then◌
-  led-is e h = shape-kind 3 e ∙ rw (le-leb 1 (length bs) h)
+  led_is e h = shape_kind 3 e ∙ rw (le-leb 1 (length bs) h)
 
   module _ (e : l.kind ≡ 3) (h : 1 ≤ length bs) {n : ℕ} (en : n ≡ get_or bs 0 0) where
-    pub led-short : n ≤ l.least → refused 10 0 ≡ shape_of l bs
+    pub led_short : n ≤ l.least → refused 10 0 ≡ shape_of l bs
     unfolding need◌or◌then◌
-    led-short k = sym (led-is e h ∙ rw (← en, le-ltb l.least n k))
+    led_short k = sym (led_is e h ∙ rw (← en, le-ltb l.least n k))
 
-    pub led-cut : l.least < n → length bs < n → refused 9 0 ≡ shape_of l bs
+    pub led_cut : l.least < n → length bs < n → refused 9 0 ≡ shape_of l bs
     unfolding need◌or◌then◌
-    led-cut k m = sym (led-is e h ∙ rw (← en, lt-ltb l.least n k, lt-leb n (length bs) m))
+    led_cut k m = sym (led_is e h ∙ rw (← en, lt-ltb l.least n k, lt-leb n (length bs) m))
 
-    pub led-there : l.least < n → n ≤ length bs → ok (n - 1, n) ≡ shape_of l bs
+    pub led_there : l.least < n → n ≤ length bs → ok (n - 1, n) ≡ shape_of l bs
     unfolding need◌or◌then◌
-    led-there k m = sym (led-is e h ∙ rw (← en, lt-ltb l.least n k, le-leb n (length bs) m))
+    led_there k m = sym (led_is e h ∙ rw (← en, lt-ltb l.least n k, le-leb n (length bs) m))
 
 -- a list, by its count
 module _ (lo hi size n have : ℕ) {m : ℕ} (er : m ≡ size) where
-  pub list-cut : have < 1 + n * m → refused 9 0 ≡ listShape lo hi size n have
-  unfolding listShape need◌or◌then◌
-  list-cut h = rw (← er, lt-leb (1 + n * m) have h)
+  pub list_cut : have < 1 + n * m → refused 9 0 ≡ list_shape lo hi size n have
+  unfolding list_shape need◌or◌then◌
+  list_cut h = rw (← er, lt-leb (1 + n * m) have h)
 
-  pub list-few : 1 + n * m ≤ have → n < lo → refused 11 0 ≡ listShape lo hi size n have
-  unfolding listShape need◌or◌then◌
-  list-few h k = rw (← er, le-leb (1 + n * m) have h, lt-leb lo n k)
+  pub list_few : 1 + n * m ≤ have → n < lo → refused 11 0 ≡ list_shape lo hi size n have
+  unfolding list_shape need◌or◌then◌
+  list_few h k = rw (← er, le-leb (1 + n * m) have h, lt-leb lo n k)
 
-  pub list-many : 1 + n * m ≤ have → lo ≤ n → hi < n → refused 11 0 ≡ listShape lo hi size n have
-  unfolding listShape need◌or◌then◌
-  list-many h k l = rw (← er, le-leb (1 + n * m) have h, le-leb lo n k, lt-leb n hi l)
+  pub list_many : 1 + n * m ≤ have → lo ≤ n → hi < n → refused 11 0 ≡ list_shape lo hi size n have
+  unfolding list_shape need◌or◌then◌
+  list_many h k l = rw (← er, le-leb (1 + n * m) have h, le-leb lo n k, lt-leb n hi l)
 
-  pub list-there : 1 + n * m ≤ have → lo ≤ n → n ≤ hi → ok (n, 1 + n * m) ≡ listShape lo hi size n have
-  unfolding listShape need◌or◌then◌
-  list-there h k l = rw (← er, le-leb (1 + n * m) have h, le-leb lo n k, le-leb n hi l)
+  pub list_there : 1 + n * m ≤ have → lo ≤ n → n ≤ hi → ok (n, 1 + n * m) ≡ list_shape lo hi size n have
+  unfolding list_shape need◌or◌then◌
+  list_there h k l = rw (← er, le-leb (1 + n * m) have h, le-leb lo n k, le-leb n hi l)

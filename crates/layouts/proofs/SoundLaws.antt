@@ -4,15 +4,15 @@ use mathlib.Core.Path.{◌≡◌, refl}
 use mathlib.Core.Bool.{true}
 use native.Mathlib.Nat.{le_of_suc-le-suc}
 use Rattle.rules.specs.Catalogue.{categories}
-use Rattle.tables.specs.Tables.{layoutCount, fields, groups, layouts, groupAt, layoutRows, noLayoutRow, layoutAt}
+use Rattle.tables.specs.Tables.{layout_count, fields, groups, layouts, group_at, layout_rows, no_layout_row, layout_at}
 use Rattle.tables.proofs.TableLaws.{each}
-use Rattle.layouts.specs.Read.{rows, isSpare, holds, partsSound, rowSound}
+use Rattle.layouts.specs.Read.{rows, is_spare, holds, parts_sound, row_sound}
 
-layout-sound-suc : (j : ℕ) → suc j < layoutCount → rowSound (layoutAt (suc j)) ≡ true
-unfolding partsSound holds rows rowSound isSpare layoutAt groupAt fields groups layouts categories
-layout-sound-suc j h = each rowSound (layoutRows 0 0 layouts) noLayoutRow refl j (le_of_suc-le-suc h)
+layout_sound_suc : (j : ℕ) → suc j < layout_count → row_sound (layout_at (suc j)) ≡ true
+unfolding parts_sound holds rows row_sound is_spare layout_at group_at fields groups layouts categories
+layout_sound_suc j h = each row_sound (layout_rows 0 0 layouts) no_layout_row refl j (le_of_suc-le-suc h)
 
-pub layout-sound : (j : ℕ) → j < layoutCount → rowSound (layoutAt j) ≡ true
-unfolding partsSound holds rowSound layoutAt
-layout-sound zero h = refl
-layout-sound (suc j) h = layout-sound-suc j h
+pub layout_sound : (j : ℕ) → j < layout_count → row_sound (layout_at j) ≡ true
+unfolding parts_sound holds row_sound layout_at
+layout_sound zero h = refl
+layout_sound (suc j) h = layout_sound_suc j h

@@ -18,38 +18,38 @@ use mir.ValLaws.{to_z-of_z}
 use Rattle.rules.specs.Chain.{flatten}
 use Rattle.tables.specs.declared.tables.FieldRow.{FieldRow}
 use Rattle.tables.specs.declared.tables.GroupRow.{GroupRow}
-use Rattle.tables.specs.Tables.{fieldCount, groupAt}
-use Rattle.layouts.specs.Read.{rows, rows_at, part_at, value_of, isSpare, width, shown, takes, values, count, span, holds, partsSound, partValues}
+use Rattle.tables.specs.Tables.{field_count, group_at}
+use Rattle.layouts.specs.Read.{rows, rows_at, part_at, value_of, is_spare, width, shown, takes, values, count, span, holds, parts_sound, part_values}
 use Rattle.layouts.proofs.FieldCodes.{again}
 use Rattle.layouts.proofs.PartLaws.{First, first_part}
-use Rattle.layouts.proofs.Stores.{sets-append}
-use Rattle.layouts.proofs.Turns.{Cut, rows-nil}
+use Rattle.layouts.proofs.Stores.{sets_append}
+use Rattle.layouts.proofs.Turns.{Cut, rows_nil}
 
 -- ---- one value, unless the field is spare
 
-pub spare-yes : (f : FieldRow) → f.holds ≡ 2 → isSpare f ≡ true
-unfolding isSpare
-spare-yes f h = eq-eqb f.holds 2 h
+pub spare_yes : (f : FieldRow) → f.holds ≡ 2 → is_spare f ≡ true
+unfolding is_spare
+spare_yes f h = eq-eqb f.holds 2 h
 
-pub spare-no : (f : FieldRow) → (f.holds ≡ 2 → ⊥) → isSpare f ≡ false
-unfolding isSpare
-spare-no f h = ne_eqb f.holds 2 h
+pub spare_no : (f : FieldRow) → (f.holds ≡ 2 → ⊥) → is_spare f ≡ false
+unfolding is_spare
+spare_no f h = ne_eqb f.holds 2 h
 
-pub put-spare : (f : FieldRow) (v : ℤ) (l : List ℤ) (at : ℕ) → isSpare f ≡ true → (at ≡ at + takes f) × (l ≡ sets l at (shown f v []))
-put-spare f v l at e = (sym (ap (λ (b : Bool). at + cond b 0 1) e ∙ add-zero at), sym (ap (λ (b : Bool). sets l at (cond b [] (v ∷ []))) e))
+pub put_spare : (f : FieldRow) (v : ℤ) (l : List ℤ) (at : ℕ) → is_spare f ≡ true → (at ≡ at + takes f) × (l ≡ sets l at (shown f v []))
+put_spare f v l at e = (sym (ap (λ (b : Bool). at + cond b 0 1) e ∙ add-zero at), sym (ap (λ (b : Bool). sets l at (cond b [] (v ∷ []))) e))
 
-pub put-value : (f : FieldRow) (v : ℤ) (l : List ℤ) (at : ℕ) → isSpare f ≡ false → SFits w64 v → (at + 1 ≡ at + takes f) × (set l at (again v) ≡ sets l at (shown f v []))
-put-value f v l at e s =
+pub put_value : (f : FieldRow) (v : ℤ) (l : List ℤ) (at : ℕ) → is_spare f ≡ false → SFits w64 v → (at + 1 ≡ at + takes f) × (set l at (again v) ≡ sets l at (shown f v []))
+put_value f v l at e s =
     (sym (ap (λ (b : Bool). at + cond b 0 1) e), ap (set l at) (to_z-of_z w64 v s) ∙ sym (ap (λ (b : Bool). sets l at (cond b [] (v ∷ []))) e))
 
-pub takes_one : (f : FieldRow) → isSpare f ≡ false → takes f ≡ 1
+pub takes_one : (f : FieldRow) → is_spare f ≡ false → takes f ≡ 1
 takes_one f e = ap (λ (b : Bool). cond b 0 1) e
 
 -- ---- the fields of a part
 
 -- storing a field's value, and then the rest
-sets-shown : (f : FieldRow) (v : ℤ) (vs l : List ℤ) (at : ℕ) → sets l at (shown f v vs) ≡ sets (sets l at (shown f v [])) (at + takes f) vs
-sets-shown f v vs l at = go (isSpare f)
+sets_shown : (f : FieldRow) (v : ℤ) (vs l : List ℤ) (at : ℕ) → sets l at (shown f v vs) ≡ sets (sets l at (shown f v [])) (at + takes f) vs
+sets_shown f v vs l at = go (is_spare f)
   where
     go : (b : Bool) → sets l at (cond b vs (v ∷ vs)) ≡ sets (sets l at (cond b [] (v ∷ []))) (at + cond b 0 1) vs
     go true = ap (λ (k : ℕ). sets l k vs) (sym (add-zero at))
@@ -79,22 +79,22 @@ stored a e n at out₀ i rest left k p k' f out out' {z} s c ez eo ep =
           ap (λ (x : ℕ). sets out' k' (values fs (rest % x))) ep
           ∙ ap (λ (x : ℕ). sets out' x (values fs (rest % q))) eo.0
           ∙ ap (λ (l : List ℤ). sets l (k + takes f) (values fs (rest % q))) (eo.1 ∙ ap (λ (x : ℤ). sets out k (shown f x [])) ez)
-          ∙ sym (sets-shown f v (values fs (rest % q)) out k)
+          ∙ sym (sets_shown f v (values fs (rest % q)) out k)
           ∙ ap (sets out k) (sym c.vals)
           ∙ s.same;
     }
 
-pub stored-all : (a e n at : ℕ) (out₀ : List ℤ) (i rest left k : ℕ) (out : List ℤ) → Storing a e n at out₀ i rest left k out → e ≤ i → e ≤ fieldCount
+pub stored_all : (a e n at : ℕ) (out₀ : List ℤ) (i rest left k : ℕ) (out : List ℤ) → Storing a e n at out₀ i rest left k out → e ≤ i → e ≤ field_count
     → (k ≡ at + count (rows a e)) × (out ≡ sets out₀ at (values (rows a e) n))
-stored-all a e n at out₀ i rest left k out s h t =
-    let r : rows i e ≡ [] = rows-nil i e h t in
+stored_all a e n at out₀ i rest left k out s h t =
+    let r : rows i e ≡ [] = rows_nil i e h t in
     (sym (add-zero k) ∙ sym (ap (λ (x : List FieldRow). k + count x) r) ∙ s.room, sym (ap (λ (x : List FieldRow). sets out k (values x rest)) r) ∙ s.same)
 
 -- ---- the parts of an item
 
-length-values : (fs : List FieldRow) (n : ℕ) → length (values fs n) ≡ count fs
-length-values [] n = refl
-length-values (f ∷ fs) n = go (isSpare f) (length-values fs (n % 2 ^ width fs))
+length_values : (fs : List FieldRow) (n : ℕ) → length (values fs n) ≡ count fs
+length_values [] n = refl
+length_values (f ∷ fs) n = go (is_spare f) (length_values fs (n % 2 ^ width fs))
   where
     go : (b : Bool) → length (values fs (n % 2 ^ width fs)) ≡ count fs
         → length (cond b (values fs (n % 2 ^ width fs)) (value_of f (n / 2 ^ width fs) ∷ values fs (n % 2 ^ width fs))) ≡ cond b 0 1 + count fs
@@ -102,72 +102,72 @@ length-values (f ∷ fs) n = go (isSpare f) (length-values fs (n % 2 ^ width fs)
     go false h = omega arith
 
 pub record StoreParts (step group c₀ : ℕ) (s : List ℕ) (at : ℕ) (out₀ : List ℤ) (start p g k q : ℕ) (out : List ℤ) : Type 0 where
-  pub sound : partsSound step g k ≡ true
+  pub sound : parts_sound step g k ≡ true
   pub place : p + span step g k ≡ at + span step group c₀
   pub room : q + holds step g k ≡ start + holds step group c₀
-  pub same : sets out q (flatten (partValues step g k (drop p s))) ≡ sets out₀ start (flatten (partValues step group c₀ (drop at s)))
+  pub same : sets out q (flatten (part_values step g k (drop p s))) ≡ sets out₀ start (flatten (part_values step group c₀ (drop at s)))
 
-pub store-begun : (step group c₀ : ℕ) (s : List ℕ) (at : ℕ) (out₀ : List ℤ) (start : ℕ) → partsSound step group c₀ ≡ true
+pub store_begun : (step group c₀ : ℕ) (s : List ℕ) (at : ℕ) (out₀ : List ℤ) (start : ℕ) → parts_sound step group c₀ ≡ true
     → StoreParts step group c₀ s at out₀ start at group c₀ start out₀
-store-begun step group c₀ s at out₀ start h = record { sound = h; place = refl; room = refl; same = refl }
+store_begun step group c₀ s at out₀ start h = record { sound = h; place = refl; room = refl; same = refl }
 
 -- the first of the parts, and the others
-pub holds-cons : (step g k : ℕ) → 0 < k → holds step g k ≡ count (rows_at g) + holds step (g + step) (k - 1)
+pub holds_cons : (step g k : ℕ) → 0 < k → holds step g k ≡ count (rows_at g) + holds step (g + step) (k - 1)
 unfolding holds
-holds-cons step g zero h = absurd (not-suc-le-zero h)
-holds-cons step g (suc k) h = let e : suc k - 1 ≡ k = omega arith in rw e
+holds_cons step g zero h = absurd (not-suc-le-zero h)
+holds_cons step g (suc k) h = let e : suc k - 1 ≡ k = omega arith in rw e
 
-values-cons : (step g k : ℕ) (s : List ℕ) (p : ℕ) → 0 < k
-    → flatten (partValues step g k (drop p s)) ≡ values (rows_at g) (part_at step g (drop p s)) ++ flatten (partValues step (g + step) (k - 1) (drop (p + (groupAt g).octets) s))
-unfolding partValues
-values-cons step g zero s p h = absurd (not-suc-le-zero h)
-values-cons step g (suc k) s p h = let e : suc k - 1 ≡ k = omega arith in rw (e, drop-drop (groupAt g).octets p s)
+values_cons : (step g k : ℕ) (s : List ℕ) (p : ℕ) → 0 < k
+    → flatten (part_values step g k (drop p s)) ≡ values (rows_at g) (part_at step g (drop p s)) ++ flatten (part_values step (g + step) (k - 1) (drop (p + (group_at g).octets) s))
+unfolding part_values
+values_cons step g zero s p h = absurd (not-suc-le-zero h)
+values_cons step g (suc k) s p h = let e : suc k - 1 ≡ k = omega arith in rw (e, drop-drop (group_at g).octets p s)
 
-pub part-stored : (step group c₀ : ℕ) (s : List ℕ) (at : ℕ) (out₀ : List ℤ) (start p g k q q' : ℕ) (out out' : List ℤ) {r : GroupRow}
-    → StoreParts step group c₀ s at out₀ start p g k q out → 0 < k → r ≡ groupAt g
+pub part_stored : (step group c₀ : ℕ) (s : List ℕ) (at : ℕ) (out₀ : List ℤ) (start p g k q q' : ℕ) (out out' : List ℤ) {r : GroupRow}
+    → StoreParts step group c₀ s at out₀ start p g k q out → 0 < k → r ≡ group_at g
     → (q' ≡ q + count (rows_at g)) × (out' ≡ sets out q (values (rows_at g) (part_at step g (drop p s))))
     → StoreParts step group c₀ s at out₀ start (p + r.octets) (g + step) (k - 1) q' out'
-part-stored step group c₀ s at out₀ start p g k q q' out out' c h er eo =
+part_stored step group c₀ s at out₀ start p g k q q' out out' c h er eo =
     let f : First step g k s p = first_part step g k s p h c.sound in
     let vs : List ℤ = values (rows_at g) (part_at step g (drop p s)) in
-    let rest : List ℤ = flatten (partValues step (g + step) (k - 1) (drop (p + (groupAt g).octets) s)) in
+    let rest : List ℤ = flatten (part_values step (g + step) (k - 1) (drop (p + (group_at g).octets) s)) in
     subst (λ (r : GroupRow). StoreParts step group c₀ s at out₀ start (p + r.octets) (g + step) (k - 1) q' out') (sym er)
     (record {
       sound = f.rest;
       place = omega (arith, c.place, f.spans);
-      room = omega (arith, c.room, holds-cons step g k h, eo.0);
+      room = omega (arith, c.room, holds_cons step g k h, eo.0);
       same =
           ap (λ (x : List ℤ). sets x q' rest) eo.1
-          ∙ ap (λ (x : ℕ). sets (sets out q vs) x rest) (eo.0 ∙ ap (λ (x : ℕ). q + x) (sym (length-values (rows_at g) (part_at step g (drop p s)))))
-          ∙ sym (sets-append vs rest out q)
-          ∙ ap (sets out q) (sym (values-cons step g k s p h))
+          ∙ ap (λ (x : ℕ). sets (sets out q vs) x rest) (eo.0 ∙ ap (λ (x : ℕ). q + x) (sym (length_values (rows_at g) (part_at step g (drop p s)))))
+          ∙ sym (sets_append vs rest out q)
+          ∙ ap (sets out q) (sym (values_cons step g k s p h))
           ∙ c.same;
     })
 
-pub parts-stored : (step group c₀ : ℕ) (s : List ℕ) (at : ℕ) (out₀ : List ℤ) (start p g k q : ℕ) (out : List ℤ)
+pub parts_stored : (step group c₀ : ℕ) (s : List ℕ) (at : ℕ) (out₀ : List ℤ) (start p g k q : ℕ) (out : List ℤ)
     → StoreParts step group c₀ s at out₀ start p g k q out → k ≤ 0
-    → (q ≡ start + holds step group c₀) × (out ≡ sets out₀ start (flatten (partValues step group c₀ (drop at s))))
-unfolding holds partValues
-parts-stored step group c₀ s at out₀ start p g k q out c h =
+    → (q ≡ start + holds step group c₀) × (out ≡ sets out₀ start (flatten (part_values step group c₀ (drop at s))))
+unfolding holds part_values
+parts_stored step group c₀ s at out₀ start p g k q out c h =
     let z : k ≡ 0 = omega arith in
-    (sym (ap (λ x. q + holds step g x) z ∙ add-zero q) ∙ c.room, sym (ap (λ x. sets out q (flatten (partValues step g x (drop p s)))) z) ∙ c.same)
+    (sym (ap (λ x. q + holds step g x) z ∙ add-zero q) ∙ c.room, sym (ap (λ x. sets out q (flatten (part_values step g x (drop p s)))) z) ∙ c.same)
 
 -- how many values so many parts have
-pub length-held : (step g c : ℕ) (bs : List ℕ) → length (flatten (partValues step g c bs)) ≡ holds step g c
-unfolding partValues holds
-length-held step g zero bs = refl
-length-held step g (suc c) bs =
-    rw (length-append (values (rows_at g) (part_at step g bs)) (flatten (partValues step (g + step) c (drop (groupAt g).octets bs))), length-values (rows_at g) (part_at step g bs), length-held step (g + step) c (drop (groupAt g).octets bs))
+pub length_held : (step g c : ℕ) (bs : List ℕ) → length (flatten (part_values step g c bs)) ≡ holds step g c
+unfolding part_values holds
+length_held step g zero bs = refl
+length_held step g (suc c) bs =
+    rw (length-append (values (rows_at g) (part_at step g bs)) (flatten (part_values step (g + step) c (drop (group_at g).octets bs))), length_values (rows_at g) (part_at step g bs), length_held step (g + step) c (drop (group_at g).octets bs))
 
 -- what storing an item asks, and gives, of the step and the head that were worked out
 module _ (st hd a c start : ℕ) {step head : ℕ} (es : step ≡ st) (eh : head ≡ hd) where
-  pub store_asks : (n : ℕ) → step ≤ 1 → partsSound st a c ≡ true → hd + span st a c ≤ n → start + holds st a c ≤ 8_192
-      → ((step ≤ 1) × (partsSound step a c ≡ true) × (head + span step a c ≤ n)) × (start + holds step a c ≤ 8_192)
+  pub store_asks : (n : ℕ) → step ≤ 1 → parts_sound st a c ≡ true → hd + span st a c ≤ n → start + holds st a c ≤ 8_192
+      → ((step ≤ 1) × (parts_sound step a c ≡ true) × (head + span step a c ≤ n)) × (start + holds step a c ≤ 8_192)
   store_asks n one sound there room =
       let e : span step a c ≡ span st a c = ap (λ x. span x a c) es in
-      ((one, ap (λ x. partsSound x a c) es ∙ sound, omega (arith, e, eh, there)), subst (λ x. start + holds x a c ≤ 8_192) (sym es) room)
+      ((one, ap (λ x. parts_sound x a c) es ∙ sound, omega (arith, e, eh, there)), subst (λ x. start + holds x a c ≤ 8_192) (sym es) room)
 
-  pub store-gives : (bs : List ℕ) (old new : List ℤ) (q : ℕ) → (q ≡ start + holds step a c) × (new ≡ sets old start (flatten (partValues step a c (drop head bs))))
-      → (q ≡ start + holds st a c) × (new ≡ sets old start (flatten (partValues st a c (drop hd bs))))
-  store-gives bs old new q h =
-      (h.0 ∙ ap (λ x. start + holds x a c) es, h.1 ∙ ap (λ x. sets old start (flatten (partValues x a c (drop head bs)))) es ∙ ap (λ x. sets old start (flatten (partValues st a c (drop x bs)))) eh)
+  pub store_gives : (bs : List ℕ) (old new : List ℤ) (q : ℕ) → (q ≡ start + holds step a c) × (new ≡ sets old start (flatten (part_values step a c (drop head bs))))
+      → (q ≡ start + holds st a c) × (new ≡ sets old start (flatten (part_values st a c (drop hd bs))))
+  store_gives bs old new q h =
+      (h.0 ∙ ap (λ x. start + holds x a c) es, h.1 ∙ ap (λ x. sets old start (flatten (part_values x a c (drop head bs)))) es ∙ ap (λ x. sets old start (flatten (part_values st a c (drop x bs)))) eh)

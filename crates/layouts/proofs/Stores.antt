@@ -9,21 +9,21 @@ use Rattle.rules.specs.Entry.{over}
 
 module _ {A : Type 0} where
   -- one list after another
-  pub sets-append : (xs ys l : List A) (q : ℕ) → sets l q (xs ++ ys) ≡ sets (sets l q xs) (q + length xs) ys
-  sets-append [] ys l q = ap (λ k. sets l k ys) (sym (add-zero q))
-  sets-append (x ∷ xs) ys l q =
-      sets-append xs ys (set l q x) (suc q) ∙ ap (λ k. sets (sets (set l q x) (suc q) xs) k ys) (suc-add q (length xs) ∙ sym (add-suc q (length xs)))
+  pub sets_append : (xs ys l : List A) (q : ℕ) → sets l q (xs ++ ys) ≡ sets (sets l q xs) (q + length xs) ys
+  sets_append [] ys l q = ap (λ k. sets l k ys) (sym (add-zero q))
+  sets_append (x ∷ xs) ys l q =
+      sets_append xs ys (set l q x) (suc q) ∙ ap (λ k. sets (sets (set l q x) (suc q) xs) k ys) (suc-add q (length xs) ∙ sym (add-suc q (length xs)))
 
-  sets-suc : (vs l : List A) (x : A) (i : ℕ) → sets (x ∷ l) (suc i) vs ≡ x ∷ sets l i vs
-  sets-suc [] l x i = refl
-  sets-suc (v ∷ vs) l x i = sets-suc vs (set l i v) x (suc i)
+  sets_suc : (vs l : List A) (x : A) (i : ℕ) → sets (x ∷ l) (suc i) vs ≡ x ∷ sets l i vs
+  sets_suc [] l x i = refl
+  sets_suc (v ∷ vs) l x i = sets_suc vs (set l i v) x (suc i)
 
-  sets-nil : (vs : List A) (i : ℕ) → ◌≡◌ {A = List A} (sets [] i vs) []
-  sets-nil [] i = refl
-  sets-nil (v ∷ vs) i = sets-nil vs (suc i)
+  sets_nil : (vs : List A) (i : ℕ) → ◌≡◌ {A = List A} (sets [] i vs) []
+  sets_nil [] i = refl
+  sets_nil (v ∷ vs) i = sets_nil vs (suc i)
 
   -- a list at the start
   pub sets_over : (vs l : List A) → sets l 0 vs ≡ over vs l
   sets_over [] l = refl
-  sets_over (v ∷ vs) [] = sets-nil vs 1
-  sets_over (v ∷ vs) (x ∷ l) = sets-suc vs l v 0 ∙ ap (λ r. v ∷ r) (sets_over vs l)
+  sets_over (v ∷ vs) [] = sets_nil vs 1
+  sets_over (v ∷ vs) (x ∷ l) = sets_suc vs l v 0 ∙ ap (λ r. v ∷ r) (sets_over vs l)

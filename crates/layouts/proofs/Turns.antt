@@ -12,20 +12,20 @@ use lib.ListN.{take, drop_of_length-le}
 use lib.Seq.{slice-cons, length-take-le}
 use lib.Pow.{pow_pos, shr_lt}
 use Rattle.tables.specs.declared.tables.FieldRow.{FieldRow}
-use Rattle.tables.specs.Tables.{fieldCount, fields, fieldRow, noFieldRow, field_at}
-use Rattle.tables.proofs.TableLaws.{field-few, field-wide, fields-long}
+use Rattle.tables.specs.Tables.{field_count, fields, field_row, no_field_row, field_at}
+use Rattle.tables.proofs.TableLaws.{field_few, field_wide, fields_long}
 use Rattle.layouts.specs.Read.{rows, value_of, width, shown, takes, values, count}
 
 -- ---- the row of a field
 
-pub rows-cons : (a e : ℕ) → a < e → e ≤ fieldCount → rows a e ≡ field_at a ∷ rows (a + 1) e
+pub rows_cons : (a e : ℕ) → a < e → e ≤ field_count → rows a e ≡ field_at a ∷ rows (a + 1) e
 unfolding rows field_at
-rows-cons a e h k = rw add-one (slice-cons a e (map fieldRow fields) noFieldRow h (subst (λ n. e ≤ n) (sym fields-long) k))
+rows_cons a e h k = rw add-one (slice-cons a e (map field_row fields) no_field_row h (subst (λ n. e ≤ n) (sym fields_long) k))
 
-pub rows-nil : (a e : ℕ) → e ≤ a → e ≤ fieldCount → rows a e ≡ []
+pub rows_nil : (a e : ℕ) → e ≤ a → e ≤ field_count → rows a e ≡ []
 unfolding rows
-rows-nil a e h k =
-    drop_of_length-le (take e (map fieldRow fields)) (subst (λ n. n ≤ a) (sym (length-take-le e (map fieldRow fields) (subst (λ n. e ≤ n) (sym fields-long) k))) h)
+rows_nil a e h k =
+    drop_of_length-le (take e (map field_row fields)) (subst (λ n. n ≤ a) (sym (length-take-le e (map field_row fields) (subst (λ n. e ≤ n) (sym fields_long) k))) h)
 
 -- ---- field i, f, is cut off the rest, of left bits
 
@@ -41,18 +41,18 @@ pub record Cut (i e rest left : ℕ) (f : FieldRow) : Type 0 where
   pub vals : values (rows i e) rest ≡ shown f (value_of f (rest / 2 ^ (left - f.bits))) (values (rows (i + 1) e) (rest % 2 ^ (left - f.bits)))
   pub counts : count (rows i e) ≡ takes f + count (rows (i + 1) e)
 
-pub cut : (i e rest left : ℕ) (f : FieldRow) → f ≡ field_at i → i < e → e ≤ fieldCount → left ≡ width (rows i e) → left ≤ 64 → rest < 2 ^ left → Cut i e rest left f
+pub cut : (i e rest left : ℕ) (f : FieldRow) → f ≡ field_at i → i < e → e ≤ field_count → left ≡ width (rows i e) → left ≤ 64 → rest < 2 ^ left → Cut i e rest left f
 cut i e rest left f ef h k el few small =
     let fs : List FieldRow = rows (i + 1) e in
-    let r : rows i e ≡ f ∷ fs = rows-cons i e h k ∙ ap (λ (x : FieldRow). x ∷ fs) (sym ef) in
+    let r : rows i e ≡ f ∷ fs = rows_cons i e h k ∙ ap (λ (x : FieldRow). x ∷ fs) (sym ef) in
     let w : width (rows i e) ≡ f.bits + width fs = ap width r in
     let n : left - f.bits ≡ width fs = omega arith in
-    let t : i < fieldCount = omega arith in
+    let t : i < field_count = omega arith in
     let s : left ≡ f.bits + (left - f.bits) = omega arith in
-    let one : 1 ≤ f.bits = subst (λ x. 1 ≤ x.bits) (sym ef) (field-wide i t) in
+    let one : 1 ≤ f.bits = subst (λ x. 1 ≤ x.bits) (sym ef) (field_wide i t) in
     record {
       some = one;
-      small = subst (λ x. x.bits ≤ 62) (sym ef) (field-few i t);
+      small = subst (λ x. x.bits ≤ 62) (sym ef) (field_few i t);
       fits = omega arith;
       next = n;
       less = omega arith;

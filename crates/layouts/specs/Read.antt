@@ -1,5 +1,5 @@
 -- The reading rule of an item as the code follows it, over the rows of the tables: first its shape, how many parts it has and how many octets
--- it takes; then its parts, one after another. `proofs/ReadLaws` has that these are the rules' `readPlain`. Assumes nothing.
+-- it takes; then its parts, one after another. `proofs/ReadLaws` has that these are the rules' `read_plain`. Assumes nothing.
 use Rattle.std.specs.Prelude.{ℕ, zero, suc, ◌+◌, ◌-◌, ◌*◌, ◌/◌, ◌%◌, ◌^◌, Bool, true, false, cond, ◌&&◌, List, [], ◌∷◌, map, leb, ltb, eqb, ℤ, pos, negsuc, length, take, drop, get_or}
 use Rattle.std.specs.Int.Signed.{le_z}
 use Rattle.std.proofs.Math.Seq.{slice}
@@ -10,7 +10,7 @@ use Rattle.rules.specs.Format.{PartValues}
 use Rattle.tables.specs.declared.tables.FieldRow.{FieldRow}
 use Rattle.tables.specs.declared.tables.GroupRow.{GroupRow}
 use Rattle.tables.specs.declared.tables.LayoutRow.{LayoutRow}
-use Rattle.tables.specs.Tables.{fieldCount, groupCount, fields, fieldRow, groupAt}
+use Rattle.tables.specs.Tables.{field_count, group_count, fields, field_row, group_at}
 use Rattle.layouts.specs.declared.parts.Shape.{Shape}
 use Rattle.layouts.specs.declared.parts.Shape.TheVariants.{Parts, Refused}
 
@@ -19,21 +19,21 @@ infixr 10 need◌or◌further◌then◌
 
 -- the rows of the fields from a place to before a place
 unfoldable pub rows : ℕ → ℕ → List FieldRow
-rows a e = slice a e (map fieldRow fields)
+rows a e = slice a e (map field_row fields)
 
 -- a code of w bits in two's complement
-unfoldable pub twosOf : ℕ → ℕ → ℤ
-twosOf w c = cond (ltb c (2 ^ (w - 1))) (pos c) (negsuc (2 ^ w - suc c))
+unfoldable pub twos_of : ℕ → ℕ → ℤ
+twos_of w c = cond (ltb c (2 ^ (w - 1))) (pos c) (negsuc (2 ^ w - suc c))
 
 -- the value that a field's code stands for
 unfoldable pub value_of : FieldRow → ℕ → ℤ
-value_of f c = cond (eqb f.holds 1) (twosOf f.bits c) (pos c)
+value_of f c = cond (eqb f.holds 1) (twos_of f.bits c) (pos c)
 
 unfoldable pub within : FieldRow → ℤ → Bool
 within f v = le_z f.least v && le_z v f.greatest
 
-unfoldable pub isSpare : FieldRow → Bool
-isSpare f = eqb f.holds 2
+unfoldable pub is_spare : FieldRow → Bool
+is_spare f = eqb f.holds 2
 
 abbrev pub width : List FieldRow → ℕ
 width [] = 0
@@ -46,10 +46,10 @@ legal (f ∷ fs) n = within f (value_of f (n / 2 ^ width fs)) && legal fs (n % 2
 
 -- a spare field has no value
 abbrev pub shown : FieldRow → ℤ → List ℤ → List ℤ
-shown f v vs = cond (isSpare f) vs (v ∷ vs)
+shown f v vs = cond (is_spare f) vs (v ∷ vs)
 
 abbrev pub takes : FieldRow → ℕ
-takes f = cond (isSpare f) 0 1
+takes f = cond (is_spare f) 0 1
 
 abbrev pub values : List FieldRow → ℕ → List ℤ
 values [] n = []
@@ -63,63 +63,63 @@ count (f ∷ fs) = takes f + count fs
 
 -- the rows of a group's fields; the number of a part that starts the octets, without its FX bit
 abbrev pub rows_at : ℕ → List FieldRow
-rows_at g = rows (groupAt g).first (groupAt g).end
+rows_at g = rows (group_at g).first (group_at g).end
 
 abbrev pub part_at : ℕ → ℕ → List ℕ → ℕ
-part_at step g bs = joined (take (groupAt g).octets bs) / 2 ^ step
+part_at step g bs = joined (take (group_at g).octets bs) / 2 ^ step
 
 -- how many octets so many parts take, and how many values they have, the first by the group at a place
 unfoldable pub span : ℕ → ℕ → ℕ → ℕ
 span step g zero = 0
-span step g (suc c) = (groupAt g).octets + span step (g + step) c
+span step g (suc c) = (group_at g).octets + span step (g + step) c
 
 unfoldable pub holds : ℕ → ℕ → ℕ → ℕ
 holds step g zero = 0
 holds step g (suc c) = count (rows_at g) + holds step (g + step) c
 
 -- the tables have a row for each part, and its fields fill its octets, but for the FX bit
-abbrev pub partSound : ℕ → GroupRow → Bool
-partSound step r = leb r.end fieldCount && leb 1 r.octets && leb r.octets 8 && eqb (width (rows r.first r.end) + step) (8 * r.octets)
+abbrev pub part_sound : ℕ → GroupRow → Bool
+part_sound step r = leb r.end field_count && leb 1 r.octets && leb r.octets 8 && eqb (width (rows r.first r.end) + step) (8 * r.octets)
 
-unfoldable pub partsSound : ℕ → ℕ → ℕ → Bool
-partsSound step g zero = true
-partsSound step g (suc c) = ltb g groupCount && partSound step (groupAt g) && partsSound step (g + step) c
+unfoldable pub parts_sound : ℕ → ℕ → ℕ → Bool
+parts_sound step g zero = true
+parts_sound step g (suc c) = ltb g group_count && part_sound step (group_at g) && parts_sound step (g + step) c
 
-unfoldable pub partsLegal : ℕ → ℕ → ℕ → List ℕ → Bool
-partsLegal step g zero bs = true
-partsLegal step g (suc c) bs = legal (rows_at g) (part_at step g bs) && partsLegal step (g + step) c (drop (groupAt g).octets bs)
+unfoldable pub parts_legal : ℕ → ℕ → ℕ → List ℕ → Bool
+parts_legal step g zero bs = true
+parts_legal step g (suc c) bs = legal (rows_at g) (part_at step g bs) && parts_legal step (g + step) c (drop (group_at g).octets bs)
 
 -- where the first field at fault among so many parts stands, the first of which starts at a place, counted from the item's first octet: at the
 -- item's start, whichever field it is
-unfoldable pub faultAt : ℕ → ℕ → ℕ → ℕ → List ℕ → ℕ
-faultAt step g c at bs = 0
+unfoldable pub fault_at : ℕ → ℕ → ℕ → ℕ → List ℕ → ℕ
+fault_at step g c at bs = 0
 
 -- the rest where the test passes, and else the refusal, so many octets further on
 unfoldable pub need◌or◌further◌then◌ : {A : Type 0} → Bool → ℕ → ℕ → Answer A → Answer A
 need true or n further p then x = x
 need false or n further p then x = refused n p
 
-unfoldable pub partValues : ℕ → ℕ → ℕ → List ℕ → List (List ℤ)
-partValues step g zero bs = []
-partValues step g (suc c) bs = values (rows_at g) (part_at step g bs) ∷ partValues step (g + step) c (drop (groupAt g).octets bs)
+unfoldable pub part_values : ℕ → ℕ → ℕ → List ℕ → List (List ℤ)
+part_values step g zero bs = []
+part_values step g (suc c) bs = values (rows_at g) (part_at step g bs) ∷ part_values step (g + step) c (drop (group_at g).octets bs)
 
 -- ---- shapes: how many parts, and how many octets
 
 abbrev pub Shaped : Type 0
 Shaped = ℕ × ℕ
 
-abbrev pub shapeIs : Shape → Answer Shaped
-shapeIs (Parts c n) = ok (c, n)
-shapeIs (Refused n p) = refused n p
+abbrev pub shape_is : Shape → Answer Shaped
+shape_is (Parts c n) = ok (c, n)
+shape_is (Refused n p) = refused n p
 
 -- so many printed parts, the first by the group at a place: 9 where one is cut, 6 where FX asks for more
 unfoldable pub chain : ℕ → ℕ → List ℕ → Answer Shaped
 chain g zero bs = refused 6 0
 chain g (suc n) bs =
-    need leb (groupAt g).octets (length bs) or 9 then
-    if eqb (joined (take (groupAt g).octets bs) % 2) 0
-    then ok (1, (groupAt g).octets)
-    else chain (g + 1) n (drop (groupAt g).octets bs) >>= λ s. ok (s.0 + 1, s.1 + (groupAt g).octets)
+    need leb (group_at g).octets (length bs) or 9 then
+    if eqb (joined (take (group_at g).octets bs) % 2) 0
+    then ok (1, (group_at g).octets)
+    else chain (g + 1) n (drop (group_at g).octets bs) >>= λ s. ok (s.0 + 1, s.1 + (group_at g).octets)
 
 -- an octet before the parts; each part its own group
 abbrev pub head_of : ℕ → ℕ
@@ -129,8 +129,8 @@ abbrev pub step_of : ℕ → ℕ
 step_of kind = cond (eqb kind 4) 1 0
 
 -- a list of c parts, from a least to a greatest number, in so many octets
-unfoldable pub listShape : ℕ → ℕ → ℕ → ℕ → ℕ → Answer Shaped
-listShape lo hi size c have =
+unfoldable pub list_shape : ℕ → ℕ → ℕ → ℕ → ℕ → Answer Shaped
+list_shape lo hi size c have =
     need leb (1 + c * size) have or 9 then
     need leb lo c or 11 then
     need leb c hi or 11 then ok (c, 1 + c * size)
@@ -138,9 +138,9 @@ listShape lo hi size c have =
 -- by how the parts lie: 21 no parts, 9 the count or length octet, 10 the length, 9 the body, 11 the count
 unfoldable pub shape_by : ℕ → ℕ → ℕ → ℕ → ℕ → List ℕ → Answer Shaped
 shape_by zero lo hi a e bs = refused 21 0
-shape_by (suc zero) lo hi a e bs = need leb (groupAt a).octets (length bs) or 9 then ok (1, (groupAt a).octets)
+shape_by (suc zero) lo hi a e bs = need leb (group_at a).octets (length bs) or 9 then ok (1, (group_at a).octets)
 shape_by (suc (suc zero)) lo hi a e bs =
-    need leb 1 (length bs) or 9 then listShape lo hi (groupAt a).octets (get_or bs 0 0) (length bs)
+    need leb 1 (length bs) or 9 then list_shape lo hi (group_at a).octets (get_or bs 0 0) (length bs)
 shape_by (suc (suc (suc zero))) lo hi a e bs =
     need leb 1 (length bs) or 9 then
     need ltb lo (get_or bs 0 0) or 10 then
@@ -152,53 +152,53 @@ unfoldable pub shape_of : LayoutRow → List ℕ → Answer Shaped
 shape_of l bs = shape_by l.kind l.least l.most l.first l.end bs
 
 -- the shape of an item whose fields are legal
-unfoldable pub wholeOf : LayoutRow → List ℕ → Answer Shaped
-wholeOf l bs = do
+unfoldable pub whole_of : LayoutRow → List ℕ → Answer Shaped
+whole_of l bs = do
   s ← shape_of l bs
-  need partsLegal (step_of l.kind) l.first s.0 (drop (head_of l.kind) bs) or 11 further faultAt (step_of l.kind) l.first s.0 (head_of l.kind) bs then ok s
+  need parts_legal (step_of l.kind) l.first s.0 (drop (head_of l.kind) bs) or 11 further fault_at (step_of l.kind) l.first s.0 (head_of l.kind) bs then ok s
 
 -- how many octets it takes
-unfoldable pub wholeSize : LayoutRow → List ℕ → Answer ℕ
-wholeSize l bs = do
-  s ← wholeOf l bs
+unfoldable pub whole_size : LayoutRow → List ℕ → Answer ℕ
+whole_size l bs = do
+  s ← whole_of l bs
   ok s.1
 
 -- ---- an item with one part
 
-unfoldable pub singleSize : ℕ → List ℕ → Answer ℕ
-singleSize g bs =
-    need leb (groupAt g).octets (length bs) or 9 then
-    need legal (rows_at g) (part_at 0 g bs) or 11 further faultAt 0 g 1 0 bs then ok (groupAt g).octets
+unfoldable pub single_size : ℕ → List ℕ → Answer ℕ
+single_size g bs =
+    need leb (group_at g).octets (length bs) or 9 then
+    need legal (rows_at g) (part_at 0 g bs) or 11 further fault_at 0 g 1 0 bs then ok (group_at g).octets
 
 -- ---- an item by its row: its shape, then its fields
 
-abbrev pub readKind : ℕ → ℕ → ℕ → ℕ → ℕ → Read PartValues
-readKind k lo hi a e bs = do
+abbrev pub read_kind : ℕ → ℕ → ℕ → ℕ → ℕ → Read PartValues
+read_kind k lo hi a e bs = do
   (c, long) ← shape_by k lo hi a e bs
-  need partsLegal (step_of k) a c (drop (head_of k) bs) or 11 further faultAt (step_of k) a c (head_of k) bs then ok (partValues (step_of k) a c (drop (head_of k) bs), drop long bs)
+  need parts_legal (step_of k) a c (drop (head_of k) bs) or 11 further fault_at (step_of k) a c (head_of k) bs then ok (part_values (step_of k) a c (drop (head_of k) bs), drop long bs)
 
 unfoldable pub read_by : LayoutRow → Read PartValues
-read_by l bs = readKind l.kind l.least l.most l.first l.end bs
+read_by l bs = read_kind l.kind l.least l.most l.first l.end bs
 
 -- ---- rows that the code can work with
 
 -- one octet of eight bits
-abbrev pub isOctet : List Field → Bool
-isOctet [] = false
-isOctet (spare w ∷ fs) = false
-isOctet (value w (unsigned lo hi) ∷ []) = eqb w 8 && eqb lo 0 && eqb hi 255
-isOctet (value w (unsigned lo hi) ∷ (f ∷ fs)) = false
-isOctet (value w (signed lo hi) ∷ fs) = false
+abbrev pub is_octet : List Field → Bool
+is_octet [] = false
+is_octet (spare w ∷ fs) = false
+is_octet (value w (unsigned lo hi) ∷ []) = eqb w 8 && eqb lo 0 && eqb hi 255
+is_octet (value w (unsigned lo hi) ∷ (f ∷ fs)) = false
+is_octet (value w (signed lo hi) ∷ fs) = false
 
-abbrev pub rowSoundBy : ℕ → ℕ → ℕ → ℕ → Bool
-rowSoundBy zero hi a e = true
-rowSoundBy (suc zero) hi a e = eqb hi 1 && leb (groupAt a).octets 7
-rowSoundBy (suc (suc zero)) hi a e = leb 1 hi
-rowSoundBy (suc (suc (suc zero))) hi a e = eqb hi 254 && eqb (groupAt a).octets 1 && isOctet (slice (groupAt a).first (groupAt a).end fields)
-rowSoundBy (suc (suc (suc (suc zero)))) hi a e = eqb (a + hi) e && leb e groupCount
-rowSoundBy (suc (suc (suc (suc (suc k))))) hi a e = eqb k 0
+abbrev pub row_sound_by : ℕ → ℕ → ℕ → ℕ → Bool
+row_sound_by zero hi a e = true
+row_sound_by (suc zero) hi a e = eqb hi 1 && leb (group_at a).octets 7
+row_sound_by (suc (suc zero)) hi a e = leb 1 hi
+row_sound_by (suc (suc (suc zero))) hi a e = eqb hi 254 && eqb (group_at a).octets 1 && is_octet (slice (group_at a).first (group_at a).end fields)
+row_sound_by (suc (suc (suc (suc zero)))) hi a e = eqb (a + hi) e && leb e group_count
+row_sound_by (suc (suc (suc (suc (suc k))))) hi a e = eqb k 0
 
 -- there is a sound group for each part that an item may have, and room for all their values
-unfoldable pub rowSound : LayoutRow → Bool
-rowSound l =
-    partsSound (step_of l.kind) l.first l.most && leb (holds (step_of l.kind) l.first l.most) 8_192 && rowSoundBy l.kind l.most l.first l.end
+unfoldable pub row_sound : LayoutRow → Bool
+row_sound l =
+    parts_sound (step_of l.kind) l.first l.most && leb (holds (step_of l.kind) l.first l.most) 8_192 && row_sound_by l.kind l.most l.first l.end

@@ -1,7 +1,7 @@
 // The fields of a part, which is one number: they are cut off it from its highest bit down, each by its row of the table.
 ghost use Rattle.std.specs.Prelude.{◌≡◌, ◌+◌, ◌≤◌, ◌<◌, ◌^◌, [], pos, negsuc};
 ghost use Rattle.std.proofs.lemmas.List.Edits.{sets};
-ghost use Rattle.tables.specs.Tables.{fieldCount};
+ghost use Rattle.tables.specs.Tables.{field_count};
 ghost use Rattle.layouts.specs.Read.{rows, value_of, width, shown, takes, values, count};
 
 use numbers::{down, up};
@@ -39,7 +39,7 @@ fn put(f: FieldRow, v: i64, out: &mut [i64; 8192], at: usize) -> usize
 
 // The values of the fields of a number of w bits, from a place of the output on; the place after them.
 pub fn fields_store(n: u64, w: u64, a: usize, e: usize, out: &mut [i64; 8192], at: usize) -> usize
-    requires e_le_field_count { (e ≤ fieldCount) × (w ≡ width (rows a e)) }
+    requires e_le_field_count { (e ≤ field_count) × (w ≡ width (rows a e)) }
     requires w_bound { (w ≤ 64) × (n < 2 ^ w) }
     requires e_bound { at + count (rows a e) ≤ 8_192 }
     ensures { (result ≡ at + count (rows a e)) × (out.new ≡ sets out.old at (values (rows a e) n)) }

@@ -2,8 +2,8 @@
 ghost use Rattle.std.specs.Prelude.{◌≡◌, true, ◌+◌, ◌-◌, ◌*◌, ◌%◌, ◌≤◌, ◌<◌, ◌^◌, length, take, drop, eqb};
 ghost use Rattle.std.proofs.lemmas.List.Edits.{sets};
 ghost use Rattle.rules.specs.Chain.{joined, flatten};
-ghost use Rattle.layouts.specs.Read.{rows_at, part_at, legal, span, partSound, partsSound, partsLegal, faultAt, values, count, holds, partValues, shapeIs, chain, listShape, head_of, step_of, shape_of, wholeOf, rowSound};
-ghost use Rattle.tables.specs.Tables.{groupCount, groupAt};
+ghost use Rattle.layouts.specs.Read.{rows_at, part_at, legal, span, part_sound, parts_sound, parts_legal, fault_at, values, count, holds, part_values, shape_is, chain, list_shape, head_of, step_of, shape_of, whole_of, row_sound};
+ghost use Rattle.tables.specs.Tables.{group_count, group_at};
 
 use super::fields::fields_store;
 use numbers::{octet, wide};
@@ -28,7 +28,7 @@ fn number_at(s: &[u8], at: usize, size: usize) -> u64
 
 // Whether the fields of the part at a place, by a group, are legal: those that have a rule obey it.
 pub fn part_legal(s: &[u8], at: usize, group: usize, step: usize) -> bool
-    requires { (step ≤ 1) × (group < groupCount) × (partSound step (groupAt group) ≡ true) × (at + (groupAt group).octets ≤ length s.now) }
+    requires { (step ≤ 1) × (group < group_count) × (part_sound step (group_at group) ≡ true) × (at + (group_at group).octets ≤ length s.now) }
     ensures { result ≡ legal (rows_at group) (part_at step group (drop at s.now)) }
 {
     let a = first_rule(group);
@@ -42,8 +42,8 @@ pub fn part_legal(s: &[u8], at: usize, group: usize, step: usize) -> bool
 // Whether the fields of so many parts, from a place on, are legal. The first part is by the group given; with step 1 each part has the next
 // group and ends in an FX bit, with step 0 all share that group.
 pub fn parts_legal(s: &[u8], at: usize, count: usize, group: usize, step: usize) -> bool
-    requires { (step ≤ 1) × (partsSound step group count ≡ true) × (at + span step group count ≤ length s.now) }
-    ensures { result ≡ partsLegal step group count (drop at s.now) }
+    requires { (step ≤ 1) × (parts_sound step group count ≡ true) × (at + span step group count ≤ length s.now) }
+    ensures { result ≡ parts_legal step group count (drop at s.now) }
 {
     let mut p = at;
     let mut g = group;
@@ -62,8 +62,8 @@ pub fn parts_legal(s: &[u8], at: usize, count: usize, group: usize, step: usize)
 // Where the first field at fault among so many parts stands, which start at a place, counted from the item's first octet. It is asked on refusal
 // alone. Whichever field it is, the refusal is at the item's start, so nothing is looked at.
 pub fn fault_at(s: &[u8], at: usize, count: usize, group: usize, step: usize) -> usize
-    requires { (step ≤ 1) × (partsSound step group count ≡ true) × (at + span step group count ≤ length s.now) }
-    ensures { result ≡ faultAt step group count at s.now }
+    requires { (step ≤ 1) × (parts_sound step group count ≡ true) × (at + span step group count ≤ length s.now) }
+    ensures { result ≡ fault_at step group count at s.now }
 {
     0
 }
@@ -87,8 +87,8 @@ fn is_last(x: u8) -> bool
 
 // The shape of an item whose parts follow each other as far as the FX bits say, at most those of the groups from first to before last.
 fn chain_of(s: &[u8], first: usize, last: usize) -> Shape
-    requires { (last ≤ groupCount) × (partsSound 1 first (last - first) ≡ true) }
-    ensures { shapeIs result ≡ chain first (last - first) s.now }
+    requires { (last ≤ group_count) × (parts_sound 1 first (last - first) ≡ true) }
+    ensures { shape_is result ≡ chain first (last - first) s.now }
 {
     let mut g = first;
     let mut at: usize = 0;
@@ -116,8 +116,8 @@ fn chain_of(s: &[u8], first: usize, last: usize) -> Shape
 
 // The shape of a list of n parts, of which an item may have so many, in as many octets as there are.
 fn list_of(l: LayoutRow, n: usize, have: usize) -> Shape
-    requires { (rowSound l ≡ true) × (l.kind ≡ 2) × (n ≤ 255) }
-    ensures { shapeIs result ≡ listShape l.least l.most (groupAt l.first).octets n have }
+    requires { (row_sound l ≡ true) × (l.kind ≡ 2) × (n ≤ 255) }
+    ensures { shape_is result ≡ list_shape l.least l.most (group_at l.first).octets n have }
 {
     let long = 1 + n * size_at(l.first);
     if have < long {
@@ -145,8 +145,8 @@ fn list_of(l: LayoutRow, n: usize, have: usize) -> Shape
 // own; 9 where its count or length octet is cut, 10 where its length is under the least, 9 where it is cut, 6 where FX asks for more than is
 // printed, 11 where its count is barred.
 pub fn shape_of(l: LayoutRow, s: &[u8]) -> Shape
-    requires { rowSound l ≡ true }
-    ensures { shapeIs result ≡ shape_of l s.now }
+    requires { row_sound l ≡ true }
+    ensures { shape_is result ≡ shape_of l s.now }
 {
     let kind = l.kind;
     if kind == NONE {
@@ -220,8 +220,8 @@ fn head_of(kind: u8) -> usize
 
 // The shape of an item whose fields are legal, else 11. The fields of a free group need no look, however many parts there are.
 pub fn whole_of(l: LayoutRow, s: &[u8]) -> Shape
-    requires { rowSound l ≡ true }
-    ensures { shapeIs result ≡ wholeOf l s.now }
+    requires { row_sound l ≡ true }
+    ensures { shape_is result ≡ whole_of l s.now }
 {
     let shape = shape_of(l, s);
     let Shape::Parts { count, long: _ } = shape else {
@@ -261,7 +261,7 @@ fn part_store(
     out: &mut [i64; 8192],
     q: usize,
 ) -> usize
-    requires step_bound { (step ≤ 1) × (group < groupCount) × (partSound step (groupAt group) ≡ true) × (at + (groupAt group).octets ≤ length s.now) }
+    requires step_bound { (step ≤ 1) × (group < group_count) × (part_sound step (group_at group) ≡ true) × (at + (group_at group).octets ≤ length s.now) }
     requires group_bound { q + count (rows_at group) ≤ 8_192 }
     ensures { (result ≡ q + count (rows_at group)) × (out.new ≡ sets out.old q (values (rows_at group) (part_at step group (drop at s.now)))) }
 {
@@ -282,9 +282,9 @@ pub fn parts_store(
     out: &mut [i64; 8192],
     start: usize,
 ) -> usize
-    requires step_bound { (step ≤ 1) × (partsSound step group parts ≡ true) × (at + span step group parts ≤ length s.now) }
+    requires step_bound { (step ≤ 1) × (parts_sound step group parts ≡ true) × (at + span step group parts ≤ length s.now) }
     requires parts_bound { start + holds step group parts ≤ 8_192 }
-    ensures { (result ≡ start + holds step group parts) × (out.new ≡ sets out.old start (flatten (partValues step group parts (drop at s.now)))) }
+    ensures { (result ≡ start + holds step group parts) × (out.new ≡ sets out.old start (flatten (part_values step group parts (drop at s.now)))) }
 {
     let mut p = at;
     let mut g = group;
@@ -318,9 +318,9 @@ pub fn item_store(
     out: &mut [i64; 8192],
     start: usize,
 ) -> usize
-    requires parts_value { (partsSound (step_of l.kind) l.first parts ≡ true) × (head_of l.kind + span (step_of l.kind) l.first parts ≤ length s.now) }
+    requires parts_value { (parts_sound (step_of l.kind) l.first parts ≡ true) × (head_of l.kind + span (step_of l.kind) l.first parts ≤ length s.now) }
     requires parts_bound { start + holds (step_of l.kind) l.first parts ≤ 8_192 }
-    ensures { (result ≡ start + holds (step_of l.kind) l.first parts) × (out.new ≡ sets out.old start (flatten (partValues (step_of l.kind) l.first parts (drop (head_of l.kind) s.now)))) }
+    ensures { (result ≡ start + holds (step_of l.kind) l.first parts) × (out.new ≡ sets out.old start (flatten (part_values (step_of l.kind) l.first parts (drop (head_of l.kind) s.now)))) }
 {
     let kind = l.kind;
     parts_store(s, head_of(kind), parts, l.first, step_of(kind), out, start)

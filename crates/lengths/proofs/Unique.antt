@@ -2,7 +2,7 @@
 use Prim.Native.Nat.{ℕ}
 use mathlib.Core.Path.{◌≡◌, sym, ◌∙◌}
 use Rattle.rules.specs.Catalogue.{categories}
-use Rattle.rules.specs.Entry.{leastLength}
+use Rattle.rules.specs.Entry.{least_length}
 
-pub one-least-length : (profile place octet a b : ℕ) → a ≡ leastLength categories profile place octet → b ≡ leastLength categories profile place octet → a ≡ b
-one-least-length profile place octet a b p q = p ∙ sym q
+pub one_least_length : (profile place octet a b : ℕ) → a ≡ least_length categories profile place octet → b ≡ least_length categories profile place octet → a ≡ b
+one_least_length profile place octet a b p q = p ∙ sym q

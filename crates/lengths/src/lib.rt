@@ -4,14 +4,14 @@ mod sums;
 
 ghost use Rattle.std.specs.Prelude.{◌≡◌};
 ghost use Rattle.rules.specs.Catalogue.{categories};
-ghost use Rattle.rules.specs.Entry.{leastLength};
+ghost use Rattle.rules.specs.Entry.{least_length};
 
 use sums::{PLACES, sum_at};
 use tables::PROFILES;
 
 // Of the octet at a place of an FSPEC, counted from 0, of a profile; its FX bit adds nothing.
 pub fn least_length(profile: usize, place: usize, octet: u8) -> usize
-    ensures { result ≡ leastLength categories profile place octet }
+    ensures { result ≡ least_length categories profile place octet }
 {
     if PROFILES <= profile {
         return 0;

@@ -13,86 +13,86 @@ use lib.Seq.{drop_at, drop-drop}
 use Rattle.rules.specs.declared.Shape.{Shape}
 use Rattle.rules.specs.declared.Shape.TheVariants.{Whole, InLog}
 use Rattle.rules.specs.declared.Mark.{Mark}
-use Rattle.rules.specs.Mark.{key, size, markBytes, markIn, marksBytes, rising, count, plus, ofLog}
-use Rattle.rules.specs.Sheet.{fieldBytes}
-use Rattle.rules.proofs.SheetSteps.{marksFields}
-use Rattle.rules.proofs.MarkLaws.{Rises, rises, marks-length, mark-at, mark-length}
+use Rattle.rules.specs.Mark.{key, size, mark_bytes, mark_in, marks_bytes, rising, count, plus, of_log}
+use Rattle.rules.specs.Sheet.{field_bytes}
+use Rattle.rules.proofs.SheetSteps.{marks_fields}
+use Rattle.rules.proofs.MarkLaws.{Rises, rises, marks_length, mark_at_lem, mark_length}
 use Rattle.rules.proofs.SplitLaws.{split, pick}
 use Rattle.marks.specs.declared.Lists.{Lists}
 use Rattle.marks.specs.declared.MarkFound.TheVariants.{Found, Nothing}
-use Rattle.marks.specs.Lists.{lists_of, shapeFor, placeFor, markAt, endFor, end_of, Held, heldIn, span, marksOf, foundMark}
-use Rattle.marks.proofs.MarkSteps.{tail, tail-is, plus-is}
+use Rattle.marks.specs.Lists.{lists_of, shape_for, place_for, mark_at, end_for, end_of, Held, held_in, span, marks_of, found_mark}
+use Rattle.marks.proofs.MarkSteps.{tail, tail_is, plus_is}
 
 -- ---- where a mark lies
-pub shape-whole : (t u : Bool) → t ≡ false → Whole ≡ shapeFor t u
-shape-whole t u h = rw h
+pub shape_whole : (t u : Bool) → t ≡ false → Whole ≡ shape_for t u
+shape_whole t u h = rw h
 
-pub shape-first : (t : Bool) (i n : ℕ) → t ≡ true → i < n → InLog 0 ≡ shapeFor t (ltb i n)
-shape-first t i n h l = rw (h, lt-ltb i n l)
+pub shape_first : (t : Bool) (i n : ℕ) → t ≡ true → i < n → InLog 0 ≡ shape_for t (ltb i n)
+shape_first t i n h l = rw (h, lt-ltb i n l)
 
-pub shape-second : (t : Bool) (i n : ℕ) → t ≡ true → n ≤ i → InLog 1 ≡ shapeFor t (ltb i n)
-shape-second t i n h l = rw (h, le-ltb i n l)
+pub shape_second : (t : Bool) (i n : ℕ) → t ≡ true → n ≤ i → InLog 1 ≡ shape_for t (ltb i n)
+shape_second t i n h l = rw (h, le-ltb i n l)
 
-pub place-whole : (t u : Bool) (base i : ℕ) → t ≡ false → base + i * 8 ≡ placeFor t u base i
-place-whole t u base i h = rw h
+pub place_whole : (t u : Bool) (base i : ℕ) → t ≡ false → base + i * 8 ≡ place_for t u base i
+place_whole t u base i h = rw h
 
-pub place-first : (t : Bool) (base i n : ℕ) → t ≡ true → i < n → base + i * 7 ≡ placeFor t (ltb i n) base i
-place-first t base i n h l = rw (h, lt-ltb i n l)
+pub place_first : (t : Bool) (base i n : ℕ) → t ≡ true → i < n → base + i * 7 ≡ place_for t (ltb i n) base i
+place_first t base i n h l = rw (h, lt-ltb i n l)
 
-pub place-second : (t : Bool) (base i n : ℕ) → t ≡ true → n ≤ i → base + 3 + i * 7 ≡ placeFor t (ltb i n) base i
-place-second t base i n h l = rw (h, le-ltb i n l)
+pub place_second : (t : Bool) (base i n : ℕ) → t ≡ true → n ≤ i → base + 3 + i * 7 ≡ place_for t (ltb i n) base i
+place_second t base i n h l = rw (h, le-ltb i n l)
 
-pub end-split : (c : Lists) → c.split ≡ true → (c.count ≤ 8191) × (c.base ≤ 14) → (c.base + 3 + c.count * 7 ≡ end_of c) × (c.base + 3 + c.count * 7 < 70000)
-end-split c h (l, b) = (ap (λ t. endFor t c.base c.count) (sym h), omega arith)
+pub end_split : (c : Lists) → c.split ≡ true → (c.count ≤ 8191) × (c.base ≤ 14) → (c.base + 3 + c.count * 7 ≡ end_of c) × (c.base + 3 + c.count * 7 < 70000)
+end_split c h (l, b) = (ap (λ t. end_for t c.base c.count) (sym h), omega arith)
 
 pub end_whole : (c : Lists) → c.split ≡ false → (c.count ≤ 8191) × (c.base ≤ 14) → (c.base + c.count * 8 ≡ end_of c) × (c.base + c.count * 8 < 70000)
-end_whole c h (l, b) = (ap (λ t. endFor t c.base c.count) (sym h), omega arith)
+end_whole c h (l, b) = (ap (λ t. end_for t c.base c.count) (sym h), omega arith)
 
-pub in-sheet : (t u : Bool) (base n i z : ℕ) → i < n → endFor t base n ≤ z → placeFor t u base i + size (shapeFor t u) ≤ z
-in-sheet false u base n i z h l = omega arith
-in-sheet true true base n i z h l = omega arith
-in-sheet true false base n i z h l = omega arith
+pub in_sheet : (t u : Bool) (base n i z : ℕ) → i < n → end_for t base n ≤ z → place_for t u base i + size (shape_for t u) ≤ z
+in_sheet false u base n i z h l = omega arith
+in_sheet true true base n i z h l = omega arith
+in_sheet true false base n i z h l = omega arith
 
-pub at_place : (c : Lists) (s : List ℕ) (i p : ℕ) → i < c.count → Held c s → p ≡ placeFor c.split (ltb i c.first) c.base i → p ≤ length s
-at_place c s i p h l g = omega (arith, g, in-sheet c.split (ltb i c.first) c.base c.count i (length s) h l.room)
+pub at_place : (c : Lists) (s : List ℕ) (i p : ℕ) → i < c.count → Held c s → p ≡ place_for c.split (ltb i c.first) c.base i → p ≤ length s
+at_place c s i p h l g = omega (arith, g, in_sheet c.split (ltb i c.first) c.base c.count i (length s) h l.room)
 
-pub at_size : (c : Lists) (s : List ℕ) (i p : ℕ) (f : Shape) → i < c.count → Held c s → p ≡ placeFor c.split (ltb i c.first) c.base i → f ≡ shapeFor c.split (ltb i c.first) → size f ≤ length (tail p s)
+pub at_size : (c : Lists) (s : List ℕ) (i p : ℕ) (f : Shape) → i < c.count → Held c s → p ≡ place_for c.split (ltb i c.first) c.base i → f ≡ shape_for c.split (ltb i c.first) → size f ≤ length (tail p s)
 at_size c s i p f h l g k =
-    let q : placeFor c.split (ltb i c.first) c.base i + size (shapeFor c.split (ltb i c.first)) ≤ length s = in-sheet c.split (ltb i c.first) c.base c.count i (length s) h l.room in
-    rw (tail-is p s, k, g) (omega (arith, length-drop (placeFor c.split (ltb i c.first) c.base i) s, q))
+    let q : place_for c.split (ltb i c.first) c.base i + size (shape_for c.split (ltb i c.first)) ≤ length s = in_sheet c.split (ltb i c.first) c.base c.count i (length s) h l.room in
+    rw (tail_is p s, k, g) (omega (arith, length-drop (place_for c.split (ltb i c.first) c.base i) s, q))
 
-pub at_mark : (c : Lists) (s : List ℕ) (i p : ℕ) (f : Shape) (m : Mark) → p ≡ placeFor c.split (ltb i c.first) c.base i → f ≡ shapeFor c.split (ltb i c.first) → m ≡ markIn f (tail p s) → m ≡ markAt c s i
-unfolding markAt
-at_mark c s i p f m g k h = h ∙ rw (tail-is p s, k, g)
+pub at_mark : (c : Lists) (s : List ℕ) (i p : ℕ) (f : Shape) (m : Mark) → p ≡ place_for c.split (ltb i c.first) c.base i → f ≡ shape_for c.split (ltb i c.first) → m ≡ mark_in f (tail p s) → m ≡ mark_at c s i
+unfolding mark_at
+at_mark c s i p f m g k h = h ∙ rw (tail_is p s, k, g)
 
 -- ---- a span of marks
 module _ (nth : ℕ → Mark) where
-  pub span-step : (i n : ℕ) → i < n → span nth i (n - i) ≡ nth i ∷ span nth (i + 1) (n - (i + 1))
+  pub span_step : (i n : ℕ) → i < n → span nth i (n - i) ≡ nth i ∷ span nth (i + 1) (n - (i + 1))
   unfolding span
-  span-step i n h =
+  span_step i n h =
       let z : n - i ≡ suc (n - (i + 1)) = omega arith in
       let y : suc i ≡ i + 1 = omega arith in
       ap (span nth i) z ∙ ap (λ k. nth i ∷ span nth k (n - (i + 1))) y
 
-  pub span-length : (i n : ℕ) → length (span nth i n) ≡ n
+  pub span_length : (i n : ℕ) → length (span nth i n) ≡ n
   unfolding span
-  span-length i zero = refl
-  span-length i (suc n) = ap suc (span-length (suc i) n)
+  span_length i zero = refl
+  span_length i (suc n) = ap suc (span_length (suc i) n)
 
-  pub span-append : (i n k : ℕ) → span nth i (n + k) ≡ span nth i n ++ span nth (i + n) k
+  pub span_append : (i n k : ℕ) → span nth i (n + k) ≡ span nth i n ++ span nth (i + n) k
   unfolding span
-  span-append i zero k =
+  span_append i zero k =
       let a : zero + k ≡ k = omega arith in
       let b : i ≡ i + zero = omega arith in
       ap (span nth i) a ∙ ap (λ j. span nth j k) b
-  span-append i (suc n) k =
+  span_append i (suc n) k =
       let a : suc n + k ≡ suc (n + k) = omega arith in
       let b : suc i + n ≡ i + suc n = omega arith in
-      ap (span nth i) a ∙ ap (λ l. nth i ∷ l) (span-append (suc i) n k ∙ ap (λ j. span nth (suc i) n ++ span nth j k) b)
+      ap (span nth i) a ∙ ap (λ l. nth i ∷ l) (span_append (suc i) n k ∙ ap (λ j. span nth (suc i) n ++ span nth j k) b)
 
-  pub span-cons : (i n : ℕ) → span nth i (suc n) ≡ nth i ∷ span nth (suc i) n
+  pub span_cons : (i n : ℕ) → span nth i (suc n) ≡ nth i ∷ span nth (suc i) n
   unfolding span
-  span-cons i n = refl
+  span_cons i n = refl
 
 -- the same marks, at other numbers
 pub span_same : (nth nth' : ℕ → Mark) (i j n : ℕ) → ((k : ℕ) → k < n → nth (i + k) ≡ nth' (j + k)) → span nth i n ≡ span nth' j n
@@ -113,8 +113,8 @@ pub record Counting (nth : ℕ → Mark) (n t total j : ℕ) : Type 0 where
   pub small : total ≤ j
   pub left : total + count t (span nth j (n - j)) ≡ count t (span nth 0 n)
 
-pub counting-none : (nth : ℕ → Mark) (n t : ℕ) → Counting nth n t 0 0
-counting-none nth n t =
+pub counting_none : (nth : ℕ → Mark) (n t : ℕ) → Counting nth n t 0 0
+counting_none nth n t =
     let z : n - 0 ≡ n = omega arith in
     let q : count t (span nth 0 (n - 0)) ≡ count t (span nth 0 n) = ap (λ n. count t (span nth 0 n)) z in
     record { within = omega arith; small = omega arith; left = omega (arith, q) }
@@ -123,79 +123,79 @@ pub counting_more : (nth : ℕ → Mark) (n t total j r : ℕ) (m : Mark) → Co
 unfolding count
 counting_more nth n t total j r m k h g (q, l) =
     let x : count t (span nth j (n - j)) ≡ plus (eqb m.station t) 0 + count t (span nth (j + 1) (n - (j + 1))) =
-    ap (count t) (span-step nth j n h) ∙ ap (λ y. plus (eqb y.station t) (count t (span nth (j + 1) (n - (j + 1))))) (sym g) ∙ plus-is (eqb m.station t) (count t (span nth (j + 1) (n - (j + 1)))) in
+    ap (count t) (span_step nth j n h) ∙ ap (λ y. plus (eqb y.station t) (count t (span nth (j + 1) (n - (j + 1))))) (sym g) ∙ plus_is (eqb m.station t) (count t (span nth (j + 1) (n - (j + 1)))) in
     record { within = omega arith; small = omega (arith, k.small); left = omega (arith, k.left) }
 
-pub counting-all : (nth : ℕ → Mark) (n t total j : ℕ) → Counting nth n t total j → n ≤ j → (total ≡ count t (span nth 0 n)) × (total ≤ n)
+pub counting_all : (nth : ℕ → Mark) (n t total j : ℕ) → Counting nth n t total j → n ≤ j → (total ≡ count t (span nth 0 n)) × (total ≤ n)
 unfolding count span
-counting-all nth n t total j k h = let z : n - j ≡ 0 = omega arith in (omega (arith, rw z at k.left), omega (arith, k.small, k.within))
+counting_all nth n t total j k h = let z : n - j ≡ 0 = omega arith in (omega (arith, rw z at k.left), omega (arith, k.small, k.within))
 
 -- ---- the marks by their numbers are the marks that were read
-pub count-is : (t : Bool) (base : ℕ) (ms : List Mark) → (lists_of t base ms).count ≡ length ms
-count-is false base ms = refl
-count-is true base ms = refl
+pub count_is : (t : Bool) (base : ℕ) (ms : List Mark) → (lists_of t base ms).count ≡ length ms
+count_is false base ms = refl
+count_is true base ms = refl
 
-pub base-is : (t : Bool) (base : ℕ) (ms : List Mark) → ((lists_of t base ms).base ≡ base) × ((lists_of t base ms).split ≡ t)
-base-is false base ms = (refl, refl)
-base-is true base ms = (refl, refl)
+pub base_is : (t : Bool) (base : ℕ) (ms : List Mark) → ((lists_of t base ms).base ≡ base) × ((lists_of t base ms).split ≡ t)
+base_is false base ms = (refl, refl)
+base_is true base ms = (refl, refl)
 
-module _ (c : Lists) (s : List ℕ) (f : Shape) (base lo hi : ℕ) (at : (k : ℕ) → lo ≤ k → k < hi → markAt c s k ≡ markIn f (drop (base + k * size f) s)) where
-  run : (i least : ℕ) (ms : List Mark) (rest : List ℕ) → lo ≤ i → i + length ms ≤ hi → T (rising f least ms) → drop (base + i * size f) s ≡ marksBytes f ms ++ rest → span (markAt c s) i (length ms) ≡ ms
-  unfolding span marksBytes
+module _ (c : Lists) (s : List ℕ) (f : Shape) (base lo hi : ℕ) (at : (k : ℕ) → lo ≤ k → k < hi → mark_at c s k ≡ mark_in f (drop (base + k * size f) s)) where
+  run : (i least : ℕ) (ms : List Mark) (rest : List ℕ) → lo ≤ i → i + length ms ≤ hi → T (rising f least ms) → drop (base + i * size f) s ≡ marks_bytes f ms ++ rest → span (mark_at c s) i (length ms) ≡ ms
+  unfolding span marks_bytes
   run i least [] rest g h r d = refl
   run i least (m ∷ ms) rest g h r d =
       let q : Rises f least m ms = rises f least m ms r in
-      let d' : drop (base + i * size f) s ≡ markBytes f m ++ (marksBytes f ms ++ rest) = d ∙ append_assoc (markBytes f m) (marksBytes f ms) rest in
-      let w : markAt c s i ≡ m = at i g (omega arith) ∙ ap (markIn f) d' ∙ mark-at f m (marksBytes f ms ++ rest) q.legal q.shape in
+      let d' : drop (base + i * size f) s ≡ mark_bytes f m ++ (marks_bytes f ms ++ rest) = d ∙ append_assoc (mark_bytes f m) (marks_bytes f ms) rest in
+      let w : mark_at c s i ≡ m = at i g (omega arith) ∙ ap (mark_in f) d' ∙ mark_at_lem f m (marks_bytes f ms ++ rest) q.legal q.shape in
       let z : base + suc i * size f ≡ base + i * size f + size f = omega arith in
-      let n : drop (base + suc i * size f) s ≡ marksBytes f ms ++ rest =
-      ap (λ k. drop k s) z ∙ sym (drop-drop (size f) (base + i * size f) s) ∙ ap (drop (size f)) d' ∙ drop_at (markBytes f m) (marksBytes f ms ++ rest) (size f) (mark-length f m) in
+      let n : drop (base + suc i * size f) s ≡ marks_bytes f ms ++ rest =
+      ap (λ k. drop k s) z ∙ sym (drop-drop (size f) (base + i * size f) s) ∙ ap (drop (size f)) d' ∙ drop_at (mark_bytes f m) (marks_bytes f ms ++ rest) (size f) (mark_length f m) in
       ap₂ (λ a b. a ∷ b) w (run (suc i) (suc (key m)) ms rest (omega arith) (omega arith) q.more n)
 
 -- one list, from a place on
-pub marks-whole : (base : ℕ) (s : List ℕ) (ms : List Mark) (rest : List ℕ) → T (rising Whole 0 ms) → drop base s ≡ marksBytes Whole ms ++ rest → marksOf (lists_of false base ms) s ≡ ms
-unfolding markAt
-marks-whole base s ms rest r d =
+pub marks_whole : (base : ℕ) (s : List ℕ) (ms : List Mark) (rest : List ℕ) → T (rising Whole 0 ms) → drop base s ≡ marks_bytes Whole ms ++ rest → marks_of (lists_of false base ms) s ≡ ms
+unfolding mark_at
+marks_whole base s ms rest r d =
     let z : base + 0 * 8 ≡ base = omega arith in
     run (lists_of false base ms) s Whole base 0 (length ms) (λ k g h. refl) 0 0 ms rest (omega arith) (omega arith) r (ap (λ k. drop k s) z ∙ d)
 
-field-body : (t p : ℕ) (s b rest : List ℕ) → drop p s ≡ fieldBytes t b ++ rest → drop (p + 3) s ≡ b ++ rest
-unfolding fieldBytes
-field-body t p s b rest h = sym (drop-drop 3 p s) ∙ ap (drop 3) h
+field_body : (t p : ℕ) (s b rest : List ℕ) → drop p s ≡ field_bytes t b ++ rest → drop (p + 3) s ≡ b ++ rest
+unfolding field_bytes
+field_body t p s b rest h = sym (drop-drop 3 p s) ∙ ap (drop 3) h
 
 -- the lists of a sheet
-pub marks-are : (t : Bool) (s : List ℕ) (ms : List Mark) (rest : List ℕ) → T (rising Whole 0 ms) → drop 11 s ≡ marksFields t ms ++ rest → marksOf (lists_of t 14 ms) s ≡ ms
-unfolding marksFields markAt
-marks-are false s ms rest r d = marks-whole 14 s ms rest r (field-body 3 11 s (marksBytes Whole ms) rest d)
-marks-are true s ms rest r d =
-    let j : ofLog 0 ms ++ ofLog 1 ms ≡ ms = split 0 ms r in
-    let l : length ms ≡ length (ofLog 0 ms) + length (ofLog 1 ms) = ap length (sym j) ∙ length-append (ofLog 0 ms) (ofLog 1 ms) in
-    let d₅ : drop 11 s ≡ fieldBytes 5 (marksBytes (InLog 0) (ofLog 0 ms)) ++ (fieldBytes 6 (marksBytes (InLog 1) (ofLog 1 ms)) ++ rest) = d ∙ append_assoc (fieldBytes 5 (marksBytes (InLog 0) (ofLog 0 ms))) (fieldBytes 6 (marksBytes (InLog 1) (ofLog 1 ms))) rest in
-    let b₅ : drop 14 s ≡ marksBytes (InLog 0) (ofLog 0 ms) ++ (fieldBytes 6 (marksBytes (InLog 1) (ofLog 1 ms)) ++ rest) = field-body 5 11 s (marksBytes (InLog 0) (ofLog 0 ms)) _ d₅ in
-    let z : length (marksBytes (InLog 0) (ofLog 0 ms)) ≡ length (ofLog 0 ms) * 7 = marks-length (InLog 0) (ofLog 0 ms) in
-    let d₆ : drop (14 + length (ofLog 0 ms) * 7) s ≡ fieldBytes 6 (marksBytes (InLog 1) (ofLog 1 ms)) ++ rest =
-    sym (drop-drop (length (ofLog 0 ms) * 7) 14 s) ∙ ap (drop (length (ofLog 0 ms) * 7)) b₅ ∙ drop_at (marksBytes (InLog 0) (ofLog 0 ms)) (fieldBytes 6 (marksBytes (InLog 1) (ofLog 1 ms)) ++ rest) (length (ofLog 0 ms) * 7) z in
-    let y : 14 + length (ofLog 0 ms) * 7 + 3 ≡ 17 + length (ofLog 0 ms) * 7 = omega arith in
-    let b₆ : drop (17 + length (ofLog 0 ms) * 7) s ≡ marksBytes (InLog 1) (ofLog 1 ms) ++ rest = ap (λ k. drop k s) (sym y) ∙ field-body 6 (14 + length (ofLog 0 ms) * 7) s (marksBytes (InLog 1) (ofLog 1 ms)) rest d₆ in
-    let u : 0 + length (ofLog 0 ms) ≡ length (ofLog 0 ms) = omega arith in
-    ap (span (markAt (lists_of true 14 ms) s) 0) l
-    ∙ span-append (markAt (lists_of true 14 ms) s) 0 (length (ofLog 0 ms)) (length (ofLog 1 ms))
+pub marks_are : (t : Bool) (s : List ℕ) (ms : List Mark) (rest : List ℕ) → T (rising Whole 0 ms) → drop 11 s ≡ marks_fields t ms ++ rest → marks_of (lists_of t 14 ms) s ≡ ms
+unfolding marks_fields mark_at
+marks_are false s ms rest r d = marks_whole 14 s ms rest r (field_body 3 11 s (marks_bytes Whole ms) rest d)
+marks_are true s ms rest r d =
+    let j : of_log 0 ms ++ of_log 1 ms ≡ ms = split 0 ms r in
+    let l : length ms ≡ length (of_log 0 ms) + length (of_log 1 ms) = ap length (sym j) ∙ length-append (of_log 0 ms) (of_log 1 ms) in
+    let d₅ : drop 11 s ≡ field_bytes 5 (marks_bytes (InLog 0) (of_log 0 ms)) ++ (field_bytes 6 (marks_bytes (InLog 1) (of_log 1 ms)) ++ rest) = d ∙ append_assoc (field_bytes 5 (marks_bytes (InLog 0) (of_log 0 ms))) (field_bytes 6 (marks_bytes (InLog 1) (of_log 1 ms))) rest in
+    let b₅ : drop 14 s ≡ marks_bytes (InLog 0) (of_log 0 ms) ++ (field_bytes 6 (marks_bytes (InLog 1) (of_log 1 ms)) ++ rest) = field_body 5 11 s (marks_bytes (InLog 0) (of_log 0 ms)) _ d₅ in
+    let z : length (marks_bytes (InLog 0) (of_log 0 ms)) ≡ length (of_log 0 ms) * 7 = marks_length (InLog 0) (of_log 0 ms) in
+    let d₆ : drop (14 + length (of_log 0 ms) * 7) s ≡ field_bytes 6 (marks_bytes (InLog 1) (of_log 1 ms)) ++ rest =
+    sym (drop-drop (length (of_log 0 ms) * 7) 14 s) ∙ ap (drop (length (of_log 0 ms) * 7)) b₅ ∙ drop_at (marks_bytes (InLog 0) (of_log 0 ms)) (field_bytes 6 (marks_bytes (InLog 1) (of_log 1 ms)) ++ rest) (length (of_log 0 ms) * 7) z in
+    let y : 14 + length (of_log 0 ms) * 7 + 3 ≡ 17 + length (of_log 0 ms) * 7 = omega arith in
+    let b₆ : drop (17 + length (of_log 0 ms) * 7) s ≡ marks_bytes (InLog 1) (of_log 1 ms) ++ rest = ap (λ k. drop k s) (sym y) ∙ field_body 6 (14 + length (of_log 0 ms) * 7) s (marks_bytes (InLog 1) (of_log 1 ms)) rest d₆ in
+    let u : 0 + length (of_log 0 ms) ≡ length (of_log 0 ms) = omega arith in
+    ap (span (mark_at (lists_of true 14 ms) s) 0) l
+    ∙ span_append (mark_at (lists_of true 14 ms) s) 0 (length (of_log 0 ms)) (length (of_log 1 ms))
     ∙ ap₂ (λ a b. a ++ b)
-    (run (lists_of true 14 ms) s (InLog 0) 14 0 (length (ofLog 0 ms)) (λ k g h. rw (lt-ltb k (length (ofLog 0 ms)) h)) 0 0 (ofLog 0 ms) _ (omega arith) (omega arith) (pick 0 0 0 ms (omega arith) r) b₅)
-    (run (lists_of true 14 ms) s (InLog 1) 17 (length (ofLog 0 ms)) (length ms) (λ k g h. rw (le-ltb k (length (ofLog 0 ms)) g)) (0 + length (ofLog 0 ms)) 0 (ofLog 1 ms) rest (omega arith) (omega arith) (pick 1 0 0 ms (omega arith) r) (ap (λ k. drop (17 + k * 7) s) u ∙ b₆))
+    (run (lists_of true 14 ms) s (InLog 0) 14 0 (length (of_log 0 ms)) (λ k g h. rw (lt-ltb k (length (of_log 0 ms)) h)) 0 0 (of_log 0 ms) _ (omega arith) (omega arith) (pick 0 0 0 ms (omega arith) r) b₅)
+    (run (lists_of true 14 ms) s (InLog 1) 17 (length (of_log 0 ms)) (length ms) (λ k g h. rw (le-ltb k (length (of_log 0 ms)) g)) (0 + length (of_log 0 ms)) 0 (of_log 1 ms) rest (omega arith) (omega arith) (pick 1 0 0 ms (omega arith) r) (ap (λ k. drop (17 + k * 7) s) u ∙ b₆))
     ∙ j
 
 -- ---- for any lists and bytes
-pub not-few : (c : Lists) (n : ℕ) → 8191 < c.count → false ≡ heldIn c n
-not-few c n h = rw (lt-leb c.count 8191 h)
+pub not_few : (c : Lists) (n : ℕ) → 8191 < c.count → false ≡ held_in c n
+not_few c n h = rw (lt-leb c.count 8191 h)
 
-pub not_low : (c : Lists) (n : ℕ) → c.count ≤ 8191 → 14 < c.base → false ≡ heldIn c n
+pub not_low : (c : Lists) (n : ℕ) → c.count ≤ 8191 → 14 < c.base → false ≡ held_in c n
 not_low c n g h = rw (le-leb c.count 8191 g, lt-leb c.base 14 h)
 
-pub held-told : (c : Lists) (n e : ℕ) → c.count ≤ 8191 → c.base ≤ 14 → (e ≡ end_of c) × (e < 70000) → leb e n ≡ heldIn c n
-held-told c n e g h (k, l) = rw (le-leb c.count 8191 g, le-leb c.base 14 h) (ap (λ x. leb x n) k)
+pub held_told : (c : Lists) (n e : ℕ) → c.count ≤ 8191 → c.base ≤ 14 → (e ≡ end_of c) × (e < 70000) → leb e n ≡ held_in c n
+held_told c n e g h (k, l) = rw (le-leb c.count 8191 g, le-leb c.base 14 h) (ap (λ x. leb x n) k)
 
-pub is_held : (c : Lists) (s : List ℕ) → heldIn c (length s) ≡ true → Held c s
+pub is_held : (c : Lists) (s : List ℕ) → held_in c (length s) ≡ true → Held c s
 is_held c s h = go (leb c.count 8191) (leb c.base 14) (leb (end_of c) (length s)) refl refl refl h
   where
     go : (a b d : Bool) → leb c.count 8191 ≡ a → leb c.base 14 ≡ b → leb (end_of c) (length s) ≡ d → (a && (b && d)) ≡ true → Held c s
@@ -204,14 +204,14 @@ is_held c s h = go (leb c.count 8191) (leb c.base 14) (leb (end_of c) (length s)
     go true false d p q r h = absurd (let z : ◌≡◌ {A = ℕ} 0 1 = cc in omega arith)
     go false b d p q r h = absurd (let z : ◌≡◌ {A = ℕ} 0 1 = cc in omega arith)
 
-pub found-past : (c : Lists) (s : List ℕ) (i : ℕ) → c.count ≤ i → Nothing ≡ foundMark c s i
-unfolding foundMark
-found-past c s i h = rw (le-ltb i c.count h)
+pub found_past : (c : Lists) (s : List ℕ) (i : ℕ) → c.count ≤ i → Nothing ≡ found_mark c s i
+unfolding found_mark
+found_past c s i h = rw (le-ltb i c.count h)
 
-pub found_none : (c : Lists) (s : List ℕ) (i : ℕ) → i < c.count → heldIn c (length s) ≡ false → Nothing ≡ foundMark c s i
-unfolding foundMark
+pub found_none : (c : Lists) (s : List ℕ) (i : ℕ) → i < c.count → held_in c (length s) ≡ false → Nothing ≡ found_mark c s i
+unfolding found_mark
 found_none c s i h g = rw (lt-ltb i c.count h, g)
 
-pub found-one : (c : Lists) (s : List ℕ) (i : ℕ) (m : Mark) → i < c.count → heldIn c (length s) ≡ true → m ≡ markAt c s i → Found m ≡ foundMark c s i
-unfolding foundMark
-found-one c s i m h g e = rw (lt-ltb i c.count h, g) (ap Found e)
+pub found_one : (c : Lists) (s : List ℕ) (i : ℕ) (m : Mark) → i < c.count → held_in c (length s) ≡ true → m ≡ mark_at c s i → Found m ≡ found_mark c s i
+unfolding found_mark
+found_one c s i m h g e = rw (lt-ltb i c.count h, g) (ap Found e)

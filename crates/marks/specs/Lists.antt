@@ -3,7 +3,7 @@ use Rattle.std.specs.Prelude.{ℕ, zero, suc, ◌+◌, ◌-◌, ◌*◌, ◌≤�
 use Rattle.rules.specs.declared.Shape.{Shape}
 use Rattle.rules.specs.declared.Shape.TheVariants.{Whole, InLog}
 use Rattle.rules.specs.declared.Mark.{Mark}
-use Rattle.rules.specs.Mark.{key, size, markIn, markFits, plus, ofLog}
+use Rattle.rules.specs.Mark.{key, size, mark_in, mark_fits, plus, of_log}
 use Rattle.marks.specs.declared.Tally.{Tally}
 use Rattle.marks.specs.declared.Lists.{Lists}
 use Rattle.marks.specs.declared.Change.{Change}
@@ -16,7 +16,7 @@ use Rattle.marks.specs.declared.MarkFound.TheVariants.{Found, Nothing}
 -- the marks before the first at fault
 unfoldable pub passing : Shape → ℕ → ℕ → List ℕ → List Mark
 passing f least zero bs = []
-passing f least (suc n) bs = cond (markFits f least bs) (markIn f bs ∷ passing f (suc (key (markIn f bs))) n (drop (size f) bs)) []
+passing f least (suc n) bs = cond (mark_fits f least bs) (mark_in f bs ∷ passing f (suc (key (mark_in f bs))) n (drop (size f) bs)) []
 
 -- how many marks are below a key: where a mark with that key goes, in marks that rise
 unfoldable pub below : ℕ → List Mark → ℕ
@@ -30,38 +30,38 @@ has_key k (x ∷ ms) = eqb (key x) k || has_key k ms
 
 -- what is told of marks, and of a key that is looked for
 abbrev pub tally : ℕ → List Mark → Tally
-tally k ms = record { count = length ms; first = length (ofLog 0 ms); below = below k ms; found = has_key k ms }
+tally k ms = record { count = length ms; first = length (of_log 0 ms); below = below k ms; found = has_key k ms }
 
 -- … of two lists, one after the other
-abbrev pub bothTallies : Tally → Tally → Tally
-bothTallies a b = record { count = a.count + b.count; first = a.first + b.first; below = a.below + b.below; found = a.found || b.found }
+abbrev pub both_tallies : Tally → Tally → Tally
+both_tallies a b = record { count = a.count + b.count; first = a.first + b.first; below = a.below + b.below; found = a.found || b.found }
 
 -- ---- where marks lie: what is told of a list of marks that starts at a place
 abbrev pub lists_of : Bool → ℕ → List Mark → Lists
 lists_of false base ms = record { split = false; base = base; first = length ms; count = length ms }
-lists_of true base ms = record { split = true; base = base; first = length (ofLog 0 ms); count = length ms }
+lists_of true base ms = record { split = true; base = base; first = length (of_log 0 ms); count = length ms }
 
 -- the shape and the place of a mark: of one in the first list, or of one after it
-abbrev pub shapeFor : Bool → Bool → Shape
-shapeFor false t = Whole
-shapeFor true true = InLog 0
-shapeFor true false = InLog 1
+abbrev pub shape_for : Bool → Bool → Shape
+shape_for false t = Whole
+shape_for true true = InLog 0
+shape_for true false = InLog 1
 
-abbrev pub placeFor : Bool → Bool → ℕ → ℕ → ℕ
-placeFor false t base i = base + i * 8
-placeFor true true base i = base + i * 7
-placeFor true false base i = base + 3 + i * 7
+abbrev pub place_for : Bool → Bool → ℕ → ℕ → ℕ
+place_for false t base i = base + i * 8
+place_for true true base i = base + i * 7
+place_for true false base i = base + 3 + i * 7
 
-unfoldable pub markAt : Lists → List ℕ → ℕ → Mark
-markAt c s i = markIn (shapeFor c.split (ltb i c.first)) (drop (placeFor c.split (ltb i c.first) c.base i) s)
+unfoldable pub mark_at : Lists → List ℕ → ℕ → Mark
+mark_at c s i = mark_in (shape_for c.split (ltb i c.first)) (drop (place_for c.split (ltb i c.first) c.base i) s)
 
 -- where the marks end
-abbrev pub endFor : Bool → ℕ → ℕ → ℕ
-endFor false base n = base + n * 8
-endFor true base n = base + 3 + n * 7
+abbrev pub end_for : Bool → ℕ → ℕ → ℕ
+end_for false base n = base + n * 8
+end_for true base n = base + 3 + n * 7
 
 abbrev pub end_of : Lists → ℕ
-end_of c = endFor c.split c.base c.count
+end_of c = end_for c.split c.base c.count
 
 -- so many marks as a sheet can have, all in these bytes
 pub record Held (c : Lists) (s : List ℕ) : Type 0 where
@@ -74,8 +74,8 @@ unfoldable pub span : (ℕ → Mark) → ℕ → ℕ → List Mark
 span nth i zero = []
 span nth i (suc n) = nth i ∷ span nth (suc i) n
 
-abbrev pub marksOf : Lists → List ℕ → List Mark
-marksOf c s = span (markAt c s) 0 c.count
+abbrev pub marks_of : Lists → List ℕ → List Mark
+marks_of c s = span (mark_at c s) 0 c.count
 
 -- ---- a changed list
 unfoldable pub changed : Change → List Mark → List Mark
@@ -85,11 +85,11 @@ changed (Skip k) ms = take k ms ++ drop (suc k) ms
 changed Clear ms = []
 
 -- how many marks it has
-abbrev pub newCount : Change → Lists → ℕ
-newCount Keep c = c.count
-newCount (Insert k m) c = c.count + 1
-newCount (Skip k) c = c.count - 1
-newCount Clear c = 0
+abbrev pub new_count : Change → Lists → ℕ
+new_count Keep c = c.count
+new_count (Insert k m) c = c.count + 1
+new_count (Skip k) c = c.count - 1
+new_count Clear c = 0
 
 -- the number that is inserted or left out is one of the list
 abbrev pub Sound : Change → Lists → Type 0
@@ -98,18 +98,18 @@ Sound (Insert k m) c = k ≤ c.count
 Sound (Skip k) c = k < c.count
 Sound Clear c = Unit {0}
 
-abbrev pub noMark : Mark
-noMark = record { log = 0; place = 0; station = 0; comment = 0 }
+abbrev pub no_mark : Mark
+no_mark = record { log = 0; place = 0; station = 0; comment = 0 }
 
-unfoldable pub newAt : Change → Lists → List ℕ → ℕ → Mark
-newAt Keep c s j = markAt c s j
-newAt (Insert k m) c s j = cond (ltb j k) (markAt c s j) (cond (eqb j k) m (markAt c s (j - 1)))
-newAt (Skip k) c s j = cond (ltb j k) (markAt c s j) (markAt c s (j + 1))
-newAt Clear c s j = noMark
+unfoldable pub new_at : Change → Lists → List ℕ → ℕ → Mark
+new_at Keep c s j = mark_at c s j
+new_at (Insert k m) c s j = cond (ltb j k) (mark_at c s j) (cond (eqb j k) m (mark_at c s (j - 1)))
+new_at (Skip k) c s j = cond (ltb j k) (mark_at c s j) (mark_at c s (j + 1))
+new_at Clear c s j = no_mark
 
 -- ---- for any lists and bytes
-abbrev pub heldIn : Lists → ℕ → Bool
-heldIn c n = leb c.count 8191 && (leb c.base 14 && leb (end_of c) n)
+abbrev pub held_in : Lists → ℕ → Bool
+held_in c n = leb c.count 8191 && (leb c.base 14 && leb (end_of c) n)
 
-unfoldable pub foundMark : Lists → List ℕ → ℕ → MarkFound
-foundMark c s i = cond (ltb i c.count && heldIn c (length s)) (Found (markAt c s i)) Nothing
+unfoldable pub found_mark : Lists → List ℕ → ℕ → MarkFound
+found_mark c s i = cond (ltb i c.count && held_in c (length s)) (Found (mark_at c s i)) Nothing

@@ -1,7 +1,7 @@
 // Marks in lent bytes (document 02, W-203, W-211): one mark, a pass over a list of them, the mark with a number, and a changed list by its numbers.
 ghost use Rattle.std.specs.Prelude.{◌≡◌, ℕ, ◌+◌, ◌*◌, ◌<◌, ◌≤◌, ◌^◌, ◌||◌, ltb, length};
-ghost use Rattle.rules.specs.Mark.{key, size, number4, logIn, markIn, fits, count, plus};
-ghost use Rattle.marks.specs.Lists.{passing, tally, bothTallies, shapeFor, placeFor, markAt, end_of, Held, heldIn, span, newCount, newAt, Sound, foundMark};
+ghost use Rattle.rules.specs.Mark.{key, size, number4, log_in, mark_in, fits, count, plus};
+ghost use Rattle.marks.specs.Lists.{passing, tally, both_tallies, shape_for, place_for, mark_at, end_of, Held, held_in, span, new_count, new_at, Sound, found_mark};
 
 use numbers::octet;
 use rules::{Mark, Shape};
@@ -47,7 +47,7 @@ pub fn size_of(shape: Shape) -> usize
 
 fn log_in(bs: &[u8], shape: Shape) -> u8
     requires { size shape ≤ length bs.now }
-    ensures { result ≡ logIn shape bs.now }
+    ensures { result ≡ log_in shape bs.now }
 {
     match shape {
         Shape::Whole => bs[4],
@@ -65,7 +65,7 @@ pub fn place_in(bs: &[u8]) -> u32
 // The mark that the first bytes spell.
 fn mark_in(bs: &[u8], shape: Shape) -> Mark
     requires { size shape ≤ length bs.now }
-    ensures { result ≡ markIn shape bs.now }
+    ensures { result ≡ mark_in shape bs.now }
 {
     let n = size_of(shape);
     Mark {
@@ -153,7 +153,7 @@ pub fn pass_marks(body: &[u8], n: usize, shape: Shape, key: usize) -> Tally
 // What is told of two lists, one after the other.
 pub fn both_tallies(low: Tally, high: Tally) -> Tally
     requires { (low.count + high.count < 2 ^ 32) × ((low.first + high.first < 2 ^ 32) × (low.below + high.below < 2 ^ 32)) }
-    ensures { result ≡ bothTallies low high }
+    ensures { result ≡ both_tallies low high }
 {
     Tally {
         count: low.count + high.count,
@@ -176,7 +176,7 @@ pub struct Lists {
 }
 
 fn shape_at(lists: Lists, i: usize) -> Shape
-    ensures { result ≡ shapeFor lists.split (ltb i lists.first) }
+    ensures { result ≡ shape_for lists.split (ltb i lists.first) }
 {
     if lists.split {
         if i < lists.first {
@@ -189,7 +189,7 @@ fn shape_at(lists: Lists, i: usize) -> Shape
 
 fn place_at(lists: Lists, i: usize) -> usize
     requires { (i < 8192) × (lists.base ≤ 14) }
-    ensures { result ≡ placeFor lists.split (ltb i lists.first) lists.base i }
+    ensures { result ≡ place_for lists.split (ltb i lists.first) lists.base i }
 {
     if lists.split {
         if i < lists.first {
@@ -214,7 +214,7 @@ pub fn end_of(lists: Lists) -> usize
 // The mark with a number.
 pub fn mark_at(s: &[u8], lists: Lists, i: usize) -> Mark
     requires { (i < lists.count) × Held lists s.now }
-    ensures { result ≡ markAt lists s.now i }
+    ensures { result ≡ mark_at lists s.now i }
 {
     let shape = shape_at(lists, i);
     let at = place_at(lists, i);
@@ -234,8 +234,8 @@ pub enum Change {
 
 // The mark with a number in the changed list.
 pub fn new_mark(s: &[u8], lists: Lists, change: Change, j: usize) -> Mark
-    requires { (j < newCount change lists) × (Sound change lists × Held lists s.now) }
-    ensures { result ≡ newAt change lists s.now j }
+    requires { (j < new_count change lists) × (Sound change lists × Held lists s.now) }
+    ensures { result ≡ new_at change lists s.now j }
 {
     match change {
         Change::Keep => mark_at(s, lists, j),
@@ -265,8 +265,8 @@ pub fn new_mark(s: &[u8], lists: Lists, change: Change, j: usize) -> Mark
 
 // How many marks of the changed list are of a station: a fresh count.
 pub fn count_new(s: &[u8], lists: Lists, change: Change, n: usize, station: u8) -> usize
-    requires { (n ≡ newCount change lists) × (Sound change lists × Held lists s.now) }
-    ensures { (result ≡ count station (span (newAt change lists s.now) 0 n)) × (result ≤ n) }
+    requires { (n ≡ new_count change lists) × (Sound change lists × Held lists s.now) }
+    ensures { (result ≡ count station (span (new_at change lists s.now) 0 n)) × (result ≤ n) }
 {
     let mut total: usize = 0;
     let mut j: usize = 0;
@@ -282,7 +282,7 @@ pub fn count_new(s: &[u8], lists: Lists, change: Change, n: usize, station: u8) 
 
 // Whether the lists lie in so many bytes: no more marks than the length of a field can say, from no later place than a sheet's marks start at.
 fn lists_held(lists: Lists, len: usize) -> bool
-    ensures { result ≡ heldIn lists len }
+    ensures { result ≡ held_in lists len }
 {
     if 8191 < lists.count {
         return false;
@@ -301,7 +301,7 @@ pub enum MarkFound {
 
 // The mark with a number, of a sheet whose lists reading told.
 pub fn find_mark(sheet: &[u8], lists: Lists, i: usize) -> MarkFound
-    ensures { result ≡ foundMark lists sheet.now i }
+    ensures { result ≡ found_mark lists sheet.now i }
 {
     if lists.count <= i {
         return MarkFound::Nothing;

@@ -7,23 +7,23 @@ use Rattle.std.proofs.Math.Option.{Option, none, some}
 use Rattle.rules.specs.Answer.{Answer, ok, refused, if◌then◌else◌}
 use Rattle.rules.specs.Presence.{flags, has}
 use Rattle.rules.specs.Catalogue.{categories}
-use Rattle.tables.specs.Profiles.{frnIn}
-use Rattle.items.specs.Answers.{profileIn}
-use Rattle.sets.specs.Sets.{categoryAt, set_at}
-use Rattle.sets.specs.Steps.{typeFrn}
-use Rattle.quick_items.specs.Item.{octetsAt}
+use Rattle.tables.specs.Profiles.{frn_in}
+use Rattle.items.specs.Answers.{profile_in}
+use Rattle.sets.specs.Sets.{category_at, set_at}
+use Rattle.sets.specs.Steps.{type_frn}
+use Rattle.quick_items.specs.Item.{octets_at}
 use Rattle.measuring.specs.declared.record.Measured.{Measured}
 
 -- ---- the items that flags name, the first flag's FRN given, from a place on: where they end. What is past the end counts as 0
 
-unfoldable pub endFrom : ℕ → List Bool → ℕ → List ℕ → ℕ → ℕ
-endFrom i [] f bs at = at
-endFrom i (false ∷ ts) f bs at = endFrom i ts (f + 1) bs at
-endFrom i (true ∷ ts) f bs at = endFrom i ts (f + 1) bs (at + octetsAt i f (drop at bs))
+unfoldable pub end_from : ℕ → List Bool → ℕ → List ℕ → ℕ → ℕ
+end_from i [] f bs at = at
+end_from i (false ∷ ts) f bs at = end_from i ts (f + 1) bs at
+end_from i (true ∷ ts) f bs at = end_from i ts (f + 1) bs (at + octets_at i f (drop at bs))
 
 -- those of a set; and those of it that stand before an FRN, which is where the item at the FRN starts
 unfoldable pub end_of : ℕ → ℕ → List ℕ → ℕ → ℕ
-end_of i bits bs at = endFrom i (flags 63 bits) 1 bs at
+end_of i bits bs at = end_from i (flags 63 bits) 1 bs at
 
 unfoldable pub start_of : ℕ → ℕ → ℕ → List ℕ → ℕ → ℕ
 start_of i f bits bs at = end_of i (bits / 2 ^ (64 - f) * 2 ^ (64 - f)) bs at
@@ -31,23 +31,23 @@ start_of i f bits bs at = end_of i (bits / 2 ^ (64 - f) * 2 ^ (64 - f)) bs at
 -- ---- the time of a record whose set has been read
 
 -- the FRN of the time, 0 where the profile has none
-abbrev pub timeFrn : ℕ → ℕ
-timeFrn i = frnIn (categoryAt i).time (categoryAt i)
+abbrev pub time_frn : ℕ → ℕ
+time_frn i = frn_in (category_at i).time (category_at i)
 
-abbrev pub isIn : ℕ → ℕ → Bool
-isIn f bits = eqb (bits / 2 ^ (63 - f) % 2) 1
+abbrev pub is_in : ℕ → ℕ → Bool
+is_in f bits = eqb (bits / 2 ^ (63 - f) % 2) 1
 
 -- a message type whose records count as untimed
-abbrev pub isUntimed : ℕ → ℕ → Bool
-isUntimed i kind = has kind (categoryAt i).untimed
+abbrev pub is_untimed : ℕ → ℕ → Bool
+is_untimed i kind = has kind (category_at i).untimed
 
-unfoldable pub clockAt : List ℕ → ℕ → Option ℕ
-clockAt bs at = if leb (at + 3) (length bs) then some (get_or bs at 0 * 65_536 + get_or bs (at + 1) 0 * 256 + get_or bs (at + 2) 0) else none
+unfoldable pub clock_at : List ℕ → ℕ → Option ℕ
+clock_at bs at = if leb (at + 3) (length bs) then some (get_or bs at 0 * 65_536 + get_or bs (at + 1) 0 * 256 + get_or bs (at + 2) 0) else none
 
-unfoldable pub timeIn : ℕ → ℕ → List ℕ → ℕ → Option ℕ
-timeIn i bits bs at =
-    if isIn (timeFrn i) bits
-    then if isUntimed i (get_or bs (start_of i (typeFrn i) bits bs at) 0) then none else clockAt bs (start_of i (timeFrn i) bits bs at)
+unfoldable pub time_in : ℕ → ℕ → List ℕ → ℕ → Option ℕ
+time_in i bits bs at =
+    if is_in (time_frn i) bits
+    then if is_untimed i (get_or bs (start_of i (type_frn i) bits bs at) 0) then none else clock_at bs (start_of i (time_frn i) bits bs at)
     else none
 
 -- ---- a record
@@ -57,13 +57,13 @@ sized n none = record { size = n; timed = false; time = 0 }
 sized n (some t) = record { size = n; timed = true; time = t }
 
 -- size 0 where it has no FSPEC of its profile, or ends past the octets
-abbrev pub measureBy : ℕ → List ℕ → Answer (ℕ × ℕ) → Measured
-measureBy i bs (refused n p) = sized 0 none
-measureBy i bs (ok (bits, used)) = if leb (end_of i bits bs used) (length bs) then sized (end_of i bits bs used) (timeIn i bits bs used) else sized 0 none
+abbrev pub measure_by : ℕ → List ℕ → Answer (ℕ × ℕ) → Measured
+measure_by i bs (refused n p) = sized 0 none
+measure_by i bs (ok (bits, used)) = if leb (end_of i bits bs used) (length bs) then sized (end_of i bits bs used) (time_in i bits bs used) else sized 0 none
 
-unfoldable pub measureIn : ℕ → List ℕ → Measured
-measureIn i bs = measureBy i bs (set_at i bs)
+unfoldable pub measure_in : ℕ → List ℕ → Measured
+measure_in i bs = measure_by i bs (set_at i bs)
 
 -- the record that starts octets, of a category
-unfoldable pub measureOf : ℕ → List ℕ → Measured
-measureOf cat bs = measureIn (profileIn cat categories) bs
+unfoldable pub measure_of : ℕ → List ℕ → Measured
+measure_of cat bs = measure_in (profile_in cat categories) bs

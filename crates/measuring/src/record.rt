@@ -2,10 +2,10 @@
 ghost use Rattle.std.specs.Prelude.{◌≡◌, true, ◌-◌, ◌*◌, ◌/◌, ◌^◌, ◌≤◌, ◌<◌, min, get_or, drop};
 ghost use Rattle.std.proofs.Math.Option.{none};
 ghost use Rattle.rules.specs.Answer.{ok};
-ghost use Rattle.sets.specs.Steps.{typeFrn};
-ghost use Rattle.items.specs.Answers.{checkAt};
-ghost use Rattle.quick_items.specs.Item.{exactSteps, sizeOr0, octetsAt};
-ghost use Rattle.measuring.specs.Measure.{end_of, start_of, timeFrn, isUntimed, clockAt, timeIn, sized, measureBy, measureOf};
+ghost use Rattle.sets.specs.Steps.{type_frn};
+ghost use Rattle.items.specs.Answers.{check_at};
+ghost use Rattle.quick_items.specs.Item.{exact_steps, size_or0, octets_at};
+ghost use Rattle.measuring.specs.Measure.{end_of, start_of, time_frn, is_untimed, clock_at, time_in, sized, measure_by, measure_of};
 
 use items::{ItemCheck, check_item};
 use numbers::{octet, wide};
@@ -40,7 +40,7 @@ fn lesser(a: usize, b: usize) -> usize
 
 // The octets of the item at an FRN that starts at a place, by its check; 0 where it is refused.
 fn asked_octets(profile: usize, frn: usize, part: &[u8], at: usize) -> usize
-    ensures { result ≡ sizeOr0 (checkAt profile frn (drop at part.now)) }
+    ensures { result ≡ size_or0 (check_at profile frn (drop at part.now)) }
 {
     let from = lesser(at, part.len());
     match check_item(profile, frn, &part[from..]) {
@@ -54,8 +54,8 @@ fn asked_octets(profile: usize, frn: usize, part: &[u8], at: usize) -> usize
 
 // The same by its word, and where it is not one part by its first octet. A word of 0 says that the first octet does not tell.
 fn octets_at(t: &Steps, profile: usize, frn: usize, part: &[u8], at: usize) -> usize
-    requires { exactSteps t.now ≡ true }
-    ensures { result ≡ octetsAt profile frn (drop at part.now) }
+    requires { exact_steps t.now ≡ true }
+    ensures { result ≡ octets_at profile frn (drop at part.now) }
 {
     let w = word_of(t, profile, frn);
     if w < 8 {
@@ -73,7 +73,7 @@ fn octets_at(t: &Steps, profile: usize, frn: usize, part: &[u8], at: usize) -> u
 
 // Where the items of a set end, from a place on.
 fn items_from(t: &Steps, profile: usize, bits: u64, part: &[u8], from: usize) -> usize
-    requires { (bits < 2 ^ 63) × (from < 0x8000_0000_0040_0000) × (exactSteps t.now ≡ true) }
+    requires { (bits < 2 ^ 63) × (from < 0x8000_0000_0040_0000) × (exact_steps t.now ≡ true) }
     ensures { result ≡ end_of profile bits part.now from }
 {
     let mut left = bits;
@@ -96,8 +96,8 @@ fn before(bits: u64, frn: usize) -> u64
 
 // Whether the record's message type is one that counts as untimed.
 fn is_untimed(t: &Steps, profile: usize, bits: u64, part: &[u8], from: usize) -> bool
-    requires { (bits < 2 ^ 63) × (from < 2 ^ 63) × (exactSteps t.now ≡ true) }
-    ensures { result ≡ isUntimed profile (get_or part.now (start_of profile (typeFrn profile) bits part.now from) 0) }
+    requires { (bits < 2 ^ 63) × (from < 2 ^ 63) × (exact_steps t.now ≡ true) }
+    ensures { result ≡ is_untimed profile (get_or part.now (start_of profile (type_frn profile) bits part.now from) 0) }
 {
     let untimed_type = profile_row(profile).untimed as usize;
     if untimed_type == 0 {
@@ -121,7 +121,7 @@ pub fn untimed(size: usize) -> Measured
 // One of so many octets whose time stands at a place.
 pub fn timed(size: usize, part: &[u8], at: usize) -> Measured
     requires { at < 0x8000_0000_0080_0000 }
-    ensures { result ≡ sized size (clockAt part.now at) }
+    ensures { result ≡ sized size (clock_at part.now at) }
 {
     if part.len() < at + 3 {
         return untimed(size);
@@ -135,15 +135,15 @@ pub fn timed(size: usize, part: &[u8], at: usize) -> Measured
 
 // The FRN of the time, 0 where the profile has none.
 fn time_frn(profile: usize) -> usize
-    ensures { result ≡ timeFrn profile }
+    ensures { result ≡ time_frn profile }
 {
     profile_row(profile).time as usize
 }
 
 // A record that is not timed, whose set has been read.
 fn measure_untimed(t: &Steps, profile: usize, bits: u64, part: &[u8], from: usize) -> Measured
-    requires { (bits < 2 ^ 63) × (from < 2 ^ 63) × (timeIn profile bits part.now from ≡ none) × (exactSteps t.now ≡ true) }
-    ensures { result ≡ measureBy profile part.now (ok (bits, from)) }
+    requires { (bits < 2 ^ 63) × (from < 2 ^ 63) × (time_in profile bits part.now from ≡ none) × (exact_steps t.now ≡ true) }
+    ensures { result ≡ measure_by profile part.now (ok (bits, from)) }
 {
     let end = items_from(t, profile, bits, part, from);
     if part.len() < end {
@@ -154,8 +154,8 @@ fn measure_untimed(t: &Steps, profile: usize, bits: u64, part: &[u8], from: usiz
 
 // Any record whose set has been read: most have no time, and need no look for it.
 fn measure_set(t: &Steps, profile: usize, bits: u64, part: &[u8], from: usize) -> Measured
-    requires { (bits < 2 ^ 63) × (from < 2 ^ 63) × (exactSteps t.now ≡ true) }
-    ensures { result ≡ measureBy profile part.now (ok (bits, from)) }
+    requires { (bits < 2 ^ 63) × (from < 2 ^ 63) × (exact_steps t.now ≡ true) }
+    ensures { result ≡ measure_by profile part.now (ok (bits, from)) }
 {
     let frn = time_frn(profile);
     if (bits >> (63 - frn)) % 2 != 1 {
@@ -175,7 +175,7 @@ fn measure_set(t: &Steps, profile: usize, bits: u64, part: &[u8], from: usize) -
 
 // The record at the start of a part.
 pub fn measure(category: u8, part: &[u8]) -> Measured
-    ensures { result ≡ measureOf category part.now }
+    ensures { result ≡ measure_of category part.now }
 {
     let profile = profile_of(category);
     let SetRead::Items { set, octets } = ItemSet::from_octets(profile, part) else {

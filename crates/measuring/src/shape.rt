@@ -1,8 +1,8 @@
 // A record whose FSPEC is a known shape: its size is one row of a table, and one octet of the record at most; the row tells where its time stands, and by
 // which octet it counts as untimed.
 ghost use Rattle.std.specs.Prelude.{◌≡◌, true};
-ghost use Rattle.measuring.specs.Measure.{measureOf};
-ghost use Rattle.measuring.specs.Shape.{soundShapes, Told};
+ghost use Rattle.measuring.specs.Measure.{measure_of};
+ghost use Rattle.measuring.specs.Shape.{sound_shapes, Told};
 
 use super::record::{Measured, measure, octet_at, timed, untimed};
 use numbers::octet;
@@ -150,14 +150,14 @@ const SHAPES: Shapes = [
 // ---- end of what is made
 
 pub fn shapes() -> Shapes
-    ensures { soundShapes result ≡ true }
+    ensures { sound_shapes result ≡ true }
 {
     SHAPES
 }
 
 // The record at the start of a part, where it has a known shape and ends within the part; a size of 0 tells nothing.
 pub fn measure_shape(shapes: &Shapes, profile: usize, part: &[u8]) -> Measured
-    requires { soundShapes shapes.now ≡ true }
+    requires { sound_shapes shapes.now ≡ true }
     ensures { Told result profile part.now }
 {
     if part.len() < 5 {
@@ -195,8 +195,8 @@ pub fn measure_shape(shapes: &Shapes, profile: usize, part: &[u8]) -> Measured
 
 // The record at the start of a part: by its shape, and else item by item.
 pub fn measure_by(shapes: &Shapes, category: u8, part: &[u8]) -> Measured
-    requires { soundShapes shapes.now ≡ true }
-    ensures { result ≡ measureOf category part.now }
+    requires { sound_shapes shapes.now ≡ true }
+    ensures { result ≡ measure_of category part.now }
 {
     let known = measure_shape(shapes, profile_of(category), part);
     if known.size != 0 {

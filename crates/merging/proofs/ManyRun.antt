@@ -7,7 +7,7 @@ use lib.ListN.{length}
 use lib.IntN.{ℤ}
 use Rattle.rules.specs.Answer.{if◌then◌else◌}
 use Rattle.rules.specs.Catalogue.{categories}
-use Rattle.rules.specs.Merge.{Log, logA, logB, Span, mergeRun}
+use Rattle.rules.specs.Merge.{Log, log_a, log_b, Span, merge_run}
 use Rattle.rules.proofs.AnswerLaws.{Octets}
 use Rattle.merging.specs.declared.run.Log as code
 use Rattle.merging.specs.declared.run.Log.TheVariants as log
@@ -16,81 +16,81 @@ use Rattle.merging.specs.declared.run.Told.TheVariants as told
 use Rattle.merging.specs.declared.run.Merge.{Merge}
 use Rattle.merging.specs.declared.run.Moved.{Moved}
 use Rattle.merging.specs.declared.run.Begun.TheVariants as begun
-use Rattle.merging.specs.Run.{move_of, beginOf, whenMoved, moves, moves_of}
-use Rattle.merging.specs.Many.{logNumber, numbersOf, Many, nothing, and_then, manyOf}
+use Rattle.merging.specs.Run.{move_of, begin_of, when_moved, moves, moves_of}
+use Rattle.merging.specs.Many.{log_number, numbers_of, Many, nothing, and_then, many_of}
 use Rattle.merging.proofs.RunLaws.{run_is}
 
 -- ---- the records that numbers tell, six to each: log, length, and the cursor's block, place, end and category
 
 abbrev pub log_at : ℕ → Log
-log_at zero = logA
-log_at (suc n) = logB
+log_at zero = log_a
+log_at (suc n) = log_b
 
-abbrev pub spansOf : List ℕ → List (Log × Span)
-spansOf (l ∷ n ∷ b ∷ p ∷ e ∷ c ∷ ws) = (log_at l, (p, n)) ∷ spansOf ws
-spansOf [] = []
-spansOf (l ∷ []) = []
-spansOf (l ∷ n ∷ []) = []
-spansOf (l ∷ n ∷ b ∷ []) = []
-spansOf (l ∷ n ∷ b ∷ p ∷ []) = []
-spansOf (l ∷ n ∷ b ∷ p ∷ e ∷ []) = []
+abbrev pub spans_of : List ℕ → List (Log × Span)
+spans_of (l ∷ n ∷ b ∷ p ∷ e ∷ c ∷ ws) = (log_at l, (p, n)) ∷ spans_of ws
+spans_of [] = []
+spans_of (l ∷ []) = []
+spans_of (l ∷ n ∷ []) = []
+spans_of (l ∷ n ∷ b ∷ []) = []
+spans_of (l ∷ n ∷ b ∷ p ∷ []) = []
+spans_of (l ∷ n ∷ b ∷ p ∷ e ∷ []) = []
 
 -- ---- so many at once are so many steps
 
 module _ (as' bs : List ℕ) where
   abbrev Same : ℕ → Merge → Type 0
-  Same k m = spansOf (manyOf k as' bs m).numbers ≡ moves k as' bs m
+  Same k m = spans_of (many_of k as' bs m).numbers ≡ moves k as' bs m
 
-  moves-by : (k : ℕ) (m : Merge) (t : Told) → (move_of as' bs m).told ≡ t → Same k (move_of as' bs m).merge → Same (suc k) m
-  unfolding manyOf moves if◌then◌else◌
-  moves-by k m (told.Next log.A) e ih = rw e (ap (λ z. (logA, ((move_of as' bs m).at.place, (move_of as' bs m).size)) ∷ z) ih)
-  moves-by k m (told.Next log.B) e ih = rw e (ap (λ z. (logB, ((move_of as' bs m).at.place, (move_of as' bs m).size)) ∷ z) ih)
-  moves-by k m told.Finished e ih = rw e
-  moves-by k m (told.NotAccepted l n p) e ih = rw e
-  moves-by k m (told.Refused n) e ih = rw e
+  moves_by : (k : ℕ) (m : Merge) (t : Told) → (move_of as' bs m).told ≡ t → Same k (move_of as' bs m).merge → Same (suc k) m
+  unfolding many_of moves if◌then◌else◌
+  moves_by k m (told.Next log.A) e ih = rw e (ap (λ z. (log_a, ((move_of as' bs m).at.place, (move_of as' bs m).size)) ∷ z) ih)
+  moves_by k m (told.Next log.B) e ih = rw e (ap (λ z. (log_b, ((move_of as' bs m).at.place, (move_of as' bs m).size)) ∷ z) ih)
+  moves_by k m told.Finished e ih = rw e
+  moves_by k m (told.NotAccepted l n p) e ih = rw e
+  moves_by k m (told.Refused n) e ih = rw e
 
-  pub many-moves : (k : ℕ) (m : Merge) → Same k m
-  unfolding manyOf moves
-  many-moves zero m = refl
-  many-moves (suc k) m = moves-by k m (move_of as' bs m).told refl (many-moves k (move_of as' bs m).merge)
+  pub many_moves : (k : ℕ) (m : Merge) → Same k m
+  unfolding many_of moves
+  many_moves zero m = refl
+  many_moves (suc k) m = moves_by k m (move_of as' bs m).told refl (many_moves k (move_of as' bs m).merge)
 
   -- from the beginning, with room for all, it is the rule's run
-  pub many-run : (o : ℤ) (m : Merge) → Octets as' → Octets bs → beginOf as' bs o ≡ begun.Ready m
-      → spansOf (manyOf (length as' + length bs) as' bs m).numbers ≡ mergeRun categories as' bs o
-  many-run o m oa ob e = many-moves (length as' + length bs) m ∙ sym (ap (moves_of (length as' + length bs) as' bs) e) ∙ run_is as' bs oa ob o
+  pub many_run : (o : ℤ) (m : Merge) → Octets as' → Octets bs → begin_of as' bs o ≡ begun.Ready m
+      → spans_of (many_of (length as' + length bs) as' bs m).numbers ≡ merge_run categories as' bs o
+  many_run o m oa ob e = many_moves (length as' + length bs) m ∙ sym (ap (moves_of (length as' + length bs) as' bs) e) ∙ run_is as' bs oa ob o
 
   -- ---- in two calls as in one
 
   abbrev Joined : ℕ → ℕ → Merge → Type 0
-  Joined j k m = (manyOf (j + k) as' bs m).numbers ≡ (manyOf j as' bs m).numbers ++ (manyOf k as' bs (manyOf j as' bs m).merge).numbers
+  Joined j k m = (many_of (j + k) as' bs m).numbers ≡ (many_of j as' bs m).numbers ++ (many_of k as' bs (many_of j as' bs m).merge).numbers
 
   abbrev Still : Merge → Told → Type 0
-  Still m t = (k : ℕ) → (move_of as' bs m).told ≡ t → (manyOf k as' bs m).numbers ≡ []
+  Still m t = (k : ℕ) → (move_of as' bs m).told ≡ t → (many_of k as' bs m).numbers ≡ []
 
-  still-finished : (m : Merge) → Still m told.Finished
-  unfolding manyOf if◌then◌else◌
-  still-finished m zero e = refl
-  still-finished m (suc k) e = rw e
+  still_finished : (m : Merge) → Still m told.Finished
+  unfolding many_of if◌then◌else◌
+  still_finished m zero e = refl
+  still_finished m (suc k) e = rw e
 
-  still-closed : (m : Merge) (l : code.Log) (n p : ℕ) → Still m (told.NotAccepted l n p)
-  unfolding manyOf if◌then◌else◌
-  still-closed m l n p zero e = refl
-  still-closed m l n p (suc k) e = rw e
+  still_closed : (m : Merge) (l : code.Log) (n p : ℕ) → Still m (told.NotAccepted l n p)
+  unfolding many_of if◌then◌else◌
+  still_closed m l n p zero e = refl
+  still_closed m l n p (suc k) e = rw e
 
-  still-barred : (m : Merge) (n : ℕ) → Still m (told.Refused n)
-  unfolding manyOf if◌then◌else◌
-  still-barred m n zero e = refl
-  still-barred m n (suc k) e = rw e
+  still_barred : (m : Merge) (n : ℕ) → Still m (told.Refused n)
+  unfolding many_of if◌then◌else◌
+  still_barred m n zero e = refl
+  still_barred m n (suc k) e = rw e
 
   joined_by : (j k : ℕ) (m : Merge) (t : Told) → (move_of as' bs m).told ≡ t → Joined j k (move_of as' bs m).merge → Joined (suc j) k m
-  unfolding manyOf if◌then◌else◌
-  joined_by j k m (told.Next log.A) e ih = ap (λ n. (manyOf n as' bs m).numbers) (suc-add j k) ∙ rw e (ap (λ z. numbersOf 0 (move_of as' bs m).size (move_of as' bs m).at ++ z) ih)
-  joined_by j k m (told.Next log.B) e ih = ap (λ n. (manyOf n as' bs m).numbers) (suc-add j k) ∙ rw e (ap (λ z. numbersOf 1 (move_of as' bs m).size (move_of as' bs m).at ++ z) ih)
-  joined_by j k m told.Finished e ih = still-finished m (suc j + k) e ∙ rw e (sym (still-finished m k e))
-  joined_by j k m (told.NotAccepted l n p) e ih = still-closed m l n p (suc j + k) e ∙ rw e (sym (still-closed m l n p k e))
-  joined_by j k m (told.Refused n) e ih = still-barred m n (suc j + k) e ∙ rw e (sym (still-barred m n k e))
+  unfolding many_of if◌then◌else◌
+  joined_by j k m (told.Next log.A) e ih = ap (λ n. (many_of n as' bs m).numbers) (suc-add j k) ∙ rw e (ap (λ z. numbers_of 0 (move_of as' bs m).size (move_of as' bs m).at ++ z) ih)
+  joined_by j k m (told.Next log.B) e ih = ap (λ n. (many_of n as' bs m).numbers) (suc-add j k) ∙ rw e (ap (λ z. numbers_of 1 (move_of as' bs m).size (move_of as' bs m).at ++ z) ih)
+  joined_by j k m told.Finished e ih = still_finished m (suc j + k) e ∙ rw e (sym (still_finished m k e))
+  joined_by j k m (told.NotAccepted l n p) e ih = still_closed m l n p (suc j + k) e ∙ rw e (sym (still_closed m l n p k e))
+  joined_by j k m (told.Refused n) e ih = still_barred m n (suc j + k) e ∙ rw e (sym (still_barred m n k e))
 
-  pub many-joined : (j k : ℕ) (m : Merge) → Joined j k m
-  unfolding manyOf
-  many-joined zero k m = ap (λ n. (manyOf n as' bs m).numbers) (zero-add k)
-  many-joined (suc j) k m = joined_by j k m (move_of as' bs m).told refl (many-joined j k (move_of as' bs m).merge)
+  pub many_joined : (j k : ℕ) (m : Merge) → Joined j k m
+  unfolding many_of
+  many_joined zero k m = ap (λ n. (many_of n as' bs m).numbers) (zero-add k)
+  many_joined (suc j) k m = joined_by j k m (move_of as' bs m).told refl (many_joined j k (move_of as' bs m).merge)

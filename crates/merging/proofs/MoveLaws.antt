@@ -7,8 +7,8 @@ use lib.ListN.{length}
 use lib.IntN.{ℤ}
 use Rattle.rules.specs.Answer.{ok, refused, if◌then◌else◌}
 use Rattle.rules.specs.Catalogue.{categories}
-use Rattle.rules.specs.Entry.{Counts, checkRecording}
-use Rattle.rules.specs.Merge.{logA, logB, modDay, in_range}
+use Rattle.rules.specs.Entry.{Counts, check_recording}
+use Rattle.rules.specs.Merge.{log_a, log_b, mod_day, in_range}
 use Rattle.walking.specs.declared.Cursor.{Cursor}
 use Rattle.walking.specs.Walk.{begin}
 use Rattle.merging.specs.declared.heads.Standing.{Standing}
@@ -18,62 +18,62 @@ use Rattle.merging.specs.declared.run.Which.{Which}
 use Rattle.merging.specs.declared.run.Which.TheVariants as which
 use Rattle.merging.specs.declared.run.Merge.{Merge}
 use Rattle.merging.specs.declared.run.Begun.TheVariants as begun
-use Rattle.merging.specs.Heads.{behindOf, standOf}
-use Rattle.merging.proofs.HeadLaws.{head-fits}
-use Rattle.merging.proofs.WhichLaws.{which-head}
-use Rattle.merging.specs.Run.{whichIs, whichOf, movedBy, move_of, beginOf}
+use Rattle.merging.specs.Heads.{behind_of, stand_of}
+use Rattle.merging.proofs.HeadLaws.{head_fits}
+use Rattle.merging.proofs.WhichLaws.{which_head}
+use Rattle.merging.specs.Run.{which_is, which_of, moved_by, move_of, begin_of}
 
 -- ---- a step
 
-module _ (as' bs : List ℕ) (m : Merge) (w : Which) (e : whichIs w ≡ whichOf m.turn (length as') m.a (length bs) m.b) where
-  moved-is : (v : Which) → w ≡ v → movedBy as' bs m (whichIs v) ≡ move_of as' bs m
+module _ (as' bs : List ℕ) (m : Merge) (w : Which) (e : which_is w ≡ which_of m.turn (length as') m.a (length bs) m.b) where
+  moved_is : (v : Which) → w ≡ v → moved_by as' bs m (which_is v) ≡ move_of as' bs m
   unfolding move_of
-  moved-is v h = ap (movedBy as' bs m) (sym (ap whichIs h) ∙ e)
+  moved_is v h = ap (moved_by as' bs m) (sym (ap which_is h) ∙ e)
 
   module _ (h : w ≡ which.OfA) where
-    pub fits-a : m.a.at.place + m.a.size ≤ length as'
-    fits-a = head-fits (length as') m.a (which-head m.turn (length as') m.a (length bs) m.b logA (sym e ∙ ap whichIs h))
+    pub fits_a : m.a.at.place + m.a.size ≤ length as'
+    fits_a = head_fits (length as') m.a (which_head m.turn (length as') m.a (length bs) m.b log_a (sym e ∙ ap which_is h))
 
-    pub move-a : (c : Cursor) (d : Standing) → c ≡ behindOf m.a → d ≡ standOf as' c
+    pub move_a : (c : Cursor) (d : Standing) → c ≡ behind_of m.a → d ≡ stand_of as' c
         → record { told = told.Next log.A; at = m.a.at; size = m.a.size; merge = record { a = d; b = m.b; turn = m.turn } } ≡ move_of as' bs m
-    move-a c d g s =
-        ap (λ z. record { told = told.Next log.A; at = m.a.at; size = m.a.size; merge = record { a = z; b = m.b; turn = m.turn } }) (s ∙ ap (standOf as') g)
-        ∙ moved-is which.OfA h
+    move_a c d g s =
+        ap (λ z. record { told = told.Next log.A; at = m.a.at; size = m.a.size; merge = record { a = z; b = m.b; turn = m.turn } }) (s ∙ ap (stand_of as') g)
+        ∙ moved_is which.OfA h
 
   module _ (h : w ≡ which.OfB) where
-    pub fits-b : m.b.at.place + m.b.size ≤ length bs
-    fits-b = head-fits (length bs) m.b (which-head m.turn (length as') m.a (length bs) m.b logB (sym e ∙ ap whichIs h))
+    pub fits_b : m.b.at.place + m.b.size ≤ length bs
+    fits_b = head_fits (length bs) m.b (which_head m.turn (length as') m.a (length bs) m.b log_b (sym e ∙ ap which_is h))
 
-    pub move-b : (c : Cursor) (d : Standing) → c ≡ behindOf m.b → d ≡ standOf bs c
+    pub move_b : (c : Cursor) (d : Standing) → c ≡ behind_of m.b → d ≡ stand_of bs c
         → record { told = told.Next log.B; at = m.b.at; size = m.b.size; merge = record { a = m.a; b = d; turn = m.turn } } ≡ move_of as' bs m
-    move-b c d g s =
-        ap (λ z. record { told = told.Next log.B; at = m.b.at; size = m.b.size; merge = record { a = m.a; b = z; turn = m.turn } }) (s ∙ ap (standOf bs) g)
-        ∙ moved-is which.OfB h
+    move_b c d g s =
+        ap (λ z. record { told = told.Next log.B; at = m.b.at; size = m.b.size; merge = record { a = m.a; b = z; turn = m.turn } }) (s ∙ ap (stand_of bs) g)
+        ∙ moved_is which.OfB h
 
-  pub move-none : (c : Cursor) → w ≡ which.Neither → c ≡ begin → record { told = told.Finished; at = c; size = 0; merge = m } ≡ move_of as' bs m
-  move-none c h g = ap (λ z. record { told = told.Finished; at = z; size = 0; merge = m }) g ∙ moved-is which.Neither h
+  pub move_none : (c : Cursor) → w ≡ which.Neither → c ≡ begin → record { told = told.Finished; at = c; size = 0; merge = m } ≡ move_of as' bs m
+  move_none c h g = ap (λ z. record { told = told.Finished; at = z; size = 0; merge = m }) g ∙ moved_is which.Neither h
 
 -- ---- the beginning
 
 module _ (as' bs : List ℕ) (o : ℤ) where
-  pub begin-a : (n p : ℕ) → refused n p ≡ checkRecording categories as' → begun.NotAccepted log.A n p ≡ beginOf as' bs o
-  unfolding beginOf
-  begin-a n p e = rw (← e)
+  pub begin_a : (n p : ℕ) → refused n p ≡ check_recording categories as' → begun.NotAccepted log.A n p ≡ begin_of as' bs o
+  unfolding begin_of
+  begin_a n p e = rw (← e)
 
-  module _ (x : Counts) (ea : ok x ≡ checkRecording categories as') where
-    pub begin-b : (n p : ℕ) → refused n p ≡ checkRecording categories bs → begun.NotAccepted log.B n p ≡ beginOf as' bs o
-    unfolding beginOf
-    begin-b n p e = rw (← ea, ← e)
+  module _ (x : Counts) (ea : ok x ≡ check_recording categories as') where
+    pub begin_b : (n p : ℕ) → refused n p ≡ check_recording categories bs → begun.NotAccepted log.B n p ≡ begin_of as' bs o
+    unfolding begin_of
+    begin_b n p e = rw (← ea, ← e)
 
-    module _ (y : Counts) (eb : ok y ≡ checkRecording categories bs) where
-      pub begin-22 : in_range o ≡ false → begun.Refused 22 ≡ beginOf as' bs o
-      unfolding beginOf if◌then◌else◌
-      begin-22 e = rw (← ea, ← eb, e)
+    module _ (y : Counts) (eb : ok y ≡ check_recording categories bs) where
+      pub begin_22 : in_range o ≡ false → begun.Refused 22 ≡ begin_of as' bs o
+      unfolding begin_of if◌then◌else◌
+      begin_22 e = rw (← ea, ← eb, e)
 
-      pub begin-ready : in_range o ≡ true → (c d : Cursor) (s t : Standing) (turn : ℕ) → c ≡ begin → s ≡ standOf as' c → d ≡ begin → t ≡ standOf bs d → turn ≡ modDay o
-          → begun.Ready (record { a = s; b = t; turn = turn }) ≡ beginOf as' bs o
-      unfolding beginOf if◌then◌else◌
-      begin-ready e c d s t turn hc hs hd ht h =
+      pub begin_ready : in_range o ≡ true → (c d : Cursor) (s t : Standing) (turn : ℕ) → c ≡ begin → s ≡ stand_of as' c → d ≡ begin → t ≡ stand_of bs d → turn ≡ mod_day o
+          → begun.Ready (record { a = s; b = t; turn = turn }) ≡ begin_of as' bs o
+      unfolding begin_of if◌then◌else◌
+      begin_ready e c d s t turn hc hs hd ht h =
           rw (← ea, ← eb, e)
-          (ap₂ (λ y z. begun.Ready (record { a = y; b = z; turn = turn })) (hs ∙ ap (standOf as') hc) (ht ∙ ap (standOf bs) hd)
-          ∙ ap (λ z. begun.Ready (record { a = standOf as' begin; b = standOf bs begin; turn = z })) h)
+          (ap₂ (λ y z. begun.Ready (record { a = y; b = z; turn = turn })) (hs ∙ ap (stand_of as') hc) (ht ∙ ap (stand_of bs) hd)
+          ∙ ap (λ z. begun.Ready (record { a = stand_of as' begin; b = stand_of bs begin; turn = z })) h)

@@ -7,9 +7,9 @@ use Rattle.std.proofs.Math.Option.{Option, none, some}
 use Rattle.rules.specs.Answer.{Answer, ok, refused, if◌then◌else◌}
 use Rattle.rules.specs.Merge.{Head}
 use Rattle.measuring.specs.declared.record.Measured.{Measured}
-use Rattle.measuring.specs.Measure.{measureOf}
+use Rattle.measuring.specs.Measure.{measure_of}
 use Rattle.walking.specs.declared.Cursor.{Cursor}
-use Rattle.walking.specs.Walk.{part, blockAt}
+use Rattle.walking.specs.Walk.{part, block_at}
 use Rattle.merging.specs.declared.heads.Standing.{Standing}
 use Rattle.merging.specs.declared.heads.Sought.{Sought}
 use Rattle.merging.specs.declared.heads.Sought.TheVariants as sought
@@ -17,67 +17,67 @@ use Rattle.merging.specs.declared.heads.Sought.TheVariants as sought
 -- ---- where a walk stands
 
 -- in a block of a log of so many octets, or at its end
-unfoldable pub inLog : ℕ → Cursor → Bool
-inLog n c = leb c.block c.place && (leb c.place c.end && leb c.end n)
+unfoldable pub in_log : ℕ → Cursor → Bool
+in_log n c = leb c.block c.place && (leb c.place c.end && leb c.end n)
 
 -- at the log's end
-abbrev pub endCursor : ℕ → Cursor
-endCursor n = record { block = 0; place = n; end = n; category = 0 }
+abbrev pub end_cursor : ℕ → Cursor
+end_cursor n = record { block = 0; place = n; end = n; category = 0 }
 
 abbrev pub end_at : ℕ → Standing
-end_at n = record { at = endCursor n; size = 0; timed = false; time = 0 }
+end_at n = record { at = end_cursor n; size = 0; timed = false; time = 0 }
 
 -- ---- the record that it comes to: the one at its place, or the first of the next block
 
-abbrev pub foundIn : ℕ → Answer Cursor → Cursor
-foundIn n (ok d) = d
-foundIn n (refused r p) = endCursor n
+abbrev pub found_in : ℕ → Answer Cursor → Cursor
+found_in n (ok d) = d
+found_in n (refused r p) = end_cursor n
 
-unfoldable pub cursorAt : List ℕ → Cursor → Cursor
-cursorAt bs c = foundIn (length bs) (blockAt bs c)
+unfoldable pub cursor_at : List ℕ → Cursor → Cursor
+cursor_at bs c = found_in (length bs) (block_at bs c)
 
-abbrev pub stoodBy : ℕ → Cursor → Measured → Standing
-stoodBy n d m = if eqb m.size 0 then end_at n else record { at = d; size = m.size; timed = m.timed; time = m.time }
+abbrev pub stood_by : ℕ → Cursor → Measured → Standing
+stood_by n d m = if eqb m.size 0 then end_at n else record { at = d; size = m.size; timed = m.timed; time = m.time }
 
-unfoldable pub stoodAt : List ℕ → Cursor → Standing
-stoodAt bs d = stoodBy (length bs) d (measureOf d.category (part bs d.place d.end))
+unfoldable pub stood_at : List ℕ → Cursor → Standing
+stood_at bs d = stood_by (length bs) d (measure_of d.category (part bs d.place d.end))
 
-unfoldable pub standOf : List ℕ → Cursor → Standing
-standOf bs c = if inLog (length bs) c then stoodAt bs (cursorAt bs c) else end_at (length bs)
+unfoldable pub stand_of : List ℕ → Cursor → Standing
+stand_of bs c = if in_log (length bs) c then stood_at bs (cursor_at bs c) else end_at (length bs)
 
 -- ---- all that come
 
 -- a record of a log of so many octets, and not the log's end: it lies in its block, and that in the log
-unfoldable pub isHead : ℕ → Standing → Bool
-isHead n s =
+unfoldable pub is_head : ℕ → Standing → Bool
+is_head n s =
     leb s.at.block s.at.place
     && (leb s.at.place s.at.end && (leb s.at.end n && (ltb 0 s.size && leb s.size (s.at.end - s.at.place))))
 
-abbrev pub behindOf : Standing → Cursor
-behindOf s = record { block = s.at.block; place = s.at.place + s.size; end = s.at.end; category = s.at.category }
+abbrev pub behind_of : Standing → Cursor
+behind_of s = record { block = s.at.block; place = s.at.place + s.size; end = s.at.end; category = s.at.category }
 
-abbrev pub timeBy : Bool → ℕ → Option ℕ
-timeBy true t = some t
-timeBy false t = none
+abbrev pub time_by : Bool → ℕ → Option ℕ
+time_by true t = some t
+time_by false t = none
 
 abbrev pub head_of : Standing → Head
-head_of s = record { place = s.at.place; size = s.size; time = timeBy s.timed s.time }
+head_of s = record { place = s.at.place; size = s.size; time = time_by s.timed s.time }
 
-unfoldable pub headsUpTo : ℕ → List ℕ → Cursor → List Head
-headsUpTo zero bs c = []
-headsUpTo (suc f) bs c = if isHead (length bs) (standOf bs c) then head_of (standOf bs c) ∷ headsUpTo f bs (behindOf (standOf bs c)) else []
+unfoldable pub heads_up_to : ℕ → List ℕ → Cursor → List Head
+heads_up_to zero bs c = []
+heads_up_to (suc f) bs c = if is_head (length bs) (stand_of bs c) then head_of (stand_of bs c) ∷ heads_up_to f bs (behind_of (stand_of bs c)) else []
 
 -- a record takes an octet at least
-unfoldable pub headsLeft : List ℕ → Cursor → List Head
-headsLeft bs c = headsUpTo (suc (length bs - c.place)) bs c
+unfoldable pub heads_left : List ℕ → Cursor → List Head
+heads_left bs c = heads_up_to (suc (length bs - c.place)) bs c
 
 -- its own record and those after it
 unfoldable pub left_of : List ℕ → Standing → List Head
-left_of bs s = if isHead (length bs) s then head_of s ∷ headsLeft bs (behindOf s) else []
+left_of bs s = if is_head (length bs) s then head_of s ∷ heads_left bs (behind_of s) else []
 
 pub record Stands (bs : List ℕ) (s : Standing) (hs : List Head) : Type 0 where
   pub is : left_of bs s ≡ hs
-  pub ended : isHead (length bs) s ≡ false → s.at.place ≡ length bs
+  pub ended : is_head (length bs) s ≡ false → s.at.place ≡ length bs
 
 -- what a search for a place finds
 unfoldable pub Found : List ℕ → Sought → Option (List Head) → Type 0

@@ -2,7 +2,7 @@
 use Rattle.std.specs.Prelude.{ℕ, zero, suc, ◌+◌, List, [], ◌∷◌, ◌++◌, eqb, ltb}
 use Rattle.std.proofs.Math.Option.{Option, none, some}
 use Rattle.rules.specs.Answer.{if◌then◌else◌}
-use Rattle.rules.specs.Merge.{Log, logA, logB, Span}
+use Rattle.rules.specs.Merge.{Log, log_a, log_b, Span}
 use Rattle.walking.specs.declared.Cursor.{Cursor}
 use Rattle.merging.specs.declared.run.Log.TheVariants as log
 use Rattle.merging.specs.declared.run.Told.{Told}
@@ -15,16 +15,16 @@ use Rattle.merging.specs.Run.{move_of}
 -- ---- a record
 
 -- 0 is log A's, 1 is log B's, 2 is none
-abbrev pub logNumber : Told → ℕ
-logNumber (told.Next log.A) = 0
-logNumber (told.Next log.B) = 1
-logNumber told.Finished = 2
-logNumber (told.NotAccepted l n p) = 2
-logNumber (told.Refused n) = 2
+abbrev pub log_number : Told → ℕ
+log_number (told.Next log.A) = 0
+log_number (told.Next log.B) = 1
+log_number told.Finished = 2
+log_number (told.NotAccepted l n p) = 2
+log_number (told.Refused n) = 2
 
 abbrev pub number_of : Option Log → ℕ
-number_of (some logA) = 0
-number_of (some logB) = 1
+number_of (some log_a) = 0
+number_of (some log_b) = 1
 number_of none = 2
 
 -- of two, by that number
@@ -32,8 +32,8 @@ unfoldable pub pick : {A : Type 0} → ℕ → A → A → A
 pick l a b = if eqb l 0 then a else b
 
 -- its log, its octets, and the walk at it
-abbrev pub numbersOf : ℕ → ℕ → Cursor → List ℕ
-numbersOf l n c = l ∷ n ∷ c.block ∷ c.place ∷ c.end ∷ c.category ∷ []
+abbrev pub numbers_of : ℕ → ℕ → Cursor → List ℕ
+numbers_of l n c = l ∷ n ∷ c.block ∷ c.place ∷ c.end ∷ c.category ∷ []
 
 -- ---- at most so many
 
@@ -48,12 +48,12 @@ nothing m = record { numbers = []; count = 0; merge = m }
 abbrev pub and_then : List ℕ → Many → Many
 and_then ns r = record { numbers = ns ++ r.numbers; count = suc r.count; merge = r.merge }
 
-unfoldable pub manyOf : ℕ → List ℕ → List ℕ → Merge → Many
-manyOf zero as' bs m = nothing m
-manyOf (suc k) as' bs m =
-    if ltb (logNumber (move_of as' bs m).told) 2
-    then and_then (numbersOf (logNumber (move_of as' bs m).told) (move_of as' bs m).size (move_of as' bs m).at) (manyOf k as' bs (move_of as' bs m).merge)
+unfoldable pub many_of : ℕ → List ℕ → List ℕ → Merge → Many
+many_of zero as' bs m = nothing m
+many_of (suc k) as' bs m =
+    if ltb (log_number (move_of as' bs m).told) 2
+    then and_then (numbers_of (log_number (move_of as' bs m).told) (move_of as' bs m).size (move_of as' bs m).at) (many_of k as' bs (move_of as' bs m).merge)
     else nothing m
 
-abbrev pub ranOf : Many → Ran
-ranOf r = record { count = r.count; merge = r.merge }
+abbrev pub ran_of : Many → Ran
+ran_of r = record { count = r.count; merge = r.merge }

@@ -3,8 +3,8 @@ use Rattle.std.specs.Prelude.{ℕ, zero, suc, ◌+◌, ◌-◌, ◌%◌, Bool, t
 use Rattle.std.proofs.Math.Option.{Option, none, some}
 use Rattle.rules.specs.Answer.{Answer, ok, refused, if◌then◌else◌}
 use Rattle.rules.specs.Catalogue.{categories}
-use Rattle.rules.specs.Entry.{Counts, checkRecording}
-use Rattle.rules.specs.Merge.{day, halfDay, modDay, Log, logA, logB, logIf, Span, in_range}
+use Rattle.rules.specs.Entry.{Counts, check_recording}
+use Rattle.rules.specs.Merge.{day, half_day, mod_day, Log, log_a, log_b, log_if, Span, in_range}
 use Rattle.rules.specs.Merge as rules
 use Rattle.walking.specs.Walk.{begin}
 use Rattle.merging.specs.declared.heads.Standing.{Standing}
@@ -18,80 +18,80 @@ use Rattle.merging.specs.declared.run.Merge.{Merge}
 use Rattle.merging.specs.declared.run.Moved.{Moved}
 use Rattle.merging.specs.declared.run.Begun.{Begun}
 use Rattle.merging.specs.declared.run.Begun.TheVariants as begun
-use Rattle.merging.specs.Heads.{isHead, behindOf, timeBy, standOf}
+use Rattle.merging.specs.Heads.{is_head, behind_of, time_by, stand_of}
 
 -- ---- the answers, in the rules' words
 
-abbrev pub logIn : Log → code.Log
-logIn logA = log.A
-logIn logB = log.B
+abbrev pub log_in : Log → code.Log
+log_in log_a = log.A
+log_in log_b = log.B
 
-abbrev pub toldIn : rules.Told → Told
-toldIn (rules.next l) = told.Next (logIn l)
-toldIn rules.finished = told.Finished
-toldIn (rules.notAccepted l n p) = told.NotAccepted (logIn l) n p
-toldIn (rules.barred n) = told.Refused n
+abbrev pub told_in : rules.Told → Told
+told_in (rules.next l) = told.Next (log_in l)
+told_in rules.finished = told.Finished
+told_in (rules.not_accepted l n p) = told.NotAccepted (log_in l) n p
+told_in (rules.barred n) = told.Refused n
 
-abbrev pub whichIs : Which → Option Log
-whichIs which.OfA = some logA
-whichIs which.OfB = some logB
-whichIs which.Neither = none
+abbrev pub which_is : Which → Option Log
+which_is which.OfA = some log_a
+which_is which.OfB = some log_b
+which_is which.Neither = none
 
 -- ---- which record goes first: as `first`, with the offset modulo a day
 
-unfoldable pub firstBy : ℕ → Option ℕ → Option ℕ → Log
-firstBy turn none b = logA
-firstBy turn (some a) none = logB
-firstBy turn (some a) (some b) = logIf (leb ((b % day + turn % day + (day - a % day)) % day) halfDay)
+unfoldable pub first_by : ℕ → Option ℕ → Option ℕ → Log
+first_by turn none b = log_a
+first_by turn (some a) none = log_b
+first_by turn (some a) (some b) = log_if (leb ((b % day + turn % day + (day - a % day)) % day) half_day)
 
-abbrev pub timeOf : Standing → Option ℕ
-timeOf s = timeBy s.timed s.time
+abbrev pub time_of : Standing → Option ℕ
+time_of s = time_by s.timed s.time
 
 -- by whether each log has a record
-abbrev pub whichBy : ℕ → Bool → Bool → Option ℕ → Option ℕ → Option Log
-whichBy turn false false a b = none
-whichBy turn false true a b = some logB
-whichBy turn true false a b = some logA
-whichBy turn true true a b = some (firstBy turn a b)
+abbrev pub which_by : ℕ → Bool → Bool → Option ℕ → Option ℕ → Option Log
+which_by turn false false a b = none
+which_by turn false true a b = some log_b
+which_by turn true false a b = some log_a
+which_by turn true true a b = some (first_by turn a b)
 
-unfoldable pub whichOf : ℕ → ℕ → Standing → ℕ → Standing → Option Log
-whichOf turn m a n b = whichBy turn (isHead m a) (isHead n b) (timeOf a) (timeOf b)
+unfoldable pub which_of : ℕ → ℕ → Standing → ℕ → Standing → Option Log
+which_of turn m a n b = which_by turn (is_head m a) (is_head n b) (time_of a) (time_of b)
 
 -- ---- a step
 
-abbrev pub movedBy : List ℕ → List ℕ → Merge → Option Log → Moved
-movedBy as' bs m none = record { told = told.Finished; at = begin; size = 0; merge = m }
-movedBy as' bs m (some logA) =
-    record { told = told.Next log.A; at = m.a.at; size = m.a.size; merge = record { a = standOf as' (behindOf m.a); b = m.b; turn = m.turn } }
-movedBy as' bs m (some logB) =
-    record { told = told.Next log.B; at = m.b.at; size = m.b.size; merge = record { a = m.a; b = standOf bs (behindOf m.b); turn = m.turn } }
+abbrev pub moved_by : List ℕ → List ℕ → Merge → Option Log → Moved
+moved_by as' bs m none = record { told = told.Finished; at = begin; size = 0; merge = m }
+moved_by as' bs m (some log_a) =
+    record { told = told.Next log.A; at = m.a.at; size = m.a.size; merge = record { a = stand_of as' (behind_of m.a); b = m.b; turn = m.turn } }
+moved_by as' bs m (some log_b) =
+    record { told = told.Next log.B; at = m.b.at; size = m.b.size; merge = record { a = m.a; b = stand_of bs (behind_of m.b); turn = m.turn } }
 
 unfoldable pub move_of : List ℕ → List ℕ → Merge → Moved
-move_of as' bs m = movedBy as' bs m (whichOf m.turn (length as') m.a (length bs) m.b)
+move_of as' bs m = moved_by as' bs m (which_of m.turn (length as') m.a (length bs) m.b)
 
 -- ---- the beginning: log A's own refusal, log B's own, 22
 
-abbrev pub begunBy : List ℕ → List ℕ → ℤ → Answer Counts → Answer Counts → Begun
-begunBy as' bs offset (refused n p) b = begun.NotAccepted log.A n p
-begunBy as' bs offset (ok x) (refused n p) = begun.NotAccepted log.B n p
-begunBy as' bs offset (ok x) (ok y) =
-    if in_range offset then begun.Ready (record { a = standOf as' begin; b = standOf bs begin; turn = modDay offset }) else begun.Refused 22
+abbrev pub begun_by : List ℕ → List ℕ → ℤ → Answer Counts → Answer Counts → Begun
+begun_by as' bs offset (refused n p) b = begun.NotAccepted log.A n p
+begun_by as' bs offset (ok x) (refused n p) = begun.NotAccepted log.B n p
+begun_by as' bs offset (ok x) (ok y) =
+    if in_range offset then begun.Ready (record { a = stand_of as' begin; b = stand_of bs begin; turn = mod_day offset }) else begun.Refused 22
 
-unfoldable pub beginOf : List ℕ → List ℕ → ℤ → Begun
-beginOf as' bs offset = begunBy as' bs offset (checkRecording categories as') (checkRecording categories bs)
+unfoldable pub begin_of : List ℕ → List ℕ → ℤ → Begun
+begin_of as' bs offset = begun_by as' bs offset (check_recording categories as') (check_recording categories bs)
 
 -- ---- so many steps: the parts that they hand out
 
-abbrev pub whenMoved : Told → (Log → List (Log × Span)) → List (Log × Span)
-whenMoved (told.Next log.A) f = f logA
-whenMoved (told.Next log.B) f = f logB
-whenMoved told.Finished f = []
-whenMoved (told.NotAccepted l n p) f = []
-whenMoved (told.Refused n) f = []
+abbrev pub when_moved : Told → (Log → List (Log × Span)) → List (Log × Span)
+when_moved (told.Next log.A) f = f log_a
+when_moved (told.Next log.B) f = f log_b
+when_moved told.Finished f = []
+when_moved (told.NotAccepted l n p) f = []
+when_moved (told.Refused n) f = []
 
 unfoldable pub moves : ℕ → List ℕ → List ℕ → Merge → List (Log × Span)
 moves zero as' bs m = []
-moves (suc k) as' bs m = whenMoved (move_of as' bs m).told λ l. (l, ((move_of as' bs m).at.place, (move_of as' bs m).size)) ∷ moves k as' bs (move_of as' bs m).merge
+moves (suc k) as' bs m = when_moved (move_of as' bs m).told λ l. (l, ((move_of as' bs m).at.place, (move_of as' bs m).size)) ∷ moves k as' bs (move_of as' bs m).merge
 
 abbrev pub moves_of : ℕ → List ℕ → List ℕ → Begun → List (Log × Span)
 moves_of k as' bs (begun.Ready m) = moves k as' bs m

@@ -1,10 +1,10 @@
 // The record that comes next in a log, with its time; and the search for a place (document 02, W-201). The log was checked before: a record is only
 // measured, item by item, or by a table of shapes that is lent.
 ghost use Rattle.std.specs.Prelude.{◌≡◌, true, ◌+◌, ◌^◌, ◌≤◌, ◌<◌, length};
-ghost use Rattle.rules.specs.Merge.{fromPlace};
-ghost use Rattle.measuring.specs.Shape.{soundShapes};
+ghost use Rattle.rules.specs.Merge.{from_place};
+ghost use Rattle.measuring.specs.Shape.{sound_shapes};
 ghost use Rattle.walking.specs.Walk.{begin};
-ghost use Rattle.merging.specs.Heads.{inLog, endCursor, end_at, cursorAt, stoodBy, stoodAt, standOf, isHead, behindOf, headsLeft, Found};
+ghost use Rattle.merging.specs.Heads.{in_log, end_cursor, end_at, cursor_at, stood_by, stood_at, stand_of, is_head, behind_of, heads_left, Found};
 
 use measuring::{Measured, Shapes, measure, measure_by};
 use walking::{BlockFound, Cursor};
@@ -22,7 +22,7 @@ pub struct Standing {
 impl Standing {
     // Whether it can be a record of a log of so many bytes, and is not the log's end. What a caller has changed is so kept within the log.
     pub fn is_head(self, len: usize) -> bool
-        ensures { result ≡ isHead len self }
+        ensures { result ≡ is_head len self }
     {
         let at = self.at;
         if at.place < at.block {
@@ -44,7 +44,7 @@ impl Standing {
 // The walk behind it.
 pub fn behind(standing: Standing) -> Cursor
     requires { standing.at.place + standing.size < 2 ^ 63 }
-    ensures { result ≡ behindOf standing }
+    ensures { result ≡ behind_of standing }
 {
     let at = standing.at;
     Cursor {
@@ -74,7 +74,7 @@ fn ended(len: usize) -> Standing
 
 // Whether a cursor stands in a block of a log of so many bytes, or at the log's end.
 fn is_in_log(cursor: Cursor, len: usize) -> bool
-    ensures { result ≡ inLog len cursor }
+    ensures { result ≡ in_log len cursor }
 {
     if cursor.place < cursor.block {
         return false;
@@ -88,7 +88,7 @@ fn is_in_log(cursor: Cursor, len: usize) -> bool
 // Where the next record stands: at the cursor, or first in the next block; at the log's end where there is none.
 fn cursor_at(recording: &[u8], cursor: Cursor) -> Cursor
     requires { cursor.end ≤ length recording.now }
-    ensures { result ≡ cursorAt recording.now cursor }
+    ensures { result ≡ cursor_at recording.now cursor }
 {
     let found = walking::block_at(recording, cursor);
     match found {
@@ -107,7 +107,7 @@ fn cursor_at(recording: &[u8], cursor: Cursor) -> Cursor
 
 // The record that stands there, by what was measured.
 fn stood(len: usize, at: Cursor, measured: Measured) -> Standing
-    ensures { result ≡ stoodBy len at measured }
+    ensures { result ≡ stood_by len at measured }
 {
     if measured.size == 0 {
         return ended(len);
@@ -122,7 +122,7 @@ fn stood(len: usize, at: Cursor, measured: Measured) -> Standing
 
 fn stood_at(recording: &[u8], at: Cursor) -> Standing
     requires { (at.place ≤ at.end) × (at.end ≤ length recording.now) }
-    ensures { result ≡ stoodAt recording.now at }
+    ensures { result ≡ stood_at recording.now at }
 {
     let place = at.place;
     let end = at.end;
@@ -135,8 +135,8 @@ fn stood_at(recording: &[u8], at: Cursor) -> Standing
 
 // The same, by a table that is lent.
 fn stood_by(shapes: &Shapes, recording: &[u8], at: Cursor) -> Standing
-    requires { (soundShapes shapes.now ≡ true) × (at.place ≤ at.end) × (at.end ≤ length recording.now) }
-    ensures { result ≡ stoodAt recording.now at }
+    requires { (sound_shapes shapes.now ≡ true) × (at.place ≤ at.end) × (at.end ≤ length recording.now) }
+    ensures { result ≡ stood_at recording.now at }
 {
     let place = at.place;
     let end = at.end;
@@ -149,7 +149,7 @@ fn stood_by(shapes: &Shapes, recording: &[u8], at: Cursor) -> Standing
 
 // The record that a walk comes to from a cursor; the log's end where there is none.
 pub fn stand(recording: &[u8], cursor: Cursor) -> Standing
-    ensures { result ≡ standOf recording.now cursor }
+    ensures { result ≡ stand_of recording.now cursor }
 {
     if !is_in_log(cursor, recording.len()) {
         return ended(recording.len());
@@ -160,8 +160,8 @@ pub fn stand(recording: &[u8], cursor: Cursor) -> Standing
 
 // The same, by a table that is lent, from a cursor in the log: for one caller, whose loop it is compiled into.
 pub fn stand_by(shapes: &Shapes, recording: &[u8], cursor: Cursor) -> Standing
-    requires { (soundShapes shapes.now ≡ true) × (inLog (length recording.now) cursor ≡ true) }
-    ensures { result ≡ standOf recording.now cursor }
+    requires { (sound_shapes shapes.now ≡ true) × (in_log (length recording.now) cursor ≡ true) }
+    ensures { result ≡ stand_of recording.now cursor }
 {
     let at = cursor_at(recording, cursor);
     stood_by(shapes, recording, at)
@@ -176,7 +176,7 @@ pub enum Sought {
 
 // The record that starts at a place, or the recording's end.
 pub fn seek(recording: &[u8], place: usize) -> Sought
-    ensures { Found recording.now result (fromPlace (length recording.now) place (headsLeft recording.now begin)) }
+    ensures { Found recording.now result (from_place (length recording.now) place (heads_left recording.now begin)) }
 {
     let mut at = stand(recording, Cursor::start());
     while at.is_head(recording.len()) {

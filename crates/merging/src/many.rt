@@ -2,9 +2,9 @@
 ghost use Rattle.std.specs.Prelude.{◌≡◌, true, ◌+◌, ◌/◌, ◌≤◌, length};
 ghost use Rattle.std.proofs.lemmas.List.Edits.{sets};
 ghost use Rattle.rules.specs.Entry.{over};
-ghost use Rattle.measuring.specs.Shape.{soundShapes};
-ghost use Rattle.merging.specs.Many.{number_of, pick, numbersOf, manyOf, ranOf};
-ghost use Rattle.merging.specs.Run.{whichIs};
+ghost use Rattle.measuring.specs.Shape.{sound_shapes};
+ghost use Rattle.merging.specs.Many.{number_of, pick, numbers_of, many_of, ran_of};
+ghost use Rattle.merging.specs.Run.{which_is};
 
 use crate::heads::{behind, stand_by};
 use crate::run::{Merge, Which, first_by};
@@ -21,7 +21,7 @@ pub struct Ran {
 
 // The number of the log that a record comes from: 0 is A, 1 is B, 2 is none.
 fn log_number(which: Which) -> usize
-    ensures { result ≡ number_of (whichIs which) }
+    ensures { result ≡ number_of (which_is which) }
 {
     match which {
         Which::OfA => 0,
@@ -43,7 +43,7 @@ fn picked_log<'a>(log: usize, a: &'a [u8], b: &'a [u8]) -> &'a [u8]
 // The numbers of a record, at a place of the output: its log, how many bytes it has, and the walk at it.
 fn put(out: &mut [usize], place: usize, log: usize, size: usize, at: Cursor)
     requires { place + 6 ≤ length out.old }
-    ensures { out.new ≡ sets out.old place (numbersOf log size at) }
+    ensures { out.new ≡ sets out.old place (numbers_of log size at) }
 {
     let category = octet(at.category);
     out[place] = log;
@@ -62,9 +62,9 @@ fn run_on<'a>(
     log_b: &'a [u8],
     out: &mut [usize],
 ) -> Ran
-    requires { soundShapes shapes.now ≡ true }
-    ensures answer { result ≡ ranOf (manyOf (length out.old / 6) log_a.now log_b.now merge) }
-    ensures left { out.new ≡ over (manyOf (length out.old / 6) log_a.now log_b.now merge).numbers out.old }
+    requires { sound_shapes shapes.now ≡ true }
+    ensures answer { result ≡ ran_of (many_of (length out.old / 6) log_a.now log_b.now merge) }
+    ensures left { out.new ≡ over (many_of (length out.old / 6) log_a.now log_b.now merge).numbers out.old }
 {
     let room = out.len() / 6;
     let turn = merge.turn;
@@ -112,8 +112,8 @@ fn run_on<'a>(
 // The next records of two logs, six numbers each: as many as there is room for, and fewer only where both logs are at their ends. Of any state: what
 // comes out lies in its log.
 pub fn next_records<'a>(merge: Merge, log_a: &'a [u8], log_b: &'a [u8], out: &mut [usize]) -> Ran
-    ensures answer { result ≡ ranOf (manyOf (length out.old / 6) log_a.now log_b.now merge) }
-    ensures left { out.new ≡ over (manyOf (length out.old / 6) log_a.now log_b.now merge).numbers out.old }
+    ensures answer { result ≡ ran_of (many_of (length out.old / 6) log_a.now log_b.now merge) }
+    ensures left { out.new ≡ over (many_of (length out.old / 6) log_a.now log_b.now merge).numbers out.old }
 {
     let shapes = measuring::shapes();
     run_on(&shapes, merge, log_a, log_b, out)

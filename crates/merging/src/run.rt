@@ -1,7 +1,7 @@
 // The run of two logs from both first records: a state by value, and a step that reads the record after the one that goes out (document 02, W-201).
 ghost use Rattle.std.specs.Prelude.{◌≡◌, ◌<◌};
-ghost use Rattle.rules.specs.Merge.{modDay, in_range};
-ghost use Rattle.merging.specs.Run.{timeOf, whichIs, whichBy, whichOf, move_of, beginOf};
+ghost use Rattle.rules.specs.Merge.{mod_day, in_range};
+ghost use Rattle.merging.specs.Run.{time_of, which_is, which_by, which_of, move_of, begin_of};
 
 use crate::heads::{Standing, behind, stand};
 use numbers::magnitude;
@@ -42,7 +42,7 @@ fn in_range(offset: i64) -> bool
 
 // The offset modulo a day.
 fn turn_of(amount: i64) -> u64
-    ensures { result ≡ modDay amount }
+    ensures { result ≡ mod_day amount }
 {
     let n = magnitude(amount);
     if amount < 0 {
@@ -63,7 +63,7 @@ pub enum Which {
 // By whether each log has a record. A log at its end yields to the other; a record without a time goes at once, A's before B's; else by the times, B's moved
 // on by the turn.
 pub fn first_by(there_a: bool, a: Standing, there_b: bool, b: Standing, turn: u64) -> Which
-    ensures { whichIs result ≡ whichBy turn there_a there_b (timeOf a) (timeOf b) }
+    ensures { which_is result ≡ which_by turn there_a there_b (time_of a) (time_of b) }
 {
     if !there_a {
         if !there_b {
@@ -88,7 +88,7 @@ pub fn first_by(there_a: bool, a: Standing, there_b: bool, b: Standing, turn: u6
 }
 
 fn first_of(a: Standing, len_a: usize, b: Standing, len_b: usize, turn: u64) -> Which
-    ensures { whichIs result ≡ whichOf turn len_a a len_b b }
+    ensures { which_is result ≡ which_of turn len_a a len_b b }
 {
     first_by(a.is_head(len_a), a, b.is_head(len_b), b, turn)
 }
@@ -171,7 +171,7 @@ pub enum Begun {
 
 // Both logs are checked, whole, once.
 pub fn begin_merge(log_a: &[u8], log_b: &[u8], offset: i64) -> Begun
-    ensures { result ≡ beginOf log_a.now log_b.now offset }
+    ensures { result ≡ begin_of log_a.now log_b.now offset }
 {
     let checked_a = recordings::check_recording(log_a);
     if let RecordingChecked::Refused { number, place } = checked_a {

@@ -1,8 +1,8 @@
 // The next record of two logs from a place in each (document 02, W-201). Both logs are checked, whole, at every step.
 ghost use Rattle.std.specs.Prelude.{◌≡◌, ℤ};
 ghost use Rattle.rules.specs.Catalogue.{categories};
-ghost use Rattle.rules.specs.Merge.{modDay, mergeStep};
-ghost use Rattle.merging.specs.Step.{stayed, mergedOf, placesStep, partIn, PartOf};
+ghost use Rattle.rules.specs.Merge.{mod_day, merge_step};
+ghost use Rattle.merging.specs.Step.{stayed, merged_of, places_step, part_in, PartOf};
 
 use crate::heads::{Sought, seek};
 use crate::run::{Begun, Log, Merge, Told, begin_merge};
@@ -33,7 +33,7 @@ fn stay(told: Told, place_a: usize, place_b: usize) -> Merged
 
 // From a place in each of two logs that are accepted, with the offset modulo a day: 23, or which record comes next.
 fn step_from(log_a: &[u8], log_b: &[u8], place_a: usize, place_b: usize, turn: u64) -> Merged
-    ensures { (o : ℤ) → turn ≡ modDay o → result ≡ mergedOf (placesStep log_a.now log_b.now place_a place_b o) }
+    ensures { (o : ℤ) → turn ≡ mod_day o → result ≡ merged_of (places_step log_a.now log_b.now place_a place_b o) }
 {
     let found_a = seek(log_a, place_a);
     let Sought::At(at_a) = found_a else {
@@ -63,7 +63,7 @@ fn step_from(log_a: &[u8], log_b: &[u8], place_a: usize, place_b: usize, turn: u
 
 // Which record comes next, and the new places: the logs' own refusals and 22 as where a run begins, then 23.
 pub fn merge_at(log_a: &[u8], log_b: &[u8], place_a: usize, place_b: usize, offset: i64) -> Merged
-    ensures { result ≡ mergedOf (mergeStep categories log_a.now log_b.now place_a place_b offset) }
+    ensures { result ≡ merged_of (merge_step categories log_a.now log_b.now place_a place_b offset) }
 {
     let begun = begin_merge(log_a, log_b, offset);
     match begun {
@@ -82,7 +82,7 @@ pub fn merge_at(log_a: &[u8], log_b: &[u8], place_a: usize, place_b: usize, offs
 
 // Whose part is handed back: log A's where no record comes.
 fn part_log(told: Told) -> Log
-    ensures { result ≡ partIn told }
+    ensures { result ≡ part_in told }
 {
     match told {
         Told::Next { log } => log,
@@ -104,7 +104,7 @@ pub fn merge_step<'a>(
     place_b: usize,
     offset: i64,
 ) -> &'a [u8]
-    ensures { PartOf log_a.entry log_b.entry result (mergeStep categories log_a.now log_b.now place_a place_b offset) }
+    ensures { PartOf log_a.entry log_b.entry result (merge_step categories log_a.now log_b.now place_a place_b offset) }
 {
     let merged = merge_at(log_a, log_b, place_a, place_b, offset);
     let told = merged.told;

@@ -17,23 +17,23 @@ use borrow.Author.Tests.{leb-true, ltb-true, eqb-true, eq-eqb, ne_eqb, lt-ltb, l
 use Rattle.rules.specs.Answer.{Answer, ok, if◌then◌else◌}
 use Rattle.rules.specs.Catalogue.{categories}
 use Rattle.rules.specs.Chain.{joined}
-use Rattle.rules.proofs.AnswerLaws.{if-true, if-false, Octets, both_left, both_right, octets-drop}
+use Rattle.rules.proofs.AnswerLaws.{if_true, if_false, Octets, both_left, both_right, octets_drop}
 use Rattle.tables.specs.declared.tables.LayoutRow.{LayoutRow}
 use Rattle.tables.specs.declared.tables.PlaceRow.{PlaceRow}
-use Rattle.items.specs.Answers.{checkAt}
+use Rattle.items.specs.Answers.{check_at}
 use Rattle.tables.specs.Tests.{all_below}
-use Rattle.tables.specs.FieldRules.{Rule, obeys, allObeyed, rules, firstRule, singleOf, singles}
-use Rattle.quick_items.specs.Item.{Plainly, ruleIn, nextIn, firstThree, downOf, addedOf, upOf, limitOf, asks, sameRule, same_rules, soundRule, lowAt, highAt, asked, soundRow, soundFree, soundSingle, soundCounted, soundExtended, same_pair, soundTwice, soundBy, soundWord, soundWords, soundSteps, rowOctets, rowTells, wordOctets, exactWord, exactSteps, isPlace, word_for, rowOf, sizeOr0, octetsAt}
-use Rattle.layouts.specs.Read.{rows_at, part_at, legal, partSound, partsLegal, chain, listShape, shape_of, wholeSize, rowSound}
-use Rattle.tables.specs.Tables.{profileCount, frnCount, placeCount, groupCount, groupAt, layoutAt, nowhere, profileRows, placeRowAt}
-use Rattle.items.proofs.CheckLaws.{Single, single-is, single-size, single-sound, single-legal, free_of, free-there, check-whole, whole-check}
-use Rattle.layouts.proofs.WholeLaws.{equal-free, chain-legal}
-use Rattle.layouts.proofs.OctetLaws.{octets-known, joined-suc, joined-nil}
-use Rattle.layouts.proofs.ReadLaws.{le-or-lt}
-use Rattle.layouts.proofs.LegalLaws.{part-ruled}
-use Rattle.layouts.proofs.ShapeLaws.{rowed, Chaining, chain-begun, chain-group, chain-last, chain_more, chain-parts, chain-shape, list-shape, list-there, led-there}
-use Rattle.layouts.proofs.SoundLaws.{layout-sound}
-use Rattle.tables.proofs.TableLaws.{place-row, all-below}
+use Rattle.tables.specs.FieldRules.{Rule, obeys, all_obeyed, rules, first_rule, single_of, singles}
+use Rattle.quick_items.specs.Item.{Plainly, rule_in, next_in, first_three, down_of, added_of, up_of, limit_of, asks, same_rule, same_rules, sound_rule, low_at, high_at, asked, sound_row, sound_free, sound_single, sound_counted, sound_extended, same_pair, sound_twice, sound_by, sound_word, sound_words, sound_steps, row_octets, row_tells, word_octets, exact_word, exact_steps, is_place, word_for, row_of, size_or0, octets_at}
+use Rattle.layouts.specs.Read.{rows_at, part_at, legal, part_sound, parts_legal, chain, list_shape, shape_of, whole_size, row_sound}
+use Rattle.tables.specs.Tables.{profile_count, frn_count, place_count, group_count, group_at, layout_at, nowhere, profile_rows, place_row_at}
+use Rattle.items.proofs.CheckLaws.{Single, single_is, single_size_lem, single_sound, single_legal, free_of, free_there, check_whole, whole_check}
+use Rattle.layouts.proofs.WholeLaws.{equal_free, chain_legal}
+use Rattle.layouts.proofs.OctetLaws.{octets_known, joined_suc, joined_nil}
+use Rattle.layouts.proofs.ReadLaws.{le_or_lt}
+use Rattle.layouts.proofs.LegalLaws.{part_ruled}
+use Rattle.layouts.proofs.ShapeLaws.{rowed, Chaining, chain_begun, chain_group, chain_last, chain_more, chain_parts_lem, chain_shape, list_shape_lem, list_there, led_there}
+use Rattle.layouts.proofs.SoundLaws.{layout_sound}
+use Rattle.tables.proofs.TableLaws.{place_row_lem, all_below_lem}
 
 pub other : (a b : Bool) → a || b ≡ true → (a ≡ true → ⊥) → b ≡ true
 other true b h n = absurd (n refl)
@@ -51,46 +51,46 @@ plainly (suc n) e = sym e
 
 -- ---- the words of the table
 
-words-each : (t ws : List ℕ) (ps : List PlaceRow) (i : ℕ) → soundWords t ws ps ≡ true → i < length ps → soundWord t (get_or ws i 0) (layoutAt (get_or ps i nowhere).layout) ≡ true
-unfolding soundWord soundWords
-words-each t [] ps i h k = refl
-words-each t (w ∷ ws) [] i h k = absurd (not-suc-le-zero k)
-words-each t (w ∷ ws) (p ∷ ps) zero h k = both_left (soundWord t w (layoutAt p.layout)) (soundWords t ws ps) h
-words-each t (w ∷ ws) (p ∷ ps) (suc i) h k = words-each t ws ps i (both_right (soundWord t w (layoutAt p.layout)) (soundWords t ws ps) h) (le_of_suc-le-suc k)
+words_each : (t ws : List ℕ) (ps : List PlaceRow) (i : ℕ) → sound_words t ws ps ≡ true → i < length ps → sound_word t (get_or ws i 0) (layout_at (get_or ps i nowhere).layout) ≡ true
+unfolding sound_word sound_words
+words_each t [] ps i h k = refl
+words_each t (w ∷ ws) [] i h k = absurd (not-suc-le-zero k)
+words_each t (w ∷ ws) (p ∷ ps) zero h k = both_left (sound_word t w (layout_at p.layout)) (sound_words t ws ps) h
+words_each t (w ∷ ws) (p ∷ ps) (suc i) h k = words_each t ws ps i (both_right (sound_word t w (layout_at p.layout)) (sound_words t ws ps) h) (le_of_suc-le-suc k)
 
-places-long : length (profileRows 1 categories) ≡ placeCount
+places_long : length (profile_rows 1 categories) ≡ place_count
 unfolding categories
-places-long = refl
+places_long = refl
 
 -- the word of a place is sound, by its second digit
-pub word_sound : (t : List ℕ) (i k : ℕ) {w : ℕ} → soundSteps t ≡ true → i < placeCount → w ≡ get_or t i 0 → w / 256 % 16 ≡ k → soundBy k t (get_or t i 0) (layoutAt (placeRowAt i).layout) ≡ true
-unfolding soundSteps soundWord placeRowAt
+pub word_sound : (t : List ℕ) (i k : ℕ) {w : ℕ} → sound_steps t ≡ true → i < place_count → w ≡ get_or t i 0 → w / 256 % 16 ≡ k → sound_by k t (get_or t i 0) (layout_at (place_row_at i).layout) ≡ true
+unfolding sound_steps sound_word place_row_at
 word_sound t i k s h e d =
-    subst (λ x. soundBy x t (get_or t i 0) (layoutAt (placeRowAt i).layout) ≡ true) (ap (λ w. w / 256 % 16) (sym e) ∙ d)
-    (words-each t t (profileRows 1 categories) i s (subst (λ x. i < x) (sym places-long) h))
+    subst (λ x. sound_by x t (get_or t i 0) (layout_at (place_row_at i).layout) ≡ true) (ap (λ w. w / 256 % 16) (sym e) ∙ d)
+    (words_each t t (profile_rows 1 categories) i s (subst (λ x. i < x) (sym places_long) h))
 
 -- ---- a free item
 
-pub free-told : (l : LayoutRow) (w : ℕ) (bs : List ℕ) → rowSound l ≡ true → Octets bs → soundFree w l ≡ true → w < 8 → w ≤ length bs → Plainly w (wholeSize l bs)
-free-told l zero bs r o s h k = tt
-free-told l (suc n) bs r o s h k =
-    let e : suc n ≡ singleOf l = eqb-true (suc n) (singleOf l) (subst (λ b. cond b true (eqb (suc n) (singleOf l)) ≡ true) (eqb-suc-zero n) s) in
-    plainly (suc n) (free-there l (suc n) bs r o (free_of l (suc n) e (omega arith) h) k)
+pub free_told : (l : LayoutRow) (w : ℕ) (bs : List ℕ) → row_sound l ≡ true → Octets bs → sound_free w l ≡ true → w < 8 → w ≤ length bs → Plainly w (whole_size l bs)
+free_told l zero bs r o s h k = tt
+free_told l (suc n) bs r o s h k =
+    let e : suc n ≡ single_of l = eqb-true (suc n) (single_of l) (subst (λ b. cond b true (eqb (suc n) (single_of l)) ≡ true) (eqb-suc-zero n) s) in
+    plainly (suc n) (free_there l (suc n) bs r o (free_of l (suc n) e (omega arith) h) k)
 
-pub free-check : (profile frn n : ℕ) (bs : List ℕ) → profile < profileCount → frn < frnCount → Octets bs → get_or singles (profile * frnCount + frn) 0 ≡ n → 0 < n → n < 8 → n ≤ length bs
-    → checkAt profile frn bs ≡ ok n
-free-check profile frn n bs h k o e a b l =
-    let at : ℕ = profile * frnCount + frn in
-    whole-check profile frn bs n h k o
-    (sym (free-there (layoutAt (placeRowAt at).layout) n bs (layout-sound (placeRowAt at).layout (place-row at)) o (free_of (layoutAt (placeRowAt at).layout) n (sym e ∙ single-is at) a b) l))
+pub free_check : (profile frn n : ℕ) (bs : List ℕ) → profile < profile_count → frn < frn_count → Octets bs → get_or singles (profile * frn_count + frn) 0 ≡ n → 0 < n → n < 8 → n ≤ length bs
+    → check_at profile frn bs ≡ ok n
+free_check profile frn n bs h k o e a b l =
+    let at : ℕ = profile * frn_count + frn in
+    whole_check profile frn bs n h k o
+    (sym (free_there (layout_at (place_row_at at).layout) n bs (layout_sound (place_row_at at).layout (place_row_lem at)) o (free_of (layout_at (place_row_at at).layout) n (sym e ∙ single_is at) a b) l))
 
 -- ---- the item of a profile at an FRN
 
 -- what is told at a place is told of the item there, by a slice's octets
-pub at_place : (profile frn n : ℕ) (bs : List ℕ) → profile < profileCount → frn < frnCount → ((i : ℕ) → get_or bs i 0 < 256) → Plainly n (wholeSize (layoutAt (placeRowAt (profile * frnCount + frn)).layout) bs)
-    → Plainly n (checkAt profile frn bs)
+pub at_place : (profile frn n : ℕ) (bs : List ℕ) → profile < profile_count → frn < frn_count → ((i : ℕ) → get_or bs i 0 < 256) → Plainly n (whole_size (layout_at (place_row_at (profile * frn_count + frn)).layout) bs)
+    → Plainly n (check_at profile frn bs)
 at_place profile frn zero bs h k o p = tt
-at_place profile frn (suc n) bs h k o p = whole-check profile frn bs (suc n) h k (octets-known bs o) p
+at_place profile frn (suc n) bs h k o p = whole_check profile frn bs (suc n) h k (octets_known bs o) p
 
 -- ---- the first three octets of a part
 
@@ -99,51 +99,51 @@ abbrev up_to : List ℕ → ℕ → ℕ
 up_to bs zero = 0
 up_to bs (suc i) = up_to bs i * 256 + get_or bs i 0
 
-upTo-joined : (bs : List ℕ) (i : ℕ) → i ≤ length bs → up_to bs i ≡ joined (take i bs)
-upTo-joined bs zero h = sym joined-nil
-upTo-joined bs (suc i) h = ap (λ x. x * 256 + get_or bs i 0) (upTo-joined bs i (omega arith)) ∙ sym (joined-suc bs i h)
+up_to-joined : (bs : List ℕ) (i : ℕ) → i ≤ length bs → up_to bs i ≡ joined (take i bs)
+up_to-joined bs zero h = sym joined_nil
+up_to-joined bs (suc i) h = ap (λ x. x * 256 + get_or bs i 0) (up_to-joined bs i (omega arith)) ∙ sym (joined_suc bs i h)
 
-three : (bs : List ℕ) → firstThree bs ≡ up_to bs 3
-unfolding firstThree
+three : (bs : List ℕ) → first_three bs ≡ up_to bs 3
+unfolding first_three
 three bs = omega arith
 
 -- as many of them as there are
 missing : (bs : List ℕ) (i : ℕ) → length bs ≤ i → get_or bs i 0 ≡ 0
 missing bs i h = get_or-eq_default bs 0 h
 
-pub only_one : (bs : List ℕ) {a : ℕ} → (a ≡ get_or bs 0 0) × (a < 256) → length bs < 2 → (a * 65_536 ≡ firstThree bs) × (a * 65_536 < 2 ^ 24)
-unfolding firstThree
+pub only_one : (bs : List ℕ) {a : ℕ} → (a ≡ get_or bs 0 0) × (a < 256) → length bs < 2 → (a * 65_536 ≡ first_three bs) × (a * 65_536 < 2 ^ 24)
+unfolding first_three
 only_one bs (ea, ka) h = (omega (arith, missing bs 1 (omega arith), missing bs 2 (omega arith)), omega arith)
 
 pub only_two : (bs : List ℕ) {a b : ℕ} → (a ≡ get_or bs 0 0) × (a < 256) → (b ≡ get_or bs 1 0) × (b < 256) → length bs < 3
-    → (a * 65_536 + b * 256 ≡ firstThree bs) × (a * 65_536 + b * 256 < 2 ^ 24)
-unfolding firstThree
+    → (a * 65_536 + b * 256 ≡ first_three bs) × (a * 65_536 + b * 256 < 2 ^ 24)
+unfolding first_three
 only_two bs (ea, ka) (eb, kb) h = (omega (arith, missing bs 2 (omega arith)), omega arith)
 
 pub all_three : (bs : List ℕ) {a b c : ℕ} → (a ≡ get_or bs 0 0) × (a < 256) → (b ≡ get_or bs 1 0) × (b < 256) → (c ≡ get_or bs 2 0) × (c < 256)
-    → (a * 65_536 + b * 256 + c ≡ firstThree bs) × (a * 65_536 + b * 256 + c < 2 ^ 24)
-unfolding firstThree
+    → (a * 65_536 + b * 256 + c ≡ first_three bs) × (a * 65_536 + b * 256 + c < 2 ^ 24)
+unfolding first_three
 all_three bs (ea, ka) (eb, kb) (ec, kc) = (omega arith, omega arith)
 
 -- those after the first octet
-pub three-on : (bs : List ℕ) {n : ℕ} → n ≡ firstThree (take (length bs - 1) (drop 1 bs)) → n ≡ firstThree (drop 1 bs)
-three-on bs e = e ∙ ap firstThree (take_all (length bs - 1) (drop 1 bs) (rw length-drop (omega arith)))
+pub three_on : (bs : List ℕ) {n : ℕ} → n ≡ first_three (take (length bs - 1) (drop 1 bs)) → n ≡ first_three (drop 1 bs)
+three_on bs e = e ∙ ap first_three (take_all (length bs - 1) (drop 1 bs) (rw length-drop (omega arith)))
 
-pub octet-at : (bs : List ℕ) → Octets bs → (i : ℕ) → get_or bs i 0 < 256
-octet-at [] o i = lit< tt
-octet-at (b ∷ bs) o zero = o.0
-octet-at (b ∷ bs) o (suc i) = octet-at bs o.1 i
+pub octet_at : (bs : List ℕ) → Octets bs → (i : ℕ) → get_or bs i 0 < 256
+octet_at [] o i = lit< tt
+octet_at (b ∷ bs) o zero = o.0
+octet_at (b ∷ bs) o (suc i) = octet_at bs o.1 i
 
 -- octets more are a power of 2 times as much, and less than that power more
-upTo-more : (bs : List ℕ) → Octets bs → (a e k : ℕ) → up_to bs (a + e) / 2 ^ (8 * e + k) ≡ up_to bs a / 2 ^ k
-upTo-more bs o a zero k =
+up_to-more : (bs : List ℕ) → Octets bs → (a e k : ℕ) → up_to bs (a + e) / 2 ^ (8 * e + k) ≡ up_to bs a / 2 ^ k
+up_to-more bs o a zero k =
     let i : a + 0 ≡ a = omega arith in
     let j : 8 * 0 + k ≡ k = omega arith in
     rw (i, j)
-upTo-more bs o a (suc e) k =
+up_to-more bs o a (suc e) k =
     let i : a + suc e ≡ suc (a + e) = omega arith in
     let j : 8 * suc e + k ≡ 8 + (8 * e + k) = omega arith in
-    rw (i, j, ← shr-shr (up_to bs (a + e) * 256 + get_or bs (a + e) 0) 8 (8 * e + k), high (up_to bs (a + e)) 8 (octet-at bs o (a + e))) (upTo-more bs o a e k)
+    rw (i, j, ← shr-shr (up_to bs (a + e) * 256 + get_or bs (a + e) 0) 8 (8 * e + k), high (up_to bs (a + e)) 8 (octet_at bs o (a + e))) (up_to-more bs o a e k)
 
 -- so the highest bits of some octets are those of three
 highest : (bs : List ℕ) → Octets bs → (s k d : ℕ) → d + 8 * s ≡ k + 24 → up_to bs s / 2 ^ k ≡ up_to bs 3 / 2 ^ d
@@ -152,18 +152,18 @@ highest bs o s k d h =
     (λ (q : s ≤ 3).
     let i : s + (3 - s) ≡ 3 = omega arith in
     let j : 8 * (3 - s) + k ≡ d = omega arith in
-    sym (subst (λ x. up_to bs 3 / 2 ^ x ≡ up_to bs s / 2 ^ k) j (subst (λ x. up_to bs x / 2 ^ (8 * (3 - s) + k) ≡ up_to bs s / 2 ^ k) i (upTo-more bs o s (3 - s) k))))
+    sym (subst (λ x. up_to bs 3 / 2 ^ x ≡ up_to bs s / 2 ^ k) j (subst (λ x. up_to bs x / 2 ^ (8 * (3 - s) + k) ≡ up_to bs s / 2 ^ k) i (up_to-more bs o s (3 - s) k))))
     (λ (q : 3 < s).
     let i : 3 + (s - 3) ≡ s = omega arith in
     let j : 8 * (s - 3) + d ≡ k = omega arith in
-    subst (λ x. up_to bs s / 2 ^ x ≡ up_to bs 3 / 2 ^ d) j (subst (λ x. up_to bs x / 2 ^ (8 * (s - 3) + d) ≡ up_to bs 3 / 2 ^ d) i (upTo-more bs o 3 (s - 3) d)))
-    (le-or-lt s 3)
+    subst (λ x. up_to bs s / 2 ^ x ≡ up_to bs 3 / 2 ^ d) j (subst (λ x. up_to bs x / 2 ^ (8 * (s - 3) + d) ≡ up_to bs 3 / 2 ^ d) i (up_to-more bs o 3 (s - 3) d)))
+    (le_or_lt s 3)
 
 -- ---- a rule
 
 -- its sum fits
-pub sum-small : (n d a : ℕ) → n < 2 ^ 24 → n / 2 ^ d + a % 16_777_216 < 2 ^ 64
-sum-small n d a h = let s : n / 2 ^ d ≤ n = shr_le n d in omega arith
+pub sum_small : (n d a : ℕ) → n < 2 ^ 24 → n / 2 ^ d + a % 16_777_216 < 2 ^ 64
+sum_small n d a h = let s : n / 2 ^ d ≤ n = shr_le n d in omega arith
 
 -- bits are cut off by a move up and down
 pub cut : (c u : ℕ) → u < 64 → c * 2 ^ u % 2 ^ 64 / 2 ^ u ≡ c % 2 ^ (64 - u)
@@ -172,122 +172,122 @@ cut c u h =
     ap (λ x. c * 2 ^ u % 2 ^ x / 2 ^ u) (sym e) ∙ field (c * 2 ^ u) (64 - u) u ∙ ap (λ x. x % 2 ^ (64 - u)) (shl-shr c u)
 
 -- a rule, by its two words
-pub rule-asks : (low high n : ℕ)
+pub rule_asks : (low high n : ℕ)
     → leb ((n / 2 ^ (low / 16_777_216 % 64) + low % 16_777_216) * 2 ^ (high / 16_777_216 % 64) % 2 ^ 64 / 2 ^ (high / 16_777_216 % 64)) (high % 16_777_216) ≡ asks low high n
-unfolding asks downOf addedOf upOf limitOf
-rule-asks low high n = rw (cut (n / 2 ^ (low / 16_777_216 % 64) + low % 16_777_216) (high / 16_777_216 % 64) (omega arith))
+unfolding asks down_of added_of up_of limit_of
+rule_asks low high n = rw (cut (n / 2 ^ (low / 16_777_216 % 64) + low % 16_777_216) (high / 16_777_216 % 64) (omega arith))
 
 -- what was asked of the number of the first three octets
-pub asked-first : (low high : ℕ) (bs : List ℕ) {n : ℕ} {b : Bool} → n ≡ firstThree bs → b ≡ asks low high n → b ≡ true → asks low high (firstThree bs) ≡ true
-asked-first low high bs en eb h = ap (asks low high) (sym en) ∙ sym eb ∙ h
+pub asked_first : (low high : ℕ) (bs : List ℕ) {n : ℕ} {b : Bool} → n ≡ first_three bs → b ≡ asks low high n → b ≡ true → asks low high (first_three bs) ≡ true
+asked_first low high bs en eb h = ap (asks low high) (sym en) ∙ sym eb ∙ h
 
 module _ (low high step size : ℕ) (bs : List ℕ) (o : Octets bs) (l : size ≤ length bs) where
   -- it asks of the first three octets what the rule asks of the part
-  asked-rule : (r : Rule) → sameRule low high step size r ≡ true → asks low high (firstThree bs) ≡ obeys r (joined (take size bs) / 2 ^ step)
+  asked_rule : (r : Rule) → same_rule low high step size r ≡ true → asks low high (first_three bs) ≡ obeys r (joined (take size bs) / 2 ^ step)
   unfolding asks obeys
-  asked-rule r s =
-      let a = eqb (downOf low + 8 * size) (r.shift + step + 24) in
-      let b = eqb (addedOf low) r.added in
-      let c = eqb (upOf high + r.width) 64 in
-      let d = eqb (limitOf high) r.limit in
+  asked_rule r s =
+      let a = eqb (down_of low + 8 * size) (r.shift + step + 24) in
+      let b = eqb (added_of low) r.added in
+      let c = eqb (up_of high + r.width) 64 in
+      let d = eqb (limit_of high) r.limit in
       let u : a && b && c ≡ true = both_left (a && b && c) d s in
       let v : a && b ≡ true = both_left (a && b) c u in
-      let ea : downOf low + 8 * size ≡ step + r.shift + 24 = omega (arith, eqb-true (downOf low + 8 * size) (r.shift + step + 24) (both_left a b v)) in
-      let eb : addedOf low ≡ r.added = eqb-true _ _ (both_right a b v) in
-      let ec : 64 - upOf high ≡ r.width = omega (arith, eqb-true (upOf high + r.width) 64 (both_right (a && b) c u)) in
-      let ed : limitOf high ≡ r.limit = eqb-true _ _ (both_right (a && b && c) d s) in
-      let ee : firstThree bs / 2 ^ downOf low ≡ joined (take size bs) / 2 ^ step / 2 ^ r.shift =
-      ap (λ x. x / 2 ^ downOf low) (three bs) ∙ sym (highest bs o size (step + r.shift) (downOf low) ea) ∙ ap (λ x. x / 2 ^ (step + r.shift)) (upTo-joined bs size l)
+      let ea : down_of low + 8 * size ≡ step + r.shift + 24 = omega (arith, eqb-true (down_of low + 8 * size) (r.shift + step + 24) (both_left a b v)) in
+      let eb : added_of low ≡ r.added = eqb-true _ _ (both_right a b v) in
+      let ec : 64 - up_of high ≡ r.width = omega (arith, eqb-true (up_of high + r.width) 64 (both_right (a && b) c u)) in
+      let ed : limit_of high ≡ r.limit = eqb-true _ _ (both_right (a && b && c) d s) in
+      let ee : first_three bs / 2 ^ down_of low ≡ joined (take size bs) / 2 ^ step / 2 ^ r.shift =
+      ap (λ x. x / 2 ^ down_of low) (three bs) ∙ sym (highest bs o size (step + r.shift) (down_of low) ea) ∙ ap (λ x. x / 2 ^ (step + r.shift)) (up_to-joined bs size l)
       ∙ sym (shr-shr (joined (take size bs)) step r.shift) in
       rw (ee, eb, ec, ed)
 
-  asked-rules : (rs : List Rule) → same_rules low high step size rs ≡ true → asks low high (firstThree bs) ≡ true → allObeyed rs (joined (take size bs) / 2 ^ step) ≡ true
-  asked-rules [] s h = refl
-  asked-rules (r ∷ []) s h = rw (sym (asked-rule r s) ∙ h)
-  asked-rules (r ∷ (q ∷ rs)) s h = absurd (false≢true s)
+  asked_rules : (rs : List Rule) → same_rules low high step size rs ≡ true → asks low high (first_three bs) ≡ true → all_obeyed rs (joined (take size bs) / 2 ^ step) ≡ true
+  asked_rules [] s h = refl
+  asked_rules (r ∷ []) s h = rw (sym (asked_rule r s) ∙ h)
+  asked_rules (r ∷ (q ∷ rs)) s h = absurd (false≢true s)
 
-asked-pair : (t : List ℕ) (i j size : ℕ) (bs : List ℕ) → Octets bs → size ≤ length bs → (rs : List Rule) → same_pair t i j size rs ≡ true
-    → asked t i (firstThree bs) ≡ true → asked t j (firstThree bs) ≡ true → allObeyed rs (joined (take size bs) / 2 ^ 0) ≡ true
-asked-pair t i j size bs o l [] s h k = absurd (false≢true s)
-asked-pair t i j size bs o l (r ∷ []) s h k = absurd (false≢true s)
-asked-pair t i j size bs o l (r ∷ (q ∷ [])) s h k =
-    let a = sameRule (lowAt t i) (highAt t i) 0 size r in
-    let b = sameRule (lowAt t j) (highAt t j) 0 size q in
-    rw (sym (asked-rule (lowAt t i) (highAt t i) 0 size bs o l r (both_left a b s)) ∙ h, sym (asked-rule (lowAt t j) (highAt t j) 0 size bs o l q (both_right a b s)) ∙ k)
-asked-pair t i j size bs o l (r ∷ (q ∷ (p ∷ rs))) s h k = absurd (false≢true s)
+asked_pair : (t : List ℕ) (i j size : ℕ) (bs : List ℕ) → Octets bs → size ≤ length bs → (rs : List Rule) → same_pair t i j size rs ≡ true
+    → asked t i (first_three bs) ≡ true → asked t j (first_three bs) ≡ true → all_obeyed rs (joined (take size bs) / 2 ^ 0) ≡ true
+asked_pair t i j size bs o l [] s h k = absurd (false≢true s)
+asked_pair t i j size bs o l (r ∷ []) s h k = absurd (false≢true s)
+asked_pair t i j size bs o l (r ∷ (q ∷ [])) s h k =
+    let a = same_rule (low_at t i) (high_at t i) 0 size r in
+    let b = same_rule (low_at t j) (high_at t j) 0 size q in
+    rw (sym (asked_rule (low_at t i) (high_at t i) 0 size bs o l r (both_left a b s)) ∙ h, sym (asked_rule (low_at t j) (high_at t j) 0 size bs o l q (both_right a b s)) ∙ k)
+asked_pair t i j size bs o l (r ∷ (q ∷ (p ∷ rs))) s h k = absurd (false≢true s)
 
 -- a part by its group, whose rules it obeys
-obeyed-legal : (step g : ℕ) (bs : List ℕ) → Octets bs → g < groupCount → partSound step (groupAt g) ≡ true → (groupAt g).octets ≤ length bs
-    → allObeyed (slice (firstRule g) (firstRule (g + 1)) rules) (joined (take (groupAt g).octets bs) / 2 ^ step) ≡ true → legal (rows_at g) (part_at step g bs) ≡ true
-obeyed-legal step g bs o h p l e = sym (part-ruled step g 0 bs o h p (omega arith) refl refl refl refl (sym e))
+obeyed_legal : (step g : ℕ) (bs : List ℕ) → Octets bs → g < group_count → part_sound step (group_at g) ≡ true → (group_at g).octets ≤ length bs
+    → all_obeyed (slice (first_rule g) (first_rule (g + 1)) rules) (joined (take (group_at g).octets bs) / 2 ^ step) ≡ true → legal (rows_at g) (part_at step g bs) ≡ true
+obeyed_legal step g bs o h p l e = sym (part_ruled step g 0 bs o h p (omega arith) refl refl refl refl (sym e))
 
-asked-legal : (low high step g : ℕ) (bs : List ℕ) → Octets bs → g < groupCount → partSound step (groupAt g) ≡ true → (groupAt g).octets ≤ length bs
-    → soundRule low high step g ≡ true → asks low high (firstThree bs) ≡ true → legal (rows_at g) (part_at step g bs) ≡ true
-unfolding soundRule
-asked-legal low high step g bs o h p l s e = obeyed-legal step g bs o h p l (asked-rules low high step (groupAt g).octets bs o l (slice (firstRule g) (firstRule (g + 1)) rules) s e)
+asked_legal : (low high step g : ℕ) (bs : List ℕ) → Octets bs → g < group_count → part_sound step (group_at g) ≡ true → (group_at g).octets ≤ length bs
+    → sound_rule low high step g ≡ true → asks low high (first_three bs) ≡ true → legal (rows_at g) (part_at step g bs) ≡ true
+unfolding sound_rule
+asked_legal low high step g bs o h p l s e = obeyed_legal step g bs o h p l (asked_rules low high step (group_at g).octets bs o l (slice (first_rule g) (first_rule (g + 1)) rules) s e)
 
 -- ---- one part with a rule, or two
 
-module _ (l : LayoutRow) (w : ℕ) (bs : List ℕ) (r : rowSound l ≡ true) (o : Octets bs) (h : w % 16 ≤ length bs) where
+module _ (l : LayoutRow) (w : ℕ) (bs : List ℕ) (r : row_sound l ≡ true) (o : Octets bs) (h : w % 16 ≤ length bs) where
   -- it obeys its rules
-  single-told : (c : Bool) → eqb l.kind 1 && eqb (groupAt l.first).octets (w % 16) && c ≡ true
-      → (l.first < groupCount → partSound 0 (groupAt l.first) ≡ true → (groupAt l.first).octets ≤ length bs → c ≡ true → legal (rows_at l.first) (part_at 0 l.first bs) ≡ true) → Plainly (w % 16) (wholeSize l bs)
-  single-told c s f =
+  single_told : (c : Bool) → eqb l.kind 1 && eqb (group_at l.first).octets (w % 16) && c ≡ true
+      → (l.first < group_count → part_sound 0 (group_at l.first) ≡ true → (group_at l.first).octets ≤ length bs → c ≡ true → legal (rows_at l.first) (part_at 0 l.first bs) ≡ true) → Plainly (w % 16) (whole_size l bs)
+  single_told c s f =
       let a = eqb l.kind 1 in
-      let b = eqb (groupAt l.first).octets (w % 16) in
+      let b = eqb (group_at l.first).octets (w % 16) in
       let u : a && b ≡ true = both_left (a && b) c s in
-      let m : w % 16 ≡ (groupAt l.first).octets = sym (eqb-true _ _ (both_right a b u)) in
+      let m : w % 16 ≡ (group_at l.first).octets = sym (eqb-true _ _ (both_right a b u)) in
       let g : Single l l.first = record { kind = eqb-true l.kind 1 (both_left a b u); group = refl } in
-      let p = single-sound l l.first r g in
-      plainly (w % 16) (single-legal l.first bs m h (sym (f p.0 p.1 (omega arith) (both_right (a && b) c s))) refl ∙ single-size l l.first bs g)
+      let p = single_sound l l.first r g in
+      plainly (w % 16) (single_legal l.first bs m h (sym (f p.0 p.1 (omega arith) (both_right (a && b) c s))) refl ∙ single_size_lem l l.first bs g)
 
-  pub ruled-told : (low high : ℕ) → soundSingle low high w l ≡ true → asks low high (firstThree bs) ≡ true → Plainly (w % 16) (wholeSize l bs)
-  unfolding soundSingle
-  ruled-told low high s e = single-told (soundRule low high 0 l.first) s (λ p q k d. asked-legal low high 0 l.first bs o p q k d e)
+  pub ruled_told : (low high : ℕ) → sound_single low high w l ≡ true → asks low high (first_three bs) ≡ true → Plainly (w % 16) (whole_size l bs)
+  unfolding sound_single
+  ruled_told low high s e = single_told (sound_rule low high 0 l.first) s (λ p q k d. asked_legal low high 0 l.first bs o p q k d e)
 
-  pub twice-told : (t : List ℕ) → soundTwice t w l ≡ true → asked t (ruleIn w) (firstThree bs) ≡ true → asked t (nextIn w) (firstThree bs) ≡ true
-      → Plainly (w % 16) (wholeSize l bs)
-  unfolding soundTwice
-  twice-told t s e f =
-      let rs = slice (firstRule l.first) (firstRule (l.first + 1)) rules in
-      single-told (same_pair t (ruleIn w) (nextIn w) (groupAt l.first).octets rs) s
-      (λ p q k d. obeyed-legal 0 l.first bs o p q k (asked-pair t (w / 4_096 % 16) (nextIn w) (groupAt l.first).octets bs o k rs d e f))
+  pub twice_told : (t : List ℕ) → sound_twice t w l ≡ true → asked t (rule_in w) (first_three bs) ≡ true → asked t (next_in w) (first_three bs) ≡ true
+      → Plainly (w % 16) (whole_size l bs)
+  unfolding sound_twice
+  twice_told t s e f =
+      let rs = slice (first_rule l.first) (first_rule (l.first + 1)) rules in
+      single_told (same_pair t (rule_in w) (next_in w) (group_at l.first).octets rs) s
+      (λ p q k d. obeyed_legal 0 l.first bs o p q k (asked_pair t (w / 4_096 % 16) (next_in w) (group_at l.first).octets bs o k rs d e f))
 
 -- ---- a list or a led item
 
-module _ (l : LayoutRow) (w : ℕ) (bs : List ℕ) (r : rowSound l ≡ true) (o : Octets bs) (h : 1 ≤ length bs) (s : soundCounted w l ≡ true) {n : ℕ} (en : n ≡ get_or bs 0 0) (b : n < 256) where
+module _ (l : LayoutRow) (w : ℕ) (bs : List ℕ) (r : row_sound l ≡ true) (o : Octets bs) (h : 1 ≤ length bs) (s : sound_counted w l ≡ true) {n : ℕ} (en : n ≡ get_or bs 0 0) (b : n < 256) where
   -- any parts will do
-  counted-whole : (c long k : ℕ) → ok (c, long) ≡ shape_of l bs → l.kind ≡ k → k < 4 → ok long ≡ wholeSize l bs
-  unfolding soundCounted
-  counted-whole c long k e q m = check-whole l bs c long (equal-free l bs c long (sym e) r o (λ z. absurd (omega (arith, q, z))) refl (both_left (groupAt l.first).free _ s))
+  counted_whole : (c long k : ℕ) → ok (c, long) ≡ shape_of l bs → l.kind ≡ k → k < 4 → ok long ≡ whole_size l bs
+  unfolding sound_counted
+  counted_whole c long k e q m = check_whole l bs c long (equal_free l bs c long (sym e) r o (λ z. absurd (omega (arith, q, z))) refl (both_left (group_at l.first).free _ s))
 
-  pub counted-told : w / 4_096 % 16 ≤ n → w % 16 + n * (w / 16 % 16) ≤ length bs → Plainly (w % 16 + n * (w / 16 % 16)) (wholeSize l bs)
-  unfolding soundCounted
-  counted-told least there = plainly (w % 16 + n * (w / 16 % 16)) (go (eqb l.kind 2) refl (both_right (groupAt l.first).free _ s))
+  pub counted_told : w / 4_096 % 16 ≤ n → w % 16 + n * (w / 16 % 16) ≤ length bs → Plainly (w % 16 + n * (w / 16 % 16)) (whole_size l bs)
+  unfolding sound_counted
+  counted_told least there = plainly (w % 16 + n * (w / 16 % 16)) (go (eqb l.kind 2) refl (both_right (group_at l.first).free _ s))
     where
       lists : Bool
-      lists = eqb (w % 16) 1 && eqb (w / 16 % 16) (groupAt l.first).octets && leb l.least (w / 4_096 % 16) && leb 255 l.most
+      lists = eqb (w % 16) 1 && eqb (w / 16 % 16) (group_at l.first).octets && leb l.least (w / 4_096 % 16) && leb 255 l.most
 
       leds : Bool
       leds = eqb l.kind 3 && eqb (w % 16) 0 && eqb (w / 16 % 16) 1 && ltb l.least (w / 4_096 % 16)
 
-      go : (t : Bool) → eqb l.kind 2 ≡ t → cond t lists leds ≡ true → ok (w % 16 + n * (w / 16 % 16)) ≡ wholeSize l bs
+      go : (t : Bool) → eqb l.kind 2 ≡ t → cond t lists leds ≡ true → ok (w % 16 + n * (w / 16 % 16)) ≡ whole_size l bs
       go true k u =
           let a = eqb (w % 16) 1 in
-          let c = eqb (w / 16 % 16) (groupAt l.first).octets in
+          let c = eqb (w / 16 % 16) (group_at l.first).octets in
           let d = leb l.least (w / 4_096 % 16) in
           let f = leb 255 l.most in
           let v : a && c && d ≡ true = both_left (a && c && d) f u in
           let x : a && c ≡ true = both_left (a && c) d v in
           let q : l.kind ≡ 2 = eqb-true l.kind 2 k in
           let i : w % 16 ≡ 1 = eqb-true (w % 16) 1 (both_left a c x) in
-          let j : w / 16 % 16 ≡ (groupAt l.first).octets = eqb-true _ _ (both_right a c x) in
+          let j : w / 16 % 16 ≡ (group_at l.first).octets = eqb-true _ _ (both_right a c x) in
           let y : l.least ≤ n = omega (arith, leb-true l.least (w / 4_096 % 16) (both_right (a && c) d v)) in
           let z : n ≤ l.most = omega (arith, leb-true 255 l.most (both_right (a && c && d) f u)) in
-          subst (λ m. ok (m + n * (w / 16 % 16)) ≡ wholeSize l bs) (sym i)
-          (counted-whole n (1 + n * (w / 16 % 16)) 2
-          (list-there l.least l.most (groupAt l.first).octets n (length bs) j (subst (λ m. m + n * (w / 16 % 16) ≤ length bs) i there) y z
-          ∙ ap (λ m. listShape l.least l.most (groupAt l.first).octets m (length bs)) en ∙ list-shape l bs q h)
+          subst (λ m. ok (m + n * (w / 16 % 16)) ≡ whole_size l bs) (sym i)
+          (counted_whole n (1 + n * (w / 16 % 16)) 2
+          (list_there l.least l.most (group_at l.first).octets n (length bs) j (subst (λ m. m + n * (w / 16 % 16) ≤ length bs) i there) y z
+          ∙ ap (λ m. list_shape l.least l.most (group_at l.first).octets m (length bs)) en ∙ list_shape_lem l bs q h)
           q (lit< tt))
       go false k u =
           let a = eqb l.kind 3 in
@@ -301,12 +301,12 @@ module _ (l : LayoutRow) (w : ℕ) (bs : List ℕ) (r : rowSound l ≡ true) (o 
           let j : w / 16 % 16 ≡ 1 = eqb-true (w / 16 % 16) 1 (both_right (a && c) d v) in
           let y : l.least < n = omega (arith, ltb-true l.least (w / 4_096 % 16) (both_right (a && c && d) f u)) in
           let m : w % 16 + n * (w / 16 % 16) ≡ n = rw (i, j) (omega arith) in
-          subst (λ g. ok g ≡ wholeSize l bs) (sym m)
-          (counted-whole (n - 1) n 3 (led-there l bs q h en y (omega arith)) q (lit< tt))
+          subst (λ g. ok g ≡ whole_size l bs) (sym m)
+          (counted_whole (n - 1) n 3 (led_there l bs q h en y (omega arith)) q (lit< tt))
 
 -- the size fits
-pub product-fits : (n w : ℕ) → n < 256 → n * (w / 16 % 16) < 4_096
-product-fits n w h =
+pub product_fits : (n w : ℕ) → n < 256 → n * (w / 16 % 16) < 4_096
+product_fits n w h =
     let k : n * (w / 16 % 16) ≤ n * 15 = mul-le-mul_left n (omega arith) in
     omega arith
 
@@ -315,20 +315,20 @@ product-fits n w h =
 pub record Extended (t : List ℕ) (w : ℕ) (l : LayoutRow) : Type 0 where
   pub kind : l.kind ≡ 4
   pub ends : l.first + 2 ≡ l.end
-  pub one : 1 ≡ (groupAt l.first).octets
-  pub two : 1 ≡ (groupAt (l.first + 1)).octets
-  pub first : soundRow t (ruleIn w) 1 l.first ≡ true
-  pub second : soundRow t (nextIn w) 1 (l.first + 1) ≡ true
+  pub one : 1 ≡ (group_at l.first).octets
+  pub two : 1 ≡ (group_at (l.first + 1)).octets
+  pub first : sound_row t (rule_in w) 1 l.first ≡ true
+  pub second : sound_row t (next_in w) 1 (l.first + 1) ≡ true
 
-extended-of : (t : List ℕ) (w : ℕ) (l : LayoutRow) → soundExtended t w l ≡ true → Extended t w l
-unfolding soundExtended
-extended-of t w l s =
+extended_of : (t : List ℕ) (w : ℕ) (l : LayoutRow) → sound_extended t w l ≡ true → Extended t w l
+unfolding sound_extended
+extended_of t w l s =
     let a = eqb l.kind 4 in
     let b = eqb (l.first + 2) l.end in
-    let c = eqb (groupAt l.first).octets 1 in
-    let d = eqb (groupAt (l.first + 1)).octets 1 in
-    let e = soundRow t (ruleIn w) 1 l.first in
-    let f = soundRow t (nextIn w) 1 (l.first + 1) in
+    let c = eqb (group_at l.first).octets 1 in
+    let d = eqb (group_at (l.first + 1)).octets 1 in
+    let e = sound_row t (rule_in w) 1 l.first in
+    let f = sound_row t (next_in w) 1 (l.first + 1) in
     let u : a && b && c && d && e ≡ true = both_left (a && b && c && d && e) f s in
     let v : a && b && c && d ≡ true = both_left (a && b && c && d) e u in
     let x : a && b && c ≡ true = both_left (a && b && c) d v in
@@ -342,127 +342,127 @@ extended-of t w l s =
       second = both_right (a && b && c && d && e) f s;
     }
 
-module _ (t : List ℕ) (l : LayoutRow) (w : ℕ) (bs : List ℕ) (r : rowSound l ≡ true) (o : Octets bs) (h : 1 ≤ length bs) (s : soundExtended t w l ≡ true) (e : asked t (ruleIn w) (firstThree bs) ≡ true) where
+module _ (t : List ℕ) (l : LayoutRow) (w : ℕ) (bs : List ℕ) (r : row_sound l ≡ true) (o : Octets bs) (h : 1 ≤ length bs) (s : sound_extended t w l ≡ true) (e : asked t (rule_in w) (first_three bs) ≡ true) where
   x : Extended t w l
-  x = extended-of t w l s
+  x = extended_of t w l s
 
   begun : Chaining l.first l.end bs l.first 0 0
-  begun = chain-begun l.first l.end bs (chain-parts l (rowed l r) x.kind)
+  begun = chain_begun l.first l.end bs (chain_parts_lem l (rowed l r) x.kind)
 
   more : l.first < l.end
   more = omega (arith, x.ends)
 
-  first-legal : legal (rows_at l.first) (part_at 1 l.first bs) ≡ true
-  first-legal =
-      let g = chain-group l.first l.end bs l.first 0 0 begun more x.one in
-      asked-legal (lowAt t (ruleIn w)) (highAt t (ruleIn w)) 1 l.first bs o g.inside g.sound (omega (arith, x.one)) x.first e
+  first_legal : legal (rows_at l.first) (part_at 1 l.first bs) ≡ true
+  first_legal =
+      let g = chain_group l.first l.end bs l.first 0 0 begun more x.one in
+      asked_legal (low_at t (rule_in w)) (high_at t (rule_in w)) 1 l.first bs o g.inside g.sound (omega (arith, x.one)) x.first e
 
-  extended-whole : (c long : ℕ) → ok (c, long) ≡ chain l.first (l.end - l.first) bs → partsLegal 1 l.first c bs ≡ true → wholeSize l bs ≡ ok long
-  extended-whole c long q p = sym (check-whole l bs c long (chain-legal l bs c long (sym (q ∙ chain-shape l bs x.kind)) r o x.kind refl p))
+  extended_whole : (c long : ℕ) → ok (c, long) ≡ chain l.first (l.end - l.first) bs → parts_legal 1 l.first c bs ≡ true → whole_size l bs ≡ ok long
+  extended_whole c long q p = sym (check_whole l bs c long (chain_legal l bs c long (sym (q ∙ chain_shape l bs x.kind)) r o x.kind refl p))
 
-  pub extended-one : get_or bs 0 0 % 2 ≡ 0 → wholeSize l bs ≡ ok 1
-  unfolding partsLegal
-  extended-one f = extended-whole 1 1 (chain-last l.first l.end bs l.first 0 0 begun more x.one (omega arith) (eq-eqb (get_or bs 0 0 % 2) 0 f)) (rw first-legal)
+  pub extended_one : get_or bs 0 0 % 2 ≡ 0 → whole_size l bs ≡ ok 1
+  unfolding parts_legal
+  extended_one f = extended_whole 1 1 (chain_last l.first l.end bs l.first 0 0 begun more x.one (omega arith) (eq-eqb (get_or bs 0 0 % 2) 0 f)) (rw first_legal)
 
-  module _ (f : ¬ (get_or bs 0 0 % 2 ≡ 0)) (k : 2 ≤ length bs) (q : asked t (nextIn w) (firstThree (drop 1 bs)) ≡ true) where
+  module _ (f : ¬ (get_or bs 0 0 % 2 ≡ 0)) (k : 2 ≤ length bs) (q : asked t (next_in w) (first_three (drop 1 bs)) ≡ true) where
     next : Chaining l.first l.end bs (l.first + 1) 1 1
     next = chain_more l.first l.end bs l.first 0 0 begun more x.one (omega arith) (ne_eqb (get_or bs 0 0 % 2) 0 f)
 
     last : l.first + 1 < l.end
     last = omega (arith, x.ends)
 
-    second-legal : legal (rows_at (l.first + 1)) (part_at 1 (l.first + 1) (drop 1 bs)) ≡ true
-    second-legal =
-        let g = chain-group l.first l.end bs (l.first + 1) 1 1 next last x.two in
-        asked-legal (lowAt t (nextIn w)) (highAt t (nextIn w)) 1 (l.first + 1) (drop 1 bs) (octets-drop 1 bs o) g.inside g.sound (omega (arith, x.two, length-drop 1 bs)) x.second q
+    second_legal : legal (rows_at (l.first + 1)) (part_at 1 (l.first + 1) (drop 1 bs)) ≡ true
+    second_legal =
+        let g = chain_group l.first l.end bs (l.first + 1) 1 1 next last x.two in
+        asked_legal (low_at t (next_in w)) (high_at t (next_in w)) 1 (l.first + 1) (drop 1 bs) (octets_drop 1 bs o) g.inside g.sound (omega (arith, x.two, length-drop 1 bs)) x.second q
 
-    pub extended-two : get_or bs 1 0 % 2 ≡ 0 → wholeSize l bs ≡ ok 2
-    unfolding partsLegal
-    extended-two z =
-        extended-whole 2 2 (chain-last l.first l.end bs (l.first + 1) 1 1 next last x.two (omega arith) (eq-eqb (get_or bs 1 0 % 2) 0 z))
-        (rw (first-legal, ← x.one, second-legal))
+    pub extended_two : get_or bs 1 0 % 2 ≡ 0 → whole_size l bs ≡ ok 2
+    unfolding parts_legal
+    extended_two z =
+        extended_whole 2 2 (chain_last l.first l.end bs (l.first + 1) 1 1 next last x.two (omega arith) (eq-eqb (get_or bs 1 0 % 2) 0 z))
+        (rw (first_legal, ← x.one, second_legal))
 
 -- ---- the octets of an item that is legal, by its first octet
 
-small-octets : (w x : ℕ) → w < 8 → w ≡ wordOctets w x
-unfolding wordOctets
-small-octets w x h =
+small_octets : (w x : ℕ) → w < 8 → w ≡ word_octets w x
+unfolding word_octets
+small_octets w x h =
     let k : w / 256 % 16 ≡ 0 = omega arith in
     let p : w / 16 % 16 ≡ 0 = omega arith in
-    sym (if-false _ (ap (λ y. eqb y 3) k) (ap (λ y. w % 16 + x * y) p ∙ ap (λ y. w % 16 + y) (mul-zero x) ∙ omega arith))
+    sym (if_false _ (ap (λ y. eqb y 3) k) (ap (λ y. w % 16 + x * y) p ∙ ap (λ y. w % 16 + y) (mul-zero x) ∙ omega arith))
 
 module _ (t : List ℕ) (i f : ℕ) where
-  pub word-there : i < profileCount → f < frnCount → get_or t (i * frnCount + f) 0 ≡ word_for t i f
+  pub word_there : i < profile_count → f < frn_count → get_or t (i * frn_count + f) 0 ≡ word_for t i f
   unfolding word_for
-  word-there h k = sym (if-true _ (ap₂ ◌&&◌ (lt-ltb i profileCount h) (lt-ltb f frnCount k)) refl)
+  word_there h k = sym (if_true _ (ap₂ ◌&&◌ (lt-ltb i profile_count h) (lt-ltb f frn_count k)) refl)
 
-  pub word-past : profileCount ≤ i → 0 ≡ word_for t i f
+  pub word_past : profile_count ≤ i → 0 ≡ word_for t i f
   unfolding word_for
-  word-past h = sym (if-false _ (ap (λ b. b && ltb f frnCount) (le-ltb i profileCount h)) refl)
+  word_past h = sym (if_false _ (ap (λ b. b && ltb f frn_count) (le-ltb i profile_count h)) refl)
 
-  pub word-beyond : i < profileCount → frnCount ≤ f → 0 ≡ word_for t i f
+  pub word_beyond : i < profile_count → frn_count ≤ f → 0 ≡ word_for t i f
   unfolding word_for
-  word-beyond h k = sym (if-false _ (ap₂ ◌&&◌ (lt-ltb i profileCount h) (le-ltb f frnCount k)) refl)
+  word_beyond h k = sym (if_false _ (ap₂ ◌&&◌ (lt-ltb i profile_count h) (le-ltb f frn_count k)) refl)
 
   -- a word of a table that is exact says what the item at its place has, and 0 that its first octet does not tell
-  exact_word : exactSteps t ≡ true → isPlace i f ≡ true → exactWord (get_or t (i * frnCount + f) 0) (rowOf i f) ≡ true
-  unfolding exactSteps
-  exact_word s e =
-      let h : i < profileCount = ltb-true i profileCount (both_left (ltb i profileCount) (ltb f frnCount) e) in
-      let k : f < frnCount = ltb-true f frnCount (both_right (ltb i profileCount) (ltb f frnCount) e) in
-      all-below placeCount (λ j. exactWord (get_or t j 0) (layoutAt (placeRowAt j).layout)) (i * frnCount + f) s (omega arith)
+  exact_word_lem : exact_steps t ≡ true → is_place i f ≡ true → exact_word (get_or t (i * frn_count + f) 0) (row_of i f) ≡ true
+  unfolding exact_steps
+  exact_word_lem s e =
+      let h : i < profile_count = ltb-true i profile_count (both_left (ltb i profile_count) (ltb f frn_count) e) in
+      let k : f < frn_count = ltb-true f frn_count (both_right (ltb i profile_count) (ltb f frn_count) e) in
+      all_below_lem place_count (λ j. exact_word (get_or t j 0) (layout_at (place_row_at j).layout)) (i * frn_count + f) s (omega arith)
 
-  word-octets : exactSteps t ≡ true → 0 < word_for t i f → (bs : List ℕ) → get_or bs 0 0 < 256 → wordOctets (word_for t i f) (get_or bs 0 0) ≡ octetsAt i f bs
-  unfolding word_for octetsAt if◌then◌else◌
-  word-octets s some bs b = go (isPlace i f) refl some
+  word_octets_lem : exact_steps t ≡ true → 0 < word_for t i f → (bs : List ℕ) → get_or bs 0 0 < 256 → word_octets (word_for t i f) (get_or bs 0 0) ≡ octets_at i f bs
+  unfolding word_for octets_at if◌then◌else◌
+  word_octets_lem s some bs b = go (is_place i f) refl some
     where
       w : ℕ
-      w = get_or t (i * frnCount + f) 0
+      w = get_or t (i * frn_count + f) 0
 
       exact : Bool
-      exact = all_below 256 (λ x. eqb (wordOctets w x) (rowOctets (rowOf i f) x))
+      exact = all_below 256 (λ x. eqb (word_octets w x) (row_octets (row_of i f) x))
 
-      by : (u : Bool) → cond u (ltb 0 w && exact) (eqb w 0) ≡ true → 0 < w → wordOctets w (get_or bs 0 0) ≡ (if u then rowOctets (rowOf i f) (get_or bs 0 0) else sizeOr0 (checkAt i f bs))
-      by true e h = eqb-true _ _ (all-below 256 (λ x. eqb (wordOctets w x) (rowOctets (rowOf i f) x)) (get_or bs 0 0) (both_right (ltb 0 w) exact e) b)
+      by : (u : Bool) → cond u (ltb 0 w && exact) (eqb w 0) ≡ true → 0 < w → word_octets w (get_or bs 0 0) ≡ (if u then row_octets (row_of i f) (get_or bs 0 0) else size_or0 (check_at i f bs))
+      by true e h = eqb-true _ _ (all_below_lem 256 (λ x. eqb (word_octets w x) (row_octets (row_of i f) x)) (get_or bs 0 0) (both_right (ltb 0 w) exact e) b)
       by false e h = absurd (omega (arith, eqb-true w 0 e))
 
-      go : (p : Bool) → isPlace i f ≡ p → 0 < (if p then w else 0)
-          → wordOctets (if p then w else 0) (get_or bs 0 0) ≡ (if p && rowTells (rowOf i f) then rowOctets (rowOf i f) (get_or bs 0 0) else sizeOr0 (checkAt i f bs))
-      go true e h = by (rowTells (rowOf i f)) (exact_word s e) h
+      go : (p : Bool) → is_place i f ≡ p → 0 < (if p then w else 0)
+          → word_octets (if p then w else 0) (get_or bs 0 0) ≡ (if p && row_tells (row_of i f) then row_octets (row_of i f) (get_or bs 0 0) else size_or0 (check_at i f bs))
+      go true e h = by (row_tells (row_of i f)) (exact_word_lem s e) h
       go false e h = absurd (omega arith)
 
-  word-nothing : exactSteps t ≡ true → word_for t i f ≡ 0 → (bs : List ℕ) → octetsAt i f bs ≡ sizeOr0 (checkAt i f bs)
-  unfolding word_for octetsAt if◌then◌else◌
-  word-nothing s none bs = go (isPlace i f) refl none
+  word_nothing : exact_steps t ≡ true → word_for t i f ≡ 0 → (bs : List ℕ) → octets_at i f bs ≡ size_or0 (check_at i f bs)
+  unfolding word_for octets_at if◌then◌else◌
+  word_nothing s none bs = go (is_place i f) refl none
     where
       w : ℕ
-      w = get_or t (i * frnCount + f) 0
+      w = get_or t (i * frn_count + f) 0
 
-      by : (u : Bool) → cond u (ltb 0 w && all_below 256 (λ x. eqb (wordOctets w x) (rowOctets (rowOf i f) x))) (eqb w 0) ≡ true → w ≡ 0
-          → (if u then rowOctets (rowOf i f) (get_or bs 0 0) else sizeOr0 (checkAt i f bs)) ≡ sizeOr0 (checkAt i f bs)
+      by : (u : Bool) → cond u (ltb 0 w && all_below 256 (λ x. eqb (word_octets w x) (row_octets (row_of i f) x))) (eqb w 0) ≡ true → w ≡ 0
+          → (if u then row_octets (row_of i f) (get_or bs 0 0) else size_or0 (check_at i f bs)) ≡ size_or0 (check_at i f bs)
       by true e z = absurd (omega (arith, ltb-true 0 w (both_left (ltb 0 w) _ e)))
       by false e z = refl
 
-      go : (p : Bool) → isPlace i f ≡ p → (if p then w else 0) ≡ 0
-          → (if p && rowTells (rowOf i f) then rowOctets (rowOf i f) (get_or bs 0 0) else sizeOr0 (checkAt i f bs)) ≡ sizeOr0 (checkAt i f bs)
-      go true e z = by (rowTells (rowOf i f)) (exact_word s e) z
+      go : (p : Bool) → is_place i f ≡ p → (if p then w else 0) ≡ 0
+          → (if p && row_tells (row_of i f) then row_octets (row_of i f) (get_or bs 0 0) else size_or0 (check_at i f bs)) ≡ size_or0 (check_at i f bs)
+      go true e z = by (row_tells (row_of i f)) (exact_word_lem s e) z
       go false e z = refl
 
-module _ (t : List ℕ) (i f : ℕ) (s : exactSteps t ≡ true) {w : ℕ} (e : w ≡ word_for t i f) (bs : List ℕ) where
-  pub asked-octets : w ≡ 0 → sizeOr0 (checkAt i f bs) ≡ octetsAt i f bs
-  asked-octets z = sym (word-nothing t i f s (sym e ∙ z) bs)
+module _ (t : List ℕ) (i f : ℕ) (s : exact_steps t ≡ true) {w : ℕ} (e : w ≡ word_for t i f) (bs : List ℕ) where
+  pub asked_octets : w ≡ 0 → size_or0 (check_at i f bs) ≡ octets_at i f bs
+  asked_octets z = sym (word_nothing t i f s (sym e ∙ z) bs)
 
   module _ (b : get_or bs 0 0 < 256) (some : 0 < w) where
-    by_word : wordOctets w (get_or bs 0 0) ≡ octetsAt i f bs
-    by_word = ap (λ y. wordOctets y (get_or bs 0 0)) e ∙ word-octets t i f s (subst (λ y. 0 < y) e some) bs b
+    by_word : word_octets w (get_or bs 0 0) ≡ octets_at i f bs
+    by_word = ap (λ y. word_octets y (get_or bs 0 0)) e ∙ word_octets_lem t i f s (subst (λ y. 0 < y) e some) bs b
 
-    pub free-octets : w < 8 → w ≡ octetsAt i f bs
-    free-octets h = small-octets w (get_or bs 0 0) h ∙ by_word
+    pub free_octets : w < 8 → w ≡ octets_at i f bs
+    free_octets h = small_octets w (get_or bs 0 0) h ∙ by_word
 
-    pub extended-octets : {x : ℕ} → x ≡ get_or bs 0 0 → w / 256 % 16 ≡ 3 → 1 + x % 2 ≡ octetsAt i f bs
-    unfolding wordOctets
-    extended-octets ex k = ap (λ y. 1 + y % 2) ex ∙ sym (if-true _ (eq-eqb _ 3 k) refl) ∙ by_word
+    pub extended_octets : {x : ℕ} → x ≡ get_or bs 0 0 → w / 256 % 16 ≡ 3 → 1 + x % 2 ≡ octets_at i f bs
+    unfolding word_octets
+    extended_octets ex k = ap (λ y. 1 + y % 2) ex ∙ sym (if_true _ (eq-eqb _ 3 k) refl) ∙ by_word
 
-    pub counted-octets : {x : ℕ} → x ≡ get_or bs 0 0 → (w / 256 % 16 ≡ 3 → ⊥) → w % 16 + x * (w / 16 % 16) ≡ octetsAt i f bs
-    unfolding wordOctets
-    counted-octets ex k = ap (λ y. w % 16 + y * (w / 16 % 16)) ex ∙ sym (if-false _ (ne_eqb _ 3 k) refl) ∙ by_word
+    pub counted_octets : {x : ℕ} → x ≡ get_or bs 0 0 → (w / 256 % 16 ≡ 3 → ⊥) → w % 16 + x * (w / 16 % 16) ≡ octets_at i f bs
+    unfolding word_octets
+    counted_octets ex k = ap (λ y. w % 16 + y * (w / 16 % 16)) ex ∙ sym (if_false _ (ne_eqb _ 3 k) refl) ∙ by_word

@@ -1,10 +1,10 @@
 // The check of an item that accepts only, with few looks: by a table that the caller lends, since a constant is written out where it is read. What it
 // does not tell is left to the exact check. The same table says how many octets an item has that was checked, where its first octet tells.
 ghost use Rattle.std.specs.Prelude.{◌≡◌, true, ◌≤◌, ◌<◌, ◌^◌, length, get_or};
-ghost use Rattle.items.specs.Answers.{checkAt};
-ghost use Rattle.quick_items.specs.Item.{Plainly, ruleRows, stepCount, firstThree, asks, asked, soundFree, soundRuled, soundCounted, soundExtended, soundTwice, soundSteps, exactSteps, word_for};
-ghost use Rattle.layouts.specs.Read.{wholeSize};
-ghost use Rattle.tables.specs.Tables.{placeCount, layoutAt, placeRowAt};
+ghost use Rattle.items.specs.Answers.{check_at};
+ghost use Rattle.quick_items.specs.Item.{Plainly, rule_rows, step_count, first_three, asks, asked, sound_free, sound_ruled, sound_counted, sound_extended, sound_twice, sound_steps, exact_steps, word_for};
+ghost use Rattle.layouts.specs.Read.{whole_size};
+ghost use Rattle.tables.specs.Tables.{place_count, layout_at, place_row_at};
 
 use numbers::octet;
 use tables::{FRNS, PROFILES};
@@ -36,8 +36,8 @@ const TWICE: usize = 4;
 
 // The table. A word says nothing that the item at its place does not have.
 pub fn steps() -> Steps
-    ensures result_value { soundSteps result ≡ true }
-    ensures result_value_2 { exactSteps result ≡ true }
+    ensures result_value { sound_steps result ≡ true }
+    ensures result_value_2 { exact_steps result ≡ true }
 {
     [
         // ---- made by model/make.py: steps
@@ -192,7 +192,7 @@ fn wide(x: u32) -> usize
 }
 
 fn word_at(t: &Steps, at: usize) -> usize
-    requires { at < stepCount }
+    requires { at < step_count }
     ensures { result ≡ get_or t.now at 0 }
 {
     wide(t[at])
@@ -216,7 +216,7 @@ pub fn word_of(t: &Steps, profile: usize, frn: usize) -> usize
 // The first three octets as one number, those that are missing as zeros.
 fn first_three(part: &[u8]) -> usize
     requires { 1 ≤ length part.now }
-    ensures { (result ≡ firstThree part.now) × (result < 2 ^ 24) }
+    ensures { (result ≡ first_three part.now) × (result < 2 ^ 24) }
 {
     let one = octet(part[0]) * 65536;
     if part.len() < 2 {
@@ -241,7 +241,7 @@ pub fn is_kept(low: usize, high: usize, n: usize) -> bool
 
 // The same, of the rule at a row.
 fn is_asked(t: &Steps, rule: usize, n: usize) -> bool
-    requires { (rule < ruleRows) × (n < 2 ^ 24) }
+    requires { (rule < rule_rows) × (n < 2 ^ 24) }
     ensures { result ≡ asked t.now rule n }
 {
     is_kept(word_at(t, LOWS + rule), word_at(t, HIGHS + rule), n)
@@ -251,8 +251,8 @@ fn is_asked(t: &Steps, rule: usize, n: usize) -> bool
 
 // One free part.
 fn free_size(t: &Steps, place: usize, part: &[u8]) -> usize
-    requires { (place < placeCount) × (get_or t.now place 0 < 8) × (soundFree (get_or t.now place 0) (layoutAt (placeRowAt place).layout) ≡ true) }
-    ensures { Plainly result (wholeSize (layoutAt (placeRowAt place).layout) part.now) }
+    requires { (place < place_count) × (get_or t.now place 0 < 8) × (sound_free (get_or t.now place 0) (layout_at (place_row_at place).layout) ≡ true) }
+    ensures { Plainly result (whole_size (layout_at (place_row_at place).layout) part.now) }
 {
     let size = word_at(t, place);
     if part.len() < size {
@@ -263,8 +263,8 @@ fn free_size(t: &Steps, place: usize, part: &[u8]) -> usize
 
 // One part with a rule.
 fn ruled_size(t: &Steps, place: usize, part: &[u8]) -> usize
-    requires { (place < placeCount) × (1 ≤ length part.now) × (soundRuled t.now (get_or t.now place 0) (layoutAt (placeRowAt place).layout) ≡ true) }
-    ensures { Plainly result (wholeSize (layoutAt (placeRowAt place).layout) part.now) }
+    requires { (place < place_count) × (1 ≤ length part.now) × (sound_ruled t.now (get_or t.now place 0) (layout_at (place_row_at place).layout) ≡ true) }
+    ensures { Plainly result (whole_size (layout_at (place_row_at place).layout) part.now) }
 {
     let w = word_at(t, place);
     let size = w % 16;
@@ -279,8 +279,8 @@ fn ruled_size(t: &Steps, place: usize, part: &[u8]) -> usize
 
 // A count octet and free parts, or a length octet and contents.
 fn counted_size(t: &Steps, place: usize, part: &[u8]) -> usize
-    requires { (place < placeCount) × (1 ≤ length part.now) × (soundCounted (get_or t.now place 0) (layoutAt (placeRowAt place).layout) ≡ true) }
-    ensures { Plainly result (wholeSize (layoutAt (placeRowAt place).layout) part.now) }
+    requires { (place < place_count) × (1 ≤ length part.now) × (sound_counted (get_or t.now place 0) (layout_at (place_row_at place).layout) ≡ true) }
+    ensures { Plainly result (whole_size (layout_at (place_row_at place).layout) part.now) }
 {
     let w = word_at(t, place);
     let n = octet(part[0]);
@@ -296,8 +296,8 @@ fn counted_size(t: &Steps, place: usize, part: &[u8]) -> usize
 
 // Parts as far as FX bits say, of one octet each and at most two.
 fn extended_size(t: &Steps, place: usize, part: &[u8]) -> usize
-    requires { (place < placeCount) × (1 ≤ length part.now) × (soundExtended t.now (get_or t.now place 0) (layoutAt (placeRowAt place).layout) ≡ true) }
-    ensures { Plainly result (wholeSize (layoutAt (placeRowAt place).layout) part.now) }
+    requires { (place < place_count) × (1 ≤ length part.now) × (sound_extended t.now (get_or t.now place 0) (layout_at (place_row_at place).layout) ≡ true) }
+    ensures { Plainly result (whole_size (layout_at (place_row_at place).layout) part.now) }
 {
     let w = word_at(t, place);
     if !is_asked(t, w / 4096 % RULES, first_three(part)) {
@@ -320,8 +320,8 @@ fn extended_size(t: &Steps, place: usize, part: &[u8]) -> usize
 
 // One part with two rules.
 fn twice_size(t: &Steps, place: usize, part: &[u8]) -> usize
-    requires { (place < placeCount) × (1 ≤ length part.now) × (soundTwice t.now (get_or t.now place 0) (layoutAt (placeRowAt place).layout) ≡ true) }
-    ensures { Plainly result (wholeSize (layoutAt (placeRowAt place).layout) part.now) }
+    requires { (place < place_count) × (1 ≤ length part.now) × (sound_twice t.now (get_or t.now place 0) (layout_at (place_row_at place).layout) ≡ true) }
+    ensures { Plainly result (whole_size (layout_at (place_row_at place).layout) part.now) }
 {
     let w = word_at(t, place);
     let size = w % 16;
@@ -341,8 +341,8 @@ fn twice_size(t: &Steps, place: usize, part: &[u8]) -> usize
 // How many octets the item at a place of the tables takes, where it is plainly legal: as most items are, in one part, or a count or length octet and free
 // parts. Short, so that it is compiled into both loops over a record's items.
 fn told_at(t: &Steps, place: usize, part: &[u8]) -> usize
-    requires { (place < placeCount) × (soundSteps t.now ≡ true) }
-    ensures { Plainly result (wholeSize (layoutAt (placeRowAt place).layout) part.now) }
+    requires { (place < place_count) × (sound_steps t.now ≡ true) }
+    ensures { Plainly result (whole_size (layout_at (place_row_at place).layout) part.now) }
 {
     let w = word_at(t, place);
     if w < 8 {
@@ -363,8 +363,8 @@ fn told_at(t: &Steps, place: usize, part: &[u8]) -> usize
 
 // The same, of any item.
 fn quick_at(t: &Steps, place: usize, part: &[u8]) -> usize
-    requires { (place < placeCount) × (soundSteps t.now ≡ true) }
-    ensures { Plainly result (wholeSize (layoutAt (placeRowAt place).layout) part.now) }
+    requires { (place < place_count) × (sound_steps t.now ≡ true) }
+    ensures { Plainly result (whole_size (layout_at (place_row_at place).layout) part.now) }
 {
     let n = told_at(t, place, part);
     if n != 0 {
@@ -385,8 +385,8 @@ fn quick_at(t: &Steps, place: usize, part: &[u8]) -> usize
 
 // How many octets the item of a profile at an FRN takes, which starts the part, where it is plainly legal; 0 tells nothing.
 pub fn quick_item(t: &Steps, profile: usize, frn: usize, part: &[u8]) -> usize
-    requires { soundSteps t.now ≡ true }
-    ensures { Plainly result (checkAt profile frn part.now) }
+    requires { sound_steps t.now ≡ true }
+    ensures { Plainly result (check_at profile frn part.now) }
 {
     if profile < PROFILES {
         if frn < FRNS {
@@ -399,8 +399,8 @@ pub fn quick_item(t: &Steps, profile: usize, frn: usize, part: &[u8]) -> usize
 // The same of an item as most are, for who checks one record at a time and has the table written out for it: `quick_item` has one caller, into whose
 // loop it is compiled.
 pub fn told_item(t: &Steps, profile: usize, frn: usize, part: &[u8]) -> usize
-    requires { soundSteps t.now ≡ true }
-    ensures { Plainly result (checkAt profile frn part.now) }
+    requires { sound_steps t.now ≡ true }
+    ensures { Plainly result (check_at profile frn part.now) }
 {
     if profile < PROFILES {
         if frn < FRNS {

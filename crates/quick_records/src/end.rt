@@ -1,9 +1,9 @@
 // Where a record ends: by its shape, by its items one after the other, or by the exact check.
 ghost use Rattle.std.specs.Prelude.{◌≡◌, true, ◌<◌, ◌+◌, length};
-ghost use Rattle.quick_items.specs.Item.{soundSteps};
+ghost use Rattle.quick_items.specs.Item.{sound_steps};
 ghost use Rattle.records.specs.Answers.{end_of};
-ghost use Rattle.quick_records.specs.Record.{soundTypes, end_at};
-ghost use Rattle.quick_records.specs.Shape.{soundSets};
+ghost use Rattle.quick_records.specs.Record.{sound_types, end_at};
+ghost use Rattle.quick_records.specs.Shape.{sound_sets};
 
 use super::lent::{Sets, Types};
 use super::record::quick_record;
@@ -21,7 +21,7 @@ pub fn record_end(
     part: &[u8],
     at: usize,
 ) -> RecordChecked
-    requires { (soundSteps steps.now ≡ true) × (soundTypes types.now ≡ true) × (soundSets sets.now ≡ true) × (at + length part.now < 65536) }
+    requires { (sound_steps steps.now ≡ true) × (sound_types types.now ≡ true) × (sound_sets sets.now ≡ true) × (at + length part.now < 65536) }
     ensures { end_of result ≡ end_at profile at part.now }
 {
     let m = shaped_record(steps, types, sets, profile, part);

@@ -1,7 +1,7 @@
 // The tables that are lent: message types and what they ask for, the octets of the first items, shapes.
 ghost use Rattle.std.specs.Prelude.{◌≡◌, true};
-ghost use Rattle.quick_records.specs.Record.{soundTypes};
-ghost use Rattle.quick_records.specs.Shape.{soundSets};
+ghost use Rattle.quick_records.specs.Record.{sound_types};
+ghost use Rattle.quick_records.specs.Shape.{sound_sets};
 
 use tables::PROFILES;
 
@@ -555,13 +555,13 @@ const SETS: Sets = [
 // ---- end of what is made
 
 pub fn type_table() -> Types
-    ensures { soundTypes result ≡ true }
+    ensures { sound_types result ≡ true }
 {
     TYPES
 }
 
 pub fn set_table() -> Sets
-    ensures { soundSets result ≡ true }
+    ensures { sound_sets result ≡ true }
 {
     SETS
 }

@@ -1,10 +1,10 @@
 // The record that is plainly legal: its set, what its message type asks for, its items.
 ghost use Rattle.std.specs.Prelude.{◌≡◌, true, ◌/◌, ◌≤◌, ◌<◌, ◌+◌, ◌-◌, ◌^◌, length};
-ghost use Rattle.quick_items.specs.Item.{Plainly, soundSteps};
-ghost use Rattle.sets.specs.Steps.{judgeSet};
-ghost use Rattle.quick_records.specs.Record.{hasFront, frontOctets, soundTypes, Content, Later, Passed, end_at};
-ghost use Rattle.quick_records.specs.Shape.{soundSets};
-ghost use Rattle.tables.specs.Tables.{profileCount};
+ghost use Rattle.quick_items.specs.Item.{Plainly, sound_steps};
+ghost use Rattle.sets.specs.Steps.{judge_set};
+ghost use Rattle.quick_records.specs.Record.{has_front, front_octets, sound_types, Content, Later, Passed, end_at};
+ghost use Rattle.quick_records.specs.Shape.{sound_sets};
+ghost use Rattle.tables.specs.Tables.{profile_count};
 
 use super::lent::{FIRST_PLACE, FIRST_WAY, KINDS, ROWS, Sets, Types, WAYS};
 use numbers::octet;
@@ -14,8 +14,8 @@ use tables::PROFILES;
 
 // Whether a record has what its message type asks for: true only where it does.
 fn is_content(types: &Types, sets: &Sets, profile: usize, items: ItemSet, kind: u8) -> bool
-    requires { (soundTypes types.now ≡ true) × (soundSets sets.now ≡ true) × (profile < profileCount) × (hasFront profile ≡ true) × (items.bits / 2 ^ 60 ≡ 7) }
-    ensures { Content result (judgeSet profile items.bits kind) }
+    requires { (sound_types types.now ≡ true) × (sound_sets sets.now ≡ true) × (profile < profile_count) × (has_front profile ≡ true) × (items.bits / 2 ^ 60 ≡ 7) }
+    ensures { Content result (judge_set profile items.bits kind) }
 {
     let number = octet(kind);
     if KINDS <= number {
@@ -35,7 +35,7 @@ fn is_content(types: &Types, sets: &Sets, profile: usize, items: ItemSet, kind: 
 
 // One more than the octets of the items of a set that has no FRN under 4.
 pub fn later_items(steps: &Steps, profile: usize, bits: u64, part: &[u8]) -> usize
-    requires { (soundSteps steps.now ≡ true) × (profile < profileCount) × (bits < 2 ^ 60) × (length part.now < 65536) }
+    requires { (sound_steps steps.now ≡ true) × (profile < profile_count) × (bits < 2 ^ 60) × (length part.now < 65536) }
     ensures { Later profile bits part.now result }
 {
     let mut left = bits;
@@ -61,7 +61,7 @@ fn quick_items(
     bits: u64,
     part: &[u8],
 ) -> usize
-    requires { (soundSteps steps.now ≡ true) × (soundTypes types.now ≡ true) × (profile < profileCount) × (hasFront profile ≡ true) × (front ≡ frontOctets profile) × (bits / 2 ^ 60 ≡ 7) × (length part.now < 65536) }
+    requires { (sound_steps steps.now ≡ true) × (sound_types types.now ≡ true) × (profile < profile_count) × (has_front profile ≡ true) × (front ≡ front_octets profile) × (bits / 2 ^ 60 ≡ 7) × (length part.now < 65536) }
     ensures { Passed profile bits part.now result }
 {
     let sum = octet(types[FIRST_WAY + profile * WAYS + ((bits >> 56) % 16) as usize]);
@@ -87,7 +87,7 @@ fn quick_items(
 
 // How many octets the record takes that starts a part of a block.
 pub fn quick_record(steps: &Steps, types: &Types, sets: &Sets, profile: usize, part: &[u8]) -> usize
-    requires { (soundSteps steps.now ≡ true) × (soundTypes types.now ≡ true) × (soundSets sets.now ≡ true) × (length part.now < 65536) }
+    requires { (sound_steps steps.now ≡ true) × (sound_types types.now ≡ true) × (sound_sets sets.now ≡ true) × (length part.now < 65536) }
     ensures { Plainly result (end_at profile 0 part.now) }
 {
     if PROFILES <= profile {

@@ -1,9 +1,9 @@
 // A record whose FSPEC is a known shape: its length and all rules of its items but a few are one row of a table. Most records of a recording have one.
 ghost use Rattle.std.specs.Prelude.{◌≡◌, true, ◌<◌, ◌≤◌, length};
-ghost use Rattle.quick_items.specs.Item.{Plainly, soundSteps};
-ghost use Rattle.quick_records.specs.Record.{soundTypes, end_at};
-ghost use Rattle.quick_records.specs.Shape.{shapeCount, lowNumber, soundShape, soundSets, Fronts, OfType};
-ghost use Rattle.tables.specs.Tables.{profileCount};
+ghost use Rattle.quick_items.specs.Item.{Plainly, sound_steps};
+ghost use Rattle.quick_records.specs.Record.{sound_types, end_at};
+ghost use Rattle.quick_records.specs.Shape.{shape_count, low_number, sound_shape, sound_sets, Fronts, OfType};
+ghost use Rattle.tables.specs.Tables.{profile_count};
 
 use super::lent::{FIRST_SHAPE, KINDS, SLOTS, Sets, Types};
 use super::record::later_items;
@@ -20,7 +20,7 @@ pub fn long(x: u64) -> usize
 // The first five octets as one number, the first one lowest.
 pub fn first_five(part: &[u8]) -> usize
     requires { 5 ≤ length part.now }
-    ensures { result ≡ lowNumber 5 part.now }
+    ensures { result ≡ low_number 5 part.now }
 {
     octet(part[0])
         + octet(part[1]) * 0x100
@@ -33,7 +33,7 @@ pub fn first_five(part: &[u8]) -> usize
 // FSPEC are left out; the factor was searched for: it gives no two shapes of 017 and 018 the same place, and six of 061's another's. Any place would do: the
 // shape is compared.
 pub fn slot_of(five: usize, profile: usize) -> usize
-    ensures { result < shapeCount }
+    ensures { result < shape_count }
 {
     let others = (five | 0xFE_FEFE_FEFE) % 0x100_0000_0000;
     let run = others ^ (others + 1);
@@ -67,7 +67,7 @@ fn front_size(shape: usize, word: usize, rule: usize, part: &[u8]) -> usize
 
 // Whether the row of a message type is among some, given by bits.
 fn is_listed(types: &Types, profile: usize, listed: usize, kind: u8) -> bool
-    requires { (soundTypes types.now ≡ true) × (profile < profileCount) }
+    requires { (sound_types types.now ≡ true) × (profile < profile_count) }
     ensures { OfType result profile listed kind }
 {
     let number = octet(kind);
@@ -90,7 +90,7 @@ fn by_shape(
     five: usize,
     part: &[u8],
 ) -> usize
-    requires { (soundSteps steps.now ≡ true) × (soundTypes types.now ≡ true) × (soundShape shape item rule left ≡ true) × (five ≡ lowNumber 5 part.now) × (5 ≤ length part.now) × (length part.now < 65536) }
+    requires { (sound_steps steps.now ≡ true) × (sound_types types.now ≡ true) × (sound_shape shape item rule left ≡ true) × (five ≡ low_number 5 part.now) × (5 ≤ length part.now) × (length part.now < 65536) }
     ensures { Plainly result (end_at profile 0 part.now) }
 {
     if shape / 0x1000_0000_0000_0000 != profile {
@@ -131,7 +131,7 @@ pub fn shaped_record(
     profile: usize,
     part: &[u8],
 ) -> usize
-    requires { (soundSteps steps.now ≡ true) × (soundTypes types.now ≡ true) × (soundSets sets.now ≡ true) × (length part.now < 65536) }
+    requires { (sound_steps steps.now ≡ true) × (sound_types types.now ≡ true) × (sound_sets sets.now ≡ true) × (length part.now < 65536) }
     ensures { Plainly result (end_at profile 0 part.now) }
 {
     if part.len() < 5 {

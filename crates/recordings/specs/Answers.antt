@@ -6,24 +6,24 @@ use Rattle.rules.specs.Entry.{Counts}
 use Rattle.blocks.specs.declared.check.FrontChecked.{FrontChecked}
 use Rattle.blocks.specs.declared.check.FrontChecked.TheVariants as frontChecked
 use Rattle.recordings.specs.declared.RecordingChecked.{RecordingChecked}
-use Rattle.recordings.specs.declared.RecordingChecked.TheVariants as recordingChecked
+use Rattle.recordings.specs.declared.RecordingChecked.TheVariants as recording_checked
 use Rattle.recordings.specs.declared.RecordingState.{RecordingState}
 use Rattle.recordings.specs.declared.RecordingState.TheVariants as recordingState
 use Rattle.recordings.specs.Feed.{SoFar}
 
-abbrev pub countsOf : RecordingChecked → Answer Counts
-countsOf (recordingChecked.Accepted b r) = ok (record { blocks = b; records = r })
-countsOf (recordingChecked.Refused n p) = refused n p
+abbrev pub counts_of : RecordingChecked → Answer Counts
+counts_of (recording_checked.Accepted b r) = ok (record { blocks = b; records = r })
+counts_of (recording_checked.Refused n p) = refused n p
 
 abbrev pub state_of : RecordingState → Answer SoFar
 state_of (recordingState.SoFar k b r) = ok (record { place = k; blocks = b; records = r })
 state_of (recordingState.Refused n p) = refused n p
 
 -- the number of a refusal and its place, 0 where there is none
-abbrev pub frontNumber : FrontChecked → ℕ
-frontNumber (frontChecked.Block l n) = 0
-frontNumber (frontChecked.Refused n p) = n
+abbrev pub front_number : FrontChecked → ℕ
+front_number (frontChecked.Block l n) = 0
+front_number (frontChecked.Refused n p) = n
 
-abbrev pub frontPlace : FrontChecked → ℕ
-frontPlace (frontChecked.Block l n) = 0
-frontPlace (frontChecked.Refused n p) = p
+abbrev pub front_place : FrontChecked → ℕ
+front_place (frontChecked.Block l n) = 0
+front_place (frontChecked.Refused n p) = p

@@ -5,7 +5,7 @@
 use Rattle.std.specs.Prelude.{ℕ, ◌+◌, ◌-◌, ◌^◌, min, max, List, leb, length}
 use Rattle.rules.specs.Answer.{Answer, ok, refused, ◌>>=◌, if◌then◌else◌}
 use Rattle.rules.specs.Catalogue.{categories}
-use Rattle.rules.specs.Entry.{Counts, checkRecording}
+use Rattle.rules.specs.Entry.{Counts, check_recording}
 use Rattle.blocks.specs.Read.{len_at}
 
 abbrev pub capped : ℕ → ℕ
@@ -29,7 +29,7 @@ placed k (refused n p) = refused n (capped (k + p))
 unfoldable pub fed : Answer SoFar → List ℕ → Answer SoFar
 fed s piece = do
   a ← s
-  k ← placed a.place (checkRecording categories piece)
+  k ← placed a.place (check_recording categories piece)
   ok (record {
     place = capped (a.place + length piece);
     blocks = capped (a.blocks + k.blocks);
@@ -42,5 +42,5 @@ finished s = do
   ok (record { blocks = a.blocks; records = a.records })
 
 -- how long the piece is that a block's head starts: LEN, but the head at least
-unfoldable pub blockLength : List ℕ → ℕ
-blockLength bs = if leb 3 (length bs) then max 3 (len_at bs) else 3
+unfoldable pub block_length : List ℕ → ℕ
+block_length bs = if leb 3 (length bs) then max 3 (len_at bs) else 3

@@ -1,12 +1,12 @@
 // A recording: blocks end to end, checked whole, or block by block as it is read (document 01, "What the reader and writer cover").
 ghost use Rattle.std.specs.Prelude.{◌≡◌, true, ◌+◌};
 ghost use Rattle.rules.specs.Catalogue.{categories};
-ghost use Rattle.rules.specs.Entry.{checkRecording};
-ghost use Rattle.quick_items.specs.Item.{soundSteps};
-ghost use Rattle.quick_records.specs.Record.{soundTypes};
-ghost use Rattle.quick_records.specs.Shape.{soundSets};
-ghost use Rattle.recordings.specs.Feed.{capped, started, fed, finished, blockLength};
-ghost use Rattle.recordings.specs.Answers.{countsOf, frontNumber, frontPlace, state_of};
+ghost use Rattle.rules.specs.Entry.{check_recording};
+ghost use Rattle.quick_items.specs.Item.{sound_steps};
+ghost use Rattle.quick_records.specs.Record.{sound_types};
+ghost use Rattle.quick_records.specs.Shape.{sound_sets};
+ghost use Rattle.recordings.specs.Feed.{capped, started, fed, finished, block_length};
+ghost use Rattle.recordings.specs.Answers.{counts_of, front_number, front_place, state_of};
 
 use blocks::FrontChecked;
 use numbers::octet;
@@ -21,7 +21,7 @@ pub enum RecordingChecked {
 }
 
 fn front_number(front: FrontChecked) -> u8
-    ensures { result ≡ frontNumber front }
+    ensures { result ≡ front_number front }
 {
     match front {
         FrontChecked::Block { len: _, records: _ } => 0,
@@ -30,7 +30,7 @@ fn front_number(front: FrontChecked) -> u8
 }
 
 fn front_place(front: FrontChecked) -> usize
-    ensures { result ≡ frontPlace front }
+    ensures { result ≡ front_place front }
 {
     match front {
         FrontChecked::Block { len: _, records: _ } => 0,
@@ -40,8 +40,8 @@ fn front_place(front: FrontChecked) -> usize
 
 // All of a recording, which may be empty. The tables are lent, so that its blocks share them.
 fn check_blocks(steps: &Steps, types: &Types, sets: &Sets, recording: &[u8]) -> RecordingChecked
-    requires { (soundSteps steps.now ≡ true) × (soundTypes types.now ≡ true) × (soundSets sets.now ≡ true) }
-    ensures { countsOf result ≡ checkRecording categories recording.now }
+    requires { (sound_steps steps.now ≡ true) × (sound_types types.now ≡ true) × (sound_sets sets.now ≡ true) }
+    ensures { counts_of result ≡ check_recording categories recording.now }
 {
     let mut rest = recording;
     let mut place: usize = 0;
@@ -67,7 +67,7 @@ fn check_blocks(steps: &Steps, types: &Types, sets: &Sets, recording: &[u8]) -> 
 }
 
 pub fn check_recording(recording: &[u8]) -> RecordingChecked
-    ensures { countsOf result ≡ checkRecording categories recording.now }
+    ensures { counts_of result ≡ check_recording categories recording.now }
 {
     let steps = quick_items::steps();
     let types = quick_records::type_table();
@@ -79,7 +79,7 @@ pub fn check_recording(recording: &[u8]) -> RecordingChecked
 
 // How long the piece is that a block's head starts: LEN, but the head at least.
 pub fn block_length(head: &[u8]) -> usize
-    ensures { result ≡ blockLength head.now }
+    ensures { result ≡ block_length head.now }
 {
     if head.len() < 3 {
         return 3;
@@ -159,7 +159,7 @@ impl RecordingState {
 
     // What the whole recording is, once all of it is fed.
     pub fn finish(self) -> RecordingChecked
-        ensures { countsOf result ≡ finished (state_of self) }
+        ensures { counts_of result ≡ finished (state_of self) }
     {
         match self {
             RecordingState::SoFar {

@@ -8,77 +8,77 @@ use native.Mathlib.Omega.{arith}
 use lib.ListN.{length, length-append, length-map}
 use Rattle.rules.specs.Answer.{ok, refused, ◌>>=◌}
 use Rattle.rules.specs.Chain.{flatten}
-use Rattle.rules.specs.Presence.{flags, present, readRows, writeRows}
-use Rattle.rules.specs.Record.{Record, places, judge, read_place, writePlace}
-use Rattle.rules.proofs.AnswerLaws.{bind-in, bind-out, later-in, later-out, Octets, Split}
-use Rattle.rules.proofs.PresenceLaws.{rows-forth}
-use Rattle.rules.proofs.RecordLaws.{place-laws}
-use Rattle.rules.proofs.EntryLaws.{itemOctets, Written, rows_written}
-use Rattle.sets.specs.Sets.{categoryAt, bits_of, within}
-use Rattle.sets.specs.Steps.{judgeSet}
-use Rattle.sets.proofs.ProfileLaws.{places-few, TypePlace}
-use Rattle.sets.proofs.SetLaws.{map-append}
-use Rattle.sets.proofs.JudgeLaws.{judge-law}
-use Rattle.sets.proofs.UsableLaws.{RowsUsable, rows-within, rows_few}
+use Rattle.rules.specs.Presence.{flags, present, read_rows, write_rows}
+use Rattle.rules.specs.Record.{Record, places, judge, read_place, write_place}
+use Rattle.rules.proofs.AnswerLaws.{bind_in, bind_out, later_in, later_out, Octets, Split}
+use Rattle.rules.proofs.PresenceLaws.{rows_forth}
+use Rattle.rules.proofs.RecordLaws.{place_laws}
+use Rattle.rules.proofs.EntryLaws.{item_octets, Written, rows_written}
+use Rattle.sets.specs.Sets.{category_at, bits_of, within}
+use Rattle.sets.specs.Steps.{judge_set}
+use Rattle.sets.proofs.ProfileLaws.{places_few, TypePlace}
+use Rattle.sets.proofs.SetLaws.{map_append}
+use Rattle.sets.proofs.JudgeLaws.{judge_law}
+use Rattle.sets.proofs.UsableLaws.{RowsUsable, rows_within, rows_few}
 use Rattle.records.specs.Walk.{Came, walk, start_at}
-use Rattle.records.proofs.CameLaws.{comes, comes-here, kind-law}
-use Rattle.records.proofs.RowLaws.{items-law}
+use Rattle.records.proofs.CameLaws.{comes, comes_here, kind_law}
+use Rattle.records.proofs.RowLaws.{items_law}
 
-map-flatten : {A B : Type 0} (f : A → B) (xs : List (List A)) → map f (flatten xs) ≡ flatten (map (map f) xs)
-map-flatten f [] = refl
-map-flatten f (x ∷ xs) = map-append f x (flatten xs) ∙ ap (λ l. map f x ++ l) (map-flatten f xs)
+map_flatten : {A B : Type 0} (f : A → B) (xs : List (List A)) → map f (flatten xs) ≡ flatten (map (map f) xs)
+map_flatten f [] = refl
+map_flatten f (x ∷ xs) = map_append f x (flatten xs) ∙ ap (λ l. map f x ++ l) (map_flatten f xs)
 
 -- what the walk over a record's items comes to, which start at a place; and their octets
-abbrev pub cameTo : ℕ → ℕ → Record → Came
-cameTo i at r = comes i 1 (places (categoryAt i)) (flatten r) (start_at at)
+abbrev pub came_to : ℕ → ℕ → Record → Came
+came_to i at r = comes i 1 (places (category_at i)) (flatten r) (start_at at)
 
-abbrev pub octetsIn : ℕ → Record → List ℕ
-octetsIn i r = itemOctets (places (categoryAt i)) (flatten r)
+abbrev pub octets_in : ℕ → Record → List ℕ
+octets_in i r = item_octets (places (category_at i)) (flatten r)
 
-module _ (i at : ℕ) (ts : List (List Bool)) (bs : List ℕ) (u : RowsUsable (categoryAt i).profile ts) (o : Octets bs) where
-  pub walk_refused : (n p : ℕ) → readRows read_place (categoryAt i).profile ts bs ≡ refused n p → walk i (flags 63 (bits_of (flatten ts))) 1 bs (start_at at) ≡ refused n (at + p)
-  walk_refused n p g = items-law i ts bs at u o ∙ bind-out _ (later-out at g)
+module _ (i at : ℕ) (ts : List (List Bool)) (bs : List ℕ) (u : RowsUsable (category_at i).profile ts) (o : Octets bs) where
+  pub walk_refused : (n p : ℕ) → read_rows read_place (category_at i).profile ts bs ≡ refused n p → walk i (flags 63 (bits_of (flatten ts))) 1 bs (start_at at) ≡ refused n (at + p)
+  walk_refused n p g = items_law i ts bs at u o ∙ bind_out _ (later_out at g)
 
-  module _ (r : Record) (rest : List ℕ) (g : readRows read_place (categoryAt i).profile ts bs ≡ ok (r, rest)) where
-    pub walk-came : walk i (flags 63 (bits_of (flatten ts))) 1 bs (start_at at) ≡ ok (cameTo i at r)
-    walk-came = items-law i ts bs at u o ∙ bind-in _ (later-in at g) refl
+  module _ (r : Record) (rest : List ℕ) (g : read_rows read_place (category_at i).profile ts bs ≡ ok (r, rest)) where
+    pub walk_came : walk i (flags 63 (bits_of (flatten ts))) 1 bs (start_at at) ≡ ok (came_to i at r)
+    walk_came = items_law i ts bs at u o ∙ bind_in _ (later_in at g) refl
 
     flagged : map (map present) r ≡ ts
-    flagged = (rows-forth place-laws (categoryAt i).profile ts r bs rest o g).1
+    flagged = (rows_forth place_laws (category_at i).profile ts r bs rest o g).1
 
-    pub rows-count : length r ≡ length ts
-    rows-count = sym (length-map r (map present)) ∙ ap length flagged
+    pub rows_count : length r ≡ length ts
+    rows_count = sym (length-map r (map present)) ∙ ap length flagged
 
-    flags-are : map present (flatten r) ≡ flatten ts
-    flags-are = map-flatten present r ∙ ap flatten flagged
+    flags_are : map present (flatten r) ≡ flatten ts
+    flags_are = map_flatten present r ∙ ap flatten flagged
 
-    pub stands : within (map present (flatten r)) (map present (places (categoryAt i))) ≡ true
-    stands = ap (λ l. within l (map present (places (categoryAt i)))) flags-are ∙ rows-within (categoryAt i).profile ts u
+    pub stands : within (map present (flatten r)) (map present (places (category_at i))) ≡ true
+    stands = ap (λ l. within l (map present (places (category_at i)))) flags_are ∙ rows_within (category_at i).profile ts u
 
     few : length (flatten r) ≤ 63
     few =
         let m : length (map present (flatten r)) ≡ length (flatten r) = length-map (flatten r) present in
-        let n : length (map present (flatten r)) ≡ length (flatten ts) = ap length flags-are in
-        omega (arith, rows_few (categoryAt i).profile ts u, places-few i)
+        let n : length (map present (flatten r)) ≡ length (flatten ts) = ap length flags_are in
+        omega (arith, rows_few (category_at i).profile ts u, places_few i)
 
     -- the items, as the writing rules have them
-    items-split : Split (writeRows writePlace (categoryAt i).profile) r bs rest
-    items-split = (rows-forth place-laws (categoryAt i).profile ts r bs rest o g).0
+    items_split : Split (write_rows write_place (category_at i).profile) r bs rest
+    items_split = (rows_forth place_laws (category_at i).profile ts r bs rest o g).0
 
-    written : Written (places (categoryAt i)) (flatten r)
-    written = (rows_written (categoryAt i).profile r items-split.out items-split.writes).1
+    written : Written (places (category_at i)) (flatten r)
+    written = (rows_written (category_at i).profile r items_split.out items_split.writes).1
 
-    pub items-long : length bs ≡ length (octetsIn i r) + length rest
-    items-long =
-        ap length items-split.joins
-        ∙ length-append items-split.out rest
-        ∙ ap (λ l. length l + length rest) (sym (rows_written (categoryAt i).profile r items-split.out items-split.writes).0)
+    pub items_long : length bs ≡ length (octets_in i r) + length rest
+    items_long =
+        ap length items_split.joins
+        ∙ length-append items_split.out rest
+        ∙ ap (λ l. length l + length rest) (sym (rows_written (category_at i).profile r items_split.out items_split.writes).0)
 
-    pub items-end : (cameTo i at r).here ≡ at + length (octetsIn i r)
-    items-end = comes-here i 1 (places (categoryAt i)) (flatten r) (start_at at)
+    pub items_end : (came_to i at r).here ≡ at + length (octets_in i r)
+    items_end = comes_here i 1 (places (category_at i)) (flatten r) (start_at at)
 
-    pub judged : (t : TypePlace i) → judge (categoryAt i) r ≡ (judgeSet i (bits_of (flatten ts)) (cameTo i at r).kind >>= (λ u. ok r))
+    pub judged : (t : TypePlace i) → judge (category_at i) r ≡ (judge_set i (bits_of (flatten ts)) (came_to i at r).kind >>= (λ u. ok r))
     judged t =
-        judge-law i r (cameTo i at r).kind t stands few
-        (λ v e. kind-law i t.index (places (categoryAt i)) (flatten r) (start_at at) _ v t.frn written t.spells t.place e)
-        ∙ ap (λ l. judgeSet i (bits_of l) (cameTo i at r).kind >>= (λ u. ok r)) flags-are
+        judge_law i r (came_to i at r).kind t stands few
+        (λ v e. kind_law i t.index (places (category_at i)) (flatten r) (start_at at) _ v t.frn written t.spells t.place e)
+        ∙ ap (λ l. judge_set i (bits_of l) (came_to i at r).kind >>= (λ u. ok r)) flags_are

@@ -9,15 +9,15 @@ use native.Mathlib.Omega.{arith}
 use lib.ListN.{length, get_or}
 use Rattle.rules.specs.Answer.{ok, refused, expect◌or◌}
 use Rattle.rules.specs.Chain.{flatten}
-use Rattle.rules.specs.Layout.{Layout, readItem}
-use Rattle.rules.specs.Presence.{placeAt}
+use Rattle.rules.specs.Layout.{Layout, read_item}
+use Rattle.rules.specs.Presence.{place_at}
 use Rattle.rules.specs.Record.{Place}
 use Rattle.rules.specs.Catalogue.{categories}
-use Rattle.rules.specs.Entry.{mapPlaces, profileAt}
-use Rattle.rules.proofs.AnswerLaws.{Only, only-bind, ok-inj, bind-elim, expect-elim, none-some}
-use Rattle.rules.proofs.Refusals.{Reads, item-read}
-use Rattle.items.specs.Answers.{size_of, checkAt}
-use Rattle.sets.proofs.ProfileLaws.{profile-at, places-few}
+use Rattle.rules.specs.Entry.{map_places, profile_at}
+use Rattle.rules.proofs.AnswerLaws.{Only, only_bind, ok_inj, bind_elim, expect_elim, none_some}
+use Rattle.rules.proofs.Refusals.{Reads, item_read_lem}
+use Rattle.items.specs.Answers.{size_of, check_at}
+use Rattle.sets.proofs.ProfileLaws.{profile_at_lem, places_few}
 
 -- ---- a refusal's place
 
@@ -27,46 +27,46 @@ AtStart n p = p ≡ 0
 starts : Reads AtStart
 starts = record { six = refl; seven = refl; eight = refl; nine = refl; ten = refl; eleven = refl }
 
-pub item-start : (l : Layout) (bs : List ℕ) (n p : ℕ) → readItem l bs ≡ refused n p → p ≡ 0
-item-start l bs n p e = subst (Only AtStart) e (item-read AtStart starts l bs)
+pub item_start : (l : Layout) (bs : List ℕ) (n p : ℕ) → read_item l bs ≡ refused n p → p ≡ 0
+item_start l bs n p e = subst (Only AtStart) e (item_read_lem AtStart starts l bs)
 
 -- ---- the item at an FRN
 
-expect-start : {A : Type 0} (x : Option A) (n : ℕ) → Only AtStart (expect x or n)
+expect_start : {A : Type 0} (x : Option A) (n : ℕ) → Only AtStart (expect x or n)
 unfolding expect◌or◌
-expect-start (some a) n = tt
-expect-start none n = refl
+expect_start (some a) n = tt
+expect_start none n = refl
 
-check-start : (i f : ℕ) (bs : List ℕ) (n p : ℕ) → checkAt i f bs ≡ refused n p → p ≡ 0
-unfolding checkAt size_of
-check-start i f bs n p e =
-    subst (Only AtStart) e (only-bind AtStart _ _ (expect-start _ 21) λ q. only-bind AtStart _ _ (item-read AtStart starts q.layout bs) λ x. tt)
+check_start : (i f : ℕ) (bs : List ℕ) (n p : ℕ) → check_at i f bs ≡ refused n p → p ≡ 0
+unfolding check_at size_of
+check_start i f bs n p e =
+    subst (Only AtStart) e (only_bind AtStart _ _ (expect_start _ 21) λ q. only_bind AtStart _ _ (item_read_lem AtStart starts q.layout bs) λ x. tt)
 
 -- a refusal lies within the octets that the item starts
-pub check-near : (i f : ℕ) (bs : List ℕ) (n p : ℕ) → checkAt i f bs ≡ refused n p → p ≤ length bs
-check-near i f bs n p h = omega (arith, check-start i f bs n p h)
+pub check_near : (i f : ℕ) (bs : List ℕ) (n p : ℕ) → check_at i f bs ≡ refused n p → p ≤ length bs
+check_near i f bs n p h = omega (arith, check_start i f bs n p h)
 
-pub check-within : (i f : ℕ) (bs : List ℕ) (n : ℕ) → checkAt i f bs ≡ ok n → n ≤ length bs
-unfolding checkAt size_of
-check-within i f bs n h =
-    bind-elim _ _ h λ p q h₁.
-    bind-elim _ _ h₁ λ x r h₂.
-    let e : length bs - length x.1 ≡ n = ok-inj h₂ in
+pub check_within : (i f : ℕ) (bs : List ℕ) (n : ℕ) → check_at i f bs ≡ ok n → n ≤ length bs
+unfolding check_at size_of
+check_within i f bs n h =
+    bind_elim _ _ h λ p q h₁.
+    bind_elim _ _ h₁ λ x r h₂.
+    let e : length bs - length x.1 ≡ n = ok_inj h₂ in
     omega arith
 
-pub some-within : {A : Type 0} (l : List (Option A)) (n : ℕ) (a : A) → get_or l n none ≡ some a → n < length l
-some-within [] n a h = none-some h
-some-within (x ∷ l) zero a h = omega arith
-some-within (x ∷ l) (suc n) a h = omega (arith, some-within l n a h)
+pub some_within : {A : Type 0} (l : List (Option A)) (n : ℕ) (a : A) → get_or l n none ≡ some a → n < length l
+some_within [] n a h = none_some h
+some_within (x ∷ l) zero a h = omega arith
+some_within (x ∷ l) (suc n) a h = omega (arith, some_within l n a h)
 
 -- a profile has no item at FRN 0, nor past FRN 35
-place-few : (ps : List (List (Option Place))) (f : ℕ) (p : Place) → length (flatten ps) ≤ mapPlaces → placeAt ps f ≡ some p → (1 ≤ f) × (f ≤ mapPlaces)
-place-few ps zero p l h = none-some h
-place-few ps (suc f) p l h = (omega arith, omega (arith, some-within (flatten ps) f p h))
+place_few : (ps : List (List (Option Place))) (f : ℕ) (p : Place) → length (flatten ps) ≤ map_places → place_at ps f ≡ some p → (1 ≤ f) × (f ≤ map_places)
+place_few ps zero p l h = none_some h
+place_few ps (suc f) p l h = (omega arith, omega (arith, some_within (flatten ps) f p h))
 
-pub check-few : (i f : ℕ) (bs : List ℕ) (n : ℕ) → checkAt i f bs ≡ ok n → (1 ≤ f) × (f ≤ mapPlaces)
-unfolding checkAt
-check-few i f bs n h =
-    bind-elim _ _ h λ p q h₁.
-    expect-elim _ _ q λ e.
-    place-few (profileAt categories i) f p (subst (λ ps. length (flatten ps) ≤ mapPlaces) (profile-at i) (places-few i)) e
+pub check_few : (i f : ℕ) (bs : List ℕ) (n : ℕ) → check_at i f bs ≡ ok n → (1 ≤ f) × (f ≤ map_places)
+unfolding check_at
+check_few i f bs n h =
+    bind_elim _ _ h λ p q h₁.
+    expect_elim _ _ q λ e.
+    place_few (profile_at categories i) f p (subst (λ ps. length (flatten ps) ≤ map_places) (profile_at_lem i) (places_few i)) e

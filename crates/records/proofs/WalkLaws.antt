@@ -14,16 +14,16 @@ use borrow.Author.Tests.{lt-leb}
 use lib.ListN.{length, take, drop, get_or, set, replicate, length-drop, length-set}
 use Rattle.rules.specs.Answer.{Answer, ok, refused, if◌then◌else◌}
 use Rattle.rules.specs.Presence.{flags}
-use Rattle.rules.proofs.AnswerLaws.{bind-in, bind-out, later-in, later-out, to_end}
-use Rattle.rules.specs.Entry.{mapPlaces}
+use Rattle.rules.proofs.AnswerLaws.{bind_in, bind_out, later_in, later_out, to_end}
+use Rattle.rules.specs.Entry.{map_places}
 use Rattle.items.specs.declared.ItemCheck.{ItemCheck}
 use Rattle.items.specs.declared.ItemCheck.TheVariants as item
-use Rattle.items.specs.Answers.{checkAt, checkedOf}
-use Rattle.sets.specs.Steps.{typeFrn}
-use Rattle.sets.proofs.FlagLaws.{First, first, first-from, first_rest, first-flags}
+use Rattle.items.specs.Answers.{check_at, checked_of}
+use Rattle.sets.specs.Steps.{type_frn}
+use Rattle.sets.proofs.FlagLaws.{First, first, first_from, first_rest, first_flags}
 use Rattle.records.specs.Walk.{Came, passed, walk, start_at}
-use Rattle.records.specs.Answers.{itemNumber, itemPlace}
-use Rattle.records.proofs.PlaceLaws.{check-within}
+use Rattle.records.specs.Answers.{item_number, item_place}
+use Rattle.records.proofs.PlaceLaws.{check_within}
 
 -- ---- FRNs that are not there
 
@@ -35,23 +35,23 @@ walk_none i (suc k) f bs w =
     rw (lt-leb (2 ^ k) 0 (pow_pos k), e) (walk_none i k (f + 1) bs w)
 
 -- the first of them, as many as stand above the others
-pub walk-skip : (i j m f left : ℕ) (bs : List ℕ) (w : Came) → left < 2 ^ m → walk i (flags (j + m) left) f bs w ≡ walk i (flags m left) (f + j) bs w
+pub walk_skip : (i j m f left : ℕ) (bs : List ℕ) (w : Came) → left < 2 ^ m → walk i (flags (j + m) left) f bs w ≡ walk i (flags m left) (f + j) bs w
 unfolding walk flags
-walk-skip i zero m f left bs w h = ap₂ (λ x y. walk i (flags x left) y bs w) (zero-add m) (sym (add-zero f))
-walk-skip i (suc j) m f left bs w h =
+walk_skip i zero m f left bs w h = ap₂ (λ x y. walk i (flags x left) y bs w) (zero-add m) (sym (add-zero f))
+walk_skip i (suc j) m f left bs w h =
     let k : left < 2 ^ (j + m) = (let p : 2 ^ m ≤ 2 ^ (j + m) = pow_mono (omega arith) in omega arith) in
     let e : suc j + m ≡ suc (j + m) = omega arith in
     let g : f + 1 + j ≡ f + suc j = omega arith in
     ap (λ x. walk i (flags x left) f bs w) e
-    ∙ rw (lt-leb (2 ^ (j + m)) left k, mod-eq_of_lt k) (walk-skip i j m (f + 1) left bs w h)
+    ∙ rw (lt-leb (2 ^ (j + m)) left k, mod-eq_of_lt k) (walk_skip i j m (f + 1) left bs w h)
     ∙ ap (λ x. walk i (flags m left) x bs w) g
 
 -- ---- the steps of the loop
 
 -- an item that is refused
-pub check-refused : (x : ItemCheck) (a : Answer ℕ) (n p number place : ℕ) → checkedOf x ≡ a → x ≡ item.Refused n p → number ≡ itemNumber x → place ≡ itemPlace x
+pub check_refused : (x : ItemCheck) (a : Answer ℕ) (n p number place : ℕ) → checked_of x ≡ a → x ≡ item.Refused n p → number ≡ item_number x → place ≡ item_place x
     → a ≡ refused number place
-check-refused x a n p number place h e m q = sym h ∙ ap checkedOf e ∙ ap₂ refused (sym (m ∙ ap itemNumber e)) (sym (q ∙ ap itemPlace e))
+check_refused x a n p number place h e m q = sym h ∙ ap checked_of e ∙ ap₂ refused (sym (m ∙ ap item_number e)) (sym (q ∙ ap item_place e))
 
 abbrev pub came : ℕ → ℕ → List ℕ → ℕ → Came
 came here count starts kind = record { here = here; count = count; starts = starts; kind = kind }
@@ -63,23 +63,23 @@ pub record Standing (i bits : ℕ) (part : List ℕ) (at left : ℕ) (rest : Lis
   pub few : from ≤ 64
   pub below : left < 2 ^ (64 - from)
   pub room : here + length rest < 2 ^ 63
-  pub full : length starts ≡ mapPlaces
+  pub full : length starts ≡ map_places
   pub same : walk i (flags (64 - from) left) from rest (came here count starts kind) ≡ walk i (flags 63 bits) 1 part (start_at at)
 
-pub stand-first : (i bits : ℕ) (part : List ℕ) (at : ℕ) → bits < 2 ^ 63 → at + length part < 2 ^ 63 → Standing i bits part at bits part at 0 (replicate mapPlaces 0) 0
-stand-first i bits part at h r = record { from = 1; low = omega arith; few = omega arith; below = h; room = r; full = refl; same = refl }
+pub stand_first : (i bits : ℕ) (part : List ℕ) (at : ℕ) → bits < 2 ^ 63 → at + length part < 2 ^ 63 → Standing i bits part at bits part at 0 (replicate map_places 0) 0
+stand_first i bits part at h r = record { from = 1; low = omega arith; few = omega arith; below = h; room = r; full = refl; same = refl }
 
 module _ (i bits : ℕ) (part : List ℕ) (at left : ℕ) (rest : List ℕ) (here count : ℕ) (starts : List ℕ) (kind : ℕ)
     (s : Standing i bits part at left rest here count starts kind) where
-  pub stand-end : left ≡ 0 → ok (came here count starts kind) ≡ walk i (flags 63 bits) 1 part (start_at at)
-  stand-end z =
+  pub stand_end : left ≡ 0 → ok (came here count starts kind) ≡ walk i (flags 63 bits) 1 part (start_at at)
+  stand_end z =
       sym (walk_none i (64 - s.from) s.from rest (came here count starts kind))
       ∙ ap (λ n. walk i (flags (64 - s.from) n) s.from rest (came here count starts kind)) (sym z) ∙ s.same
 
   module _ (some : left ≡ 0 → ⊥) where
     -- the next FRN
-    pub stand-next : First left (count_leading_zeros 64 left)
-    stand-next = first left some (let k : 64 - s.from ≤ 64 = omega arith in let p : 2 ^ (64 - s.from) ≤ 2 ^ 64 = pow_mono k in omega (arith, s.below))
+    pub stand_next : First left (count_leading_zeros 64 left)
+    stand_next = first left some (let k : 64 - s.from ≤ 64 = omega arith in let p : 2 ^ (64 - s.from) ≤ 2 ^ 64 = pow_mono k in omega (arith, s.below))
 
     abbrev others : ℕ
     others = left - 2 ^ (63 - count_leading_zeros 64 left)
@@ -87,31 +87,31 @@ module _ (i bits : ℕ) (part : List ℕ) (at left : ℕ) (rest : List ℕ) (her
     reached : walk i (true ∷ flags (63 - count_leading_zeros 64 left) others) (count_leading_zeros 64 left) rest (came here count starts kind) ≡ walk i (flags 63 bits) 1 part (start_at at)
     reached =
         let f : ℕ = count_leading_zeros 64 left in
-        let n = stand-next in
-        let j : s.from ≤ f = first-from left f n s.from s.below in
+        let n = stand_next in
+        let j : s.from ≤ f = first_from left f n s.from s.below in
         let e : f - s.from + (64 - f) ≡ 64 - s.from = omega (arith, n.few) in
         let g : s.from + (f - s.from) ≡ f = omega arith in
-        ap (λ ts. walk i ts f rest (came here count starts kind)) (sym (first-flags left f n))
+        ap (λ ts. walk i ts f rest (came here count starts kind)) (sym (first_flags left f n))
         ∙ ap (λ x. walk i (flags (64 - f) left) x rest (came here count starts kind)) (sym g)
-        ∙ sym (walk-skip i (f - s.from) (64 - f) s.from left rest (came here count starts kind) n.none_before)
+        ∙ sym (walk_skip i (f - s.from) (64 - f) s.from left rest (came here count starts kind) n.none_before)
         ∙ ap (λ x. walk i (flags x left) s.from rest (came here count starts kind)) e
         ∙ s.same
 
-    pub stand-stop : (n p : ℕ) → checkAt i (count_leading_zeros 64 left) rest ≡ refused n p → refused n (here + p) ≡ walk i (flags 63 bits) 1 part (start_at at)
+    pub stand_stop : (n p : ℕ) → check_at i (count_leading_zeros 64 left) rest ≡ refused n p → refused n (here + p) ≡ walk i (flags 63 bits) 1 part (start_at at)
     unfolding walk
-    stand-stop n p c = sym (bind-out _ (later-out here c)) ∙ reached
+    stand_stop n p c = sym (bind_out _ (later_out here c)) ∙ reached
 
-    pub stand-item : (n of next : ℕ) → checkAt i (count_leading_zeros 64 left) rest ≡ ok n → of ≡ typeFrn i
+    pub stand_item : (n of next : ℕ) → check_at i (count_leading_zeros 64 left) rest ≡ ok n → of ≡ type_frn i
         → next ≡ (if eqb (count_leading_zeros 64 left) of then get_or (take (n - 0) (drop 0 rest)) 0 0 else kind)
         → Standing i bits part at others (take (length rest - n) (drop n rest)) (here + n) (count + 1) (set starts (count_leading_zeros 64 left - 1) (here % 65_536)) next
     unfolding walk
-    stand-item n of next c o k =
+    stand_item n of next c o k =
         let f : ℕ = count_leading_zeros 64 left in
-        let t = stand-next in
-        let m : n ≤ length rest = check-within i f rest n c in
+        let t = stand_next in
+        let m : n ≤ length rest = check_within i f rest n c in
         let d : length (drop n rest) ≡ length rest - n = length-drop n rest in
         let e : 64 - (f + 1) ≡ 63 - f = omega arith in
-        let j : s.from ≤ f = first-from left f t s.from s.below in
+        let j : s.from ≤ f = first_from left f t s.from s.below in
         record {
           from = f + 1;
           low = omega (arith, s.low);
@@ -123,6 +123,6 @@ module _ (i bits : ℕ) (part : List ℕ) (at left : ℕ) (rest : List ℕ) (her
               ap (λ x. walk i (flags x others) (f + 1) (take (length rest - n) (drop n rest)) (came (here + n) (count + 1) (set starts (f - 1) (here % 65_536)) next)) e
               ∙ ap₂ (λ xs y. walk i (flags (63 - f) others) (f + 1) xs (came (here + n) (count + 1) (set starts (f - 1) (here % 65_536)) y)) (to_end rest n)
               (k ∙ ap₂ (λ a b. if eqb f a then get_or (take b rest) 0 0 else kind) o (sub-zero n))
-              ∙ sym (bind-in (λ n. walk i (flags (63 - f) others) (f + 1) (drop n rest) (passed i f n (take n rest) (came here count starts kind))) (later-in here c) refl)
+              ∙ sym (bind_in (λ n. walk i (flags (63 - f) others) (f + 1) (drop n rest) (passed i f n (take n rest) (came here count starts kind))) (later_in here c) refl)
               ∙ reached;
         }

@@ -3,10 +3,10 @@
 ghost use Rattle.std.specs.Prelude.{◌≡◌, true, ◌+◌, ◌^◌, ◌<◌, length, get_or, eqb};
 ghost use Rattle.rules.specs.Answer.{if◌then◌else◌};
 ghost use Rattle.rules.specs.Presence.{flags};
-ghost use Rattle.items.specs.Answers.{checkAt, checkedOf};
-ghost use Rattle.quick_items.specs.Item.{soundSteps};
+ghost use Rattle.items.specs.Answers.{check_at, checked_of};
+ghost use Rattle.quick_items.specs.Item.{sound_steps};
 ghost use Rattle.records.specs.Walk.{walk, start_at};
-ghost use Rattle.records.specs.Answers.{itemNumber, itemPlace, cameOf, absent, checkedNumber, checkedPlace, end_of, Walked, recordAt, newAt};
+ghost use Rattle.records.specs.Answers.{item_number, item_place, came_of, absent, checked_number, checked_place, end_of, Walked, record_at, new_at};
 
 use items::{ItemCheck, check_item};
 use quick_items::{Steps, told_item};
@@ -17,7 +17,7 @@ use sets::{
 
 // The number of a refusal, and its place; 0 where there is none.
 fn item_number(c: ItemCheck) -> u8
-    ensures { result ≡ itemNumber c }
+    ensures { result ≡ item_number c }
 {
     match c {
         ItemCheck::Whole(_) => 0,
@@ -26,7 +26,7 @@ fn item_number(c: ItemCheck) -> u8
 }
 
 fn item_place(c: ItemCheck) -> usize
-    ensures { result ≡ itemPlace c }
+    ensures { result ≡ item_place c }
 {
     match c {
         ItemCheck::Whole(_) => 0,
@@ -112,8 +112,8 @@ fn type_octet(of: usize, frn: usize, kind: u8, item: &[u8]) -> u8
 
 // The item at an FRN: at once where the table tells it, and else by the exact check.
 fn item_check(t: &Steps, profile: usize, frn: usize, part: &[u8]) -> ItemCheck
-    requires { soundSteps t.now ≡ true }
-    ensures { checkedOf result ≡ checkAt profile frn part.now }
+    requires { sound_steps t.now ≡ true }
+    ensures { checked_of result ≡ check_at profile frn part.now }
 {
     let n = told_item(t, profile, frn, part);
     if n != 0 {
@@ -124,8 +124,8 @@ fn item_check(t: &Steps, profile: usize, frn: usize, part: &[u8]) -> ItemCheck
 
 // The items of a set, one after the other: each takes the part that starts at its place and hands the remainder on.
 fn walk_items(t: &Steps, profile: usize, set: ItemSet, part: &[u8], at: usize) -> ItemsWalked
-    requires { (set.bits < 2 ^ 63) × (at + length part.now < 2 ^ 63) × (soundSteps t.now ≡ true) }
-    ensures { cameOf result ≡ walk profile (flags 63 set.bits) 1 part.now (start_at at) }
+    requires { (set.bits < 2 ^ 63) × (at + length part.now < 2 ^ 63) × (sound_steps t.now ≡ true) }
+    ensures { came_of result ≡ walk profile (flags 63 set.bits) 1 part.now (start_at at) }
 {
     let of = type_frn(profile);
     let mut left = set.bits;
@@ -169,7 +169,7 @@ fn refused(number: u8, place: usize) -> RecordWalked
 
 // The number of a refusal, and its place; 0 where there is none.
 pub fn checked_number(c: RecordChecked) -> u8
-    ensures { result ≡ checkedNumber c }
+    ensures { result ≡ checked_number c }
 {
     match c {
         RecordChecked::Ends { end: _ } => 0,
@@ -178,7 +178,7 @@ pub fn checked_number(c: RecordChecked) -> u8
 }
 
 pub fn checked_place(c: RecordChecked) -> usize
-    ensures { result ≡ checkedPlace c }
+    ensures { result ≡ checked_place c }
 {
     match c {
         RecordChecked::Ends { end: _ } => 0,
@@ -189,8 +189,8 @@ pub fn checked_place(c: RecordChecked) -> usize
 // The record at the start of a part, which stands at a place. LEN has two octets, so every part of a block meets the bound. The table is lent: who goes over
 // many records has it written out once.
 pub fn check_record(t: &Steps, profile: usize, part: &[u8], at: usize) -> RecordWalked
-    requires { (soundSteps t.now ≡ true) × (at + length part.now < 65536) }
-    ensures { Walked result (recordAt profile at part.now) }
+    requires { (sound_steps t.now ≡ true) × (at + length part.now < 65536) }
+    ensures { Walked result (record_at profile at part.now) }
 {
     let s = ItemSet::from_octets(profile, part);
     let SetRead::Items { set, octets } = s else {
@@ -218,8 +218,8 @@ pub fn check_record(t: &Steps, profile: usize, part: &[u8], at: usize) -> Record
 // The record that a set and its items, end to end, make: 7, 8; 9 to 11 of each item; 18; 12 to 15. It ends after its FSPEC and its items; a refusal's
 // place is counted from the items' start.
 pub fn check_new(t: &Steps, profile: usize, set: ItemSet, items: &[u8]) -> RecordChecked
-    requires { soundSteps t.now ≡ true }
-    ensures { end_of result ≡ newAt profile set.bits items.now }
+    requires { sound_steps t.now ≡ true }
+    ensures { end_of result ≡ new_at profile set.bits items.now }
 {
     let bits = set.bits;
     if bits == 0 {

@@ -7,12 +7,12 @@ use mathlib.Core.Bool.{Bool, true, false, ◌&&◌}
 use mathlib.Core.List.{List, ◌++◌}
 use lib.Dec.{T}
 use Rattle.rules.specs.Answer.{ok, Read}
-use Rattle.rules.proofs.AnswerLaws.{Octets, octets-right}
+use Rattle.rules.proofs.AnswerLaws.{Octets, octets_right}
 
 -- ---- tests
-pub and-inv : (a b : Bool) → T (a && b) → T a × T b
-and-inv true b h = (tt, h)
-and-inv false b h = absurd h
+pub and_inv : (a b : Bool) → T (a && b) → T a × T b
+and_inv true b h = (tt, h)
+and_inv false b h = absurd h
 
 pub and_in : (a b : Bool) → T a → T b → T (a && b)
 and_in true b p q = q
@@ -22,8 +22,8 @@ pub is_true : (b : Bool) → T b → b ≡ true
 is_true true h = refl
 is_true false h = absurd h
 
-pub true-is : (b : Bool) → b ≡ true → T b
-true-is b h = rw h tt
+pub true_is : (b : Bool) → b ≡ true → T b
+true_is b h = rw h tt
 
 pub decide : (b : Bool) → (b ≡ true) ⊎ (b ≡ false)
 decide true = inl refl
@@ -35,4 +35,4 @@ pub record Codec {A : Type 0} (Good : A → Type 0) (bytes : A → List ℕ) (r 
   pub forth : (a : A) (bs rest : List ℕ) → Octets bs → r bs ≡ ok (a, rest) → Good a × (bs ≡ bytes a ++ rest)
 
 pub after : (bs x rest : List ℕ) → bs ≡ x ++ rest → Octets bs → Octets rest
-after bs x rest e b = octets-right x rest (subst Octets e b)
+after bs x rest e b = octets_right x rest (subst Octets e b)

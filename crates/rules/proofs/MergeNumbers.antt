@@ -6,33 +6,33 @@ use mathlib.Core.Bool.{true, false}
 use mathlib.Core.Option.{none, some}
 use mathlib.Core.List.{List, [], ◌∷◌}
 use lib.IntN.{pos, negsuc}
-use Rattle.rules.specs.Answer.{◌>>=◌, need◌or◌then◌, if◌then◌else◌, expect◌or◌, later, octetsOf}
+use Rattle.rules.specs.Answer.{◌>>=◌, need◌or◌then◌, if◌then◌else◌, expect◌or◌, later, octets_of}
 use Rattle.rules.specs.Field.{put, get, pack, unpack}
-use Rattle.rules.specs.Chain.{octets, joined, readNum, writeNum, writeMany, readMany, writeChain, readChain}
-use Rattle.rules.specs.Format.{writeParts, read_parts, packAll, unpackAll, readPlain, writePlain}
-use Rattle.rules.specs.Layout.{readItem, writeItem}
-use Rattle.rules.specs.Presence.{flags, number, usable, house, numbers, flagRows, writePresence, readPresence, writeRow, writeRows, writePlaces, readRow, readRows, readPlaces}
-use Rattle.rules.specs.Record.{value_of, spelled, type_of, messageOf, judge, writePlace, read_place, writeRecord, readRecord}
-use Rattle.rules.specs.Block.{categoryOf, readUpTo, read_all, read_head, read_body, readBlock}
+use Rattle.rules.specs.Chain.{octets, joined, read_num, write_num, write_many, read_many, write_chain, read_chain}
+use Rattle.rules.specs.Format.{write_parts, read_parts, pack_all, unpack_all, read_plain, write_plain}
+use Rattle.rules.specs.Layout.{read_item, write_item}
+use Rattle.rules.specs.Presence.{flags, number, usable, house, numbers, flag_rows, write_presence, read_presence, write_row, write_rows, write_places, read_row, read_rows, read_places}
+use Rattle.rules.specs.Record.{value_of, spelled, type_of, message_of, judge, write_place, read_place, write_record, read_record}
+use Rattle.rules.specs.Block.{category_of, read_up_to, read_all, read_head, read_body, read_block}
 use Rattle.rules.specs.Catalogue.{categories}
-use Rattle.rules.specs.Block.{write_all, writeBlock}
-use Rattle.rules.specs.Recording.{readRecording}
-use Rattle.rules.specs.Merge.{modDay, gap, in_range, recordTime, logA, logB, first, Head, headsOf, blockHeads, accepted, logOf, fromPlace, finished, barred, goes, stay, stepFrom, withPlaces, step_of, mergeStep}
+use Rattle.rules.specs.Block.{write_all, write_block}
+use Rattle.rules.specs.Recording.{read_recording}
+use Rattle.rules.specs.Merge.{mod_day, gap, in_range, record_time, log_a, log_b, first, Head, heads_of, block_heads, accepted, log_of, from_place, finished, barred, goes, stay, step_from, with_places, step_of, merge_step}
 
 -- ---- times
 
 -- over midnight
 pub midnight : gap (pos 0) 11_059_199 0 ≡ 1
-unfolding gap modDay
+unfolding gap mod_day
 midnight = refl
 
 -- exactly half a day is A's, one unit more B's
-pub half-a-day : (first (pos 0) (some 0) (some 5_529_600) ≡ logA) × (first (pos 0) (some 0) (some 5_529_601) ≡ logB)
-unfolding first gap modDay
-half-a-day = (refl, refl)
+pub half_a_day : (first (pos 0) (some 0) (some 5_529_600) ≡ log_a) × (first (pos 0) (some 0) (some 5_529_601) ≡ log_b)
+unfolding first gap mod_day
+half_a_day = (refl, refl)
 
-pub offset-ends : (in_range (pos 46_080) ≡ true) × (in_range (negsuc 46_079) ≡ true) × (in_range (pos 46_081) ≡ false) × (in_range (negsuc 46_080) ≡ false)
-offset-ends = (refl, refl, refl, refl)
+pub offset_ends : (in_range (pos 46_080) ≡ true) × (in_range (negsuc 46_079) ≡ true) × (in_range (pos 46_081) ≡ false) × (in_range (negsuc 46_080) ≡ false)
+offset_ends = (refl, refl, refl, refl)
 
 -- ---- logs, every time in them 08:00:00
 
@@ -57,20 +57,20 @@ response = record { place = 3; size = 20; time = some 3_686_400 }
 abbrev extraction : Head
 extraction = record { place = 23; size = 19; time = none }
 
-pub log-017 : logOf categories tracks ≡ accepted (track ∷ []) 31
-unfolding ◌>>=◌ need◌or◌then◌ if◌then◌else◌ expect◌or◌ later octetsOf get unpack joined octets readNum writeNum writeMany readMany writeChain readChain writeParts read_parts put pack packAll unpackAll readPlain writePlain readItem writeItem flags number usable house numbers flagRows readPresence writePresence readRow readRows readPlaces writeRow writeRows writePlaces value_of spelled type_of messageOf judge read_place writePlace readRecord writeRecord readUpTo read_all categoryOf read_head read_body readBlock categories write_all writeBlock readRecording recordTime headsOf blockHeads logOf
-log-017 = refl
+pub log_017 : log_of categories tracks ≡ accepted (track ∷ []) 31
+unfolding ◌>>=◌ need◌or◌then◌ if◌then◌else◌ expect◌or◌ later octets_of get unpack joined octets read_num write_num write_many read_many write_chain read_chain write_parts read_parts put pack pack_all unpack_all read_plain write_plain read_item write_item flags number usable house numbers flag_rows read_presence write_presence read_row read_rows read_places write_row write_rows write_places value_of spelled type_of message_of judge read_place write_place read_record write_record read_up_to read_all category_of read_head read_body read_block categories write_all write_block read_recording record_time heads_of block_heads log_of
+log_017 = refl
 
-pub log-018 : logOf categories extractions ≡ accepted (response ∷ extraction ∷ []) 42
-unfolding ◌>>=◌ need◌or◌then◌ if◌then◌else◌ expect◌or◌ later octetsOf get unpack joined octets readNum writeNum writeMany readMany writeChain readChain writeParts read_parts put pack packAll unpackAll readPlain writePlain readItem writeItem flags number usable house numbers flagRows readPresence writePresence readRow readRows readPlaces writeRow writeRows writePlaces value_of spelled type_of messageOf judge read_place writePlace readRecord writeRecord readUpTo read_all categoryOf read_head read_body readBlock categories write_all writeBlock readRecording recordTime headsOf blockHeads logOf
-log-018 = refl
+pub log_018 : log_of categories extractions ≡ accepted (response ∷ extraction ∷ []) 42
+unfolding ◌>>=◌ need◌or◌then◌ if◌then◌else◌ expect◌or◌ later octets_of get unpack joined octets read_num write_num write_many read_many write_chain read_chain write_parts read_parts put pack pack_all unpack_all read_plain write_plain read_item write_item flags number usable house numbers flag_rows read_presence write_presence read_row read_rows read_places write_row write_rows write_places value_of spelled type_of message_of judge read_place write_place read_record write_record read_up_to read_all category_of read_head read_body read_block categories write_all write_block read_recording record_time heads_of block_heads log_of
+log_018 = refl
 
 -- equal times are A's; an offset of -1 turns them to B's; an untimed record goes before a timed one; at both ends; the offset before the place
-pub steps-from : (mergeStep categories tracks extractions 3 3 (pos 0) ≡ goes logA track 31 3)
-    × (mergeStep categories tracks extractions 3 3 (negsuc 0) ≡ goes logB response 3 23)
-    × (mergeStep categories tracks extractions 3 23 (pos 0) ≡ goes logB extraction 3 42)
-    × (mergeStep categories tracks extractions 31 42 (pos 0) ≡ stay finished 31 42)
-    × (mergeStep categories tracks extractions 0 3 (pos 0) ≡ stay (barred 23) 0 3)
-    × (mergeStep categories tracks extractions 0 3 (pos 46_081) ≡ stay (barred 22) 0 3)
-unfolding mergeStep step_of withPlaces fromPlace stepFrom first gap modDay if◌then◌else◌
-steps-from = rw (log-017, log-018) (refl, refl, refl, refl, refl, refl)
+pub steps_from : (merge_step categories tracks extractions 3 3 (pos 0) ≡ goes log_a track 31 3)
+    × (merge_step categories tracks extractions 3 3 (negsuc 0) ≡ goes log_b response 3 23)
+    × (merge_step categories tracks extractions 3 23 (pos 0) ≡ goes log_b extraction 3 42)
+    × (merge_step categories tracks extractions 31 42 (pos 0) ≡ stay finished 31 42)
+    × (merge_step categories tracks extractions 0 3 (pos 0) ≡ stay (barred 23) 0 3)
+    × (merge_step categories tracks extractions 0 3 (pos 46_081) ≡ stay (barred 22) 0 3)
+unfolding merge_step step_of with_places from_place step_from first gap mod_day if◌then◌else◌
+steps_from = rw (log_017, log_018) (refl, refl, refl, refl, refl, refl)

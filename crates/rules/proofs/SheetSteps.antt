@@ -15,96 +15,96 @@ use Rattle.rules.specs.declared.Edition.{Edition}
 use Rattle.rules.specs.declared.Mark.{Mark}
 use Rattle.rules.specs.declared.Shape.{Shape}
 use Rattle.rules.specs.declared.Shape.TheVariants.{Whole, InLog}
-use Rattle.rules.specs.Mark.{bytes4, marksBytes, totals, ofLog}
-use Rattle.rules.specs.SheetForm.{Form, markFields, totalFields}
-use Rattle.rules.specs.Sheet.{Sheet, offsetCode, fieldBytes, heldBytes, fieldsBytes, sheetBytes, readField, readEdition, readOffset, readList, readTotal, readHeld, readFields, readSheet}
-use Rattle.rules.proofs.AnswerLaws.{ok-inj, bind-elim, bind-same, need-elim, later-inv}
+use Rattle.rules.specs.Mark.{bytes4, marks_bytes, totals, of_log}
+use Rattle.rules.specs.SheetForm.{Form, mark_fields, total_fields}
+use Rattle.rules.specs.Sheet.{Sheet, offset_code, field_bytes, held_bytes, fields_bytes, sheet_bytes, read_field, read_edition, read_offset, read_list, read_total, read_held, read_fields, read_sheet}
+use Rattle.rules.proofs.AnswerLaws.{ok_inj, bind_elim, bind_same, need_elim, later_inv}
 
 -- ---- the steps
 
 -- tag 3; or tags 5 and 6, where the marks are split by log
-unfoldable pub marksFields : Bool → List Mark → List ℕ
-marksFields false ms = fieldBytes 3 (marksBytes Whole ms)
-marksFields true ms = fieldBytes 5 (marksBytes (InLog 0) (ofLog 0 ms)) ++ fieldBytes 6 (marksBytes (InLog 1) (ofLog 1 ms))
+unfoldable pub marks_fields : Bool → List Mark → List ℕ
+marks_fields false ms = field_bytes 3 (marks_bytes Whole ms)
+marks_fields true ms = field_bytes 5 (marks_bytes (InLog 0) (of_log 0 ms)) ++ field_bytes 6 (marks_bytes (InLog 1) (of_log 1 ms))
 
 -- tag 4, where there is one
-unfoldable pub totalsFields : Bool → List Mark → List ℕ
-totalsFields false ms = []
-totalsFields true ms = fieldBytes 4 (totals ms)
+unfoldable pub totals_fields : Bool → List Mark → List ℕ
+totals_fields false ms = []
+totals_fields true ms = field_bytes 4 (totals ms)
 
-unfoldable pub stepBytes : Sheet → List ℕ
-stepBytes s =
-    fieldBytes 1 (s.edition.byte ∷ [])
-    ++ (fieldBytes 2 (bytes4 (offsetCode s.offset))
-    ++ (marksFields s.edition.split s.marks ++ totalsFields s.edition.totals s.marks))
+unfoldable pub step_bytes : Sheet → List ℕ
+step_bytes s =
+    field_bytes 1 (s.edition.byte ∷ [])
+    ++ (field_bytes 2 (bytes4 (offset_code s.offset))
+    ++ (marks_fields s.edition.split s.marks ++ totals_fields s.edition.totals s.marks))
 
-unfoldable pub readMarks : Bool → ℕ → Read (List Mark)
-readMarks false limit bs = readList 3 Whole limit bs
-readMarks true limit bs = do
-  (as', bs₁) ← readList 5 (InLog 0) limit bs
-  (cs, bs₂) ← later (length bs - length bs₁) (readList 6 (InLog 1) (limit - length as') bs₁)
+unfoldable pub read_marks : Bool → ℕ → Read (List Mark)
+read_marks false limit bs = read_list 3 Whole limit bs
+read_marks true limit bs = do
+  (as', bs₁) ← read_list 5 (InLog 0) limit bs
+  (cs, bs₂) ← later (length bs - length bs₁) (read_list 6 (InLog 1) (limit - length as') bs₁)
   ok (as' ++ cs, bs₂)
 
-unfoldable pub readTotals : Bool → List Mark → Read Unit
-readTotals false ms bs = ok (tt, bs)
-readTotals true ms bs = readTotal 4 ms bs
+unfoldable pub read_totals : Bool → List Mark → Read Unit
+read_totals false ms bs = ok (tt, bs)
+read_totals true ms bs = read_total 4 ms bs
 
-unfoldable pub readSteps : Form → List ℕ → Answer Sheet
-readSteps f bs = do
-  (e, bs₁) ← readEdition f.editions bs
-  (o, bs₂) ← later (length bs - length bs₁) (readOffset bs₁)
-  (ms, bs₃) ← later (length bs - length bs₂) (readMarks e.split f.limit bs₂)
-  (u, bs₄) ← later (length bs - length bs₃) (readTotals e.totals ms bs₃)
+unfoldable pub read_steps : Form → List ℕ → Answer Sheet
+read_steps f bs = do
+  (e, bs₁) ← read_edition f.editions bs
+  (o, bs₂) ← later (length bs - length bs₁) (read_offset bs₁)
+  (ms, bs₃) ← later (length bs - length bs₂) (read_marks e.split f.limit bs₂)
+  (u, bs₄) ← later (length bs - length bs₃) (read_totals e.totals ms bs₃)
   later (length bs - length bs₄) (need eqb (length bs₄) 0 or 31 then ok (record { edition = e; offset = o; marks = ms }))
 
 -- ---- the bytes are the same
 
-fields-are : (t u : Bool) (ms : List Mark) → fieldsBytes (markFields t ++ totalFields u) ms ≡ marksFields t ms ++ totalsFields u ms
-unfolding fieldsBytes heldBytes marksFields totalsFields
-fields-are false false ms = refl
-fields-are false true ms = ap (λ y. fieldBytes 3 (marksBytes Whole ms) ++ y) (append-nil (fieldBytes 4 (totals ms)))
-fields-are true false ms = sym (append_assoc (fieldBytes 5 (marksBytes (InLog 0) (ofLog 0 ms))) (fieldBytes 6 (marksBytes (InLog 1) (ofLog 1 ms))) [])
-fields-are true true ms =
-    ap (λ y. fieldBytes 5 (marksBytes (InLog 0) (ofLog 0 ms)) ++ (fieldBytes 6 (marksBytes (InLog 1) (ofLog 1 ms)) ++ y)) (append-nil (fieldBytes 4 (totals ms)))
-    ∙ sym (append_assoc (fieldBytes 5 (marksBytes (InLog 0) (ofLog 0 ms))) (fieldBytes 6 (marksBytes (InLog 1) (ofLog 1 ms))) (fieldBytes 4 (totals ms)))
+fields_are : (t u : Bool) (ms : List Mark) → fields_bytes (mark_fields t ++ total_fields u) ms ≡ marks_fields t ms ++ totals_fields u ms
+unfolding fields_bytes held_bytes marks_fields totals_fields
+fields_are false false ms = refl
+fields_are false true ms = ap (λ y. field_bytes 3 (marks_bytes Whole ms) ++ y) (append-nil (field_bytes 4 (totals ms)))
+fields_are true false ms = sym (append_assoc (field_bytes 5 (marks_bytes (InLog 0) (of_log 0 ms))) (field_bytes 6 (marks_bytes (InLog 1) (of_log 1 ms))) [])
+fields_are true true ms =
+    ap (λ y. field_bytes 5 (marks_bytes (InLog 0) (of_log 0 ms)) ++ (field_bytes 6 (marks_bytes (InLog 1) (of_log 1 ms)) ++ y)) (append-nil (field_bytes 4 (totals ms)))
+    ∙ sym (append_assoc (field_bytes 5 (marks_bytes (InLog 0) (of_log 0 ms))) (field_bytes 6 (marks_bytes (InLog 1) (of_log 1 ms))) (field_bytes 4 (totals ms)))
 
-pub bytes-are : (s : Sheet) → sheetBytes s ≡ stepBytes s
-unfolding sheetBytes stepBytes
-bytes-are s = ap (λ y. fieldBytes 1 (s.edition.byte ∷ []) ++ (fieldBytes 2 (bytes4 (offsetCode s.offset)) ++ y)) (fields-are s.edition.split s.edition.totals s.marks)
+pub bytes_are : (s : Sheet) → sheet_bytes s ≡ step_bytes s
+unfolding sheet_bytes step_bytes
+bytes_are s = ap (λ y. field_bytes 1 (s.edition.byte ∷ []) ++ (field_bytes 2 (bytes4 (offset_code s.offset)) ++ y)) (fields_are s.edition.split s.edition.totals s.marks)
 
 -- ---- what is left is no more than was given
 
-field-leaves : (t : ℕ) (bs b rest : List ℕ) → readField t bs ≡ ok (b, rest) → length rest ≤ length bs
-unfolding readField
-field-leaves t bs b rest h =
-    bind-elim _ _ h λ n p q.
-    let e : drop (3 + n) bs ≡ rest = ap (λ x. x.1) (ok-inj q) in
+field_leaves : (t : ℕ) (bs b rest : List ℕ) → read_field t bs ≡ ok (b, rest) → length rest ≤ length bs
+unfolding read_field
+field_leaves t bs b rest h =
+    bind_elim _ _ h λ n p q.
+    let e : drop (3 + n) bs ≡ rest = ap (λ x. x.1) (ok_inj q) in
     omega (arith, length-drop (3 + n) bs, ap length e)
 
-edition-leaves : (es : List Edition) (bs : List ℕ) (e : Edition) (rest : List ℕ) → readEdition es bs ≡ ok (e, rest) → length rest ≤ length bs
-unfolding readEdition
-edition-leaves es bs e rest h =
-    bind-elim _ _ h λ x p h₁.
-    need-elim _ _ _ h₁ λ q h₂.
-    bind-elim _ _ h₂ λ k r h₃.
-    omega (arith, field-leaves 1 bs x.0 x.1 p, ap (λ y. length y.1) (ok-inj h₃))
+edition_leaves : (es : List Edition) (bs : List ℕ) (e : Edition) (rest : List ℕ) → read_edition es bs ≡ ok (e, rest) → length rest ≤ length bs
+unfolding read_edition
+edition_leaves es bs e rest h =
+    bind_elim _ _ h λ x p h₁.
+    need_elim _ _ _ h₁ λ q h₂.
+    bind_elim _ _ h₂ λ k r h₃.
+    omega (arith, field_leaves 1 bs x.0 x.1 p, ap (λ y. length y.1) (ok_inj h₃))
 
-offset-leaves : (bs rest : List ℕ) (o : ℤ) → readOffset bs ≡ ok (o, rest) → length rest ≤ length bs
-unfolding readOffset
-offset-leaves bs rest o h =
-    bind-elim _ _ h λ x p h₁.
-    need-elim _ _ _ h₁ λ q h₂.
-    need-elim _ _ _ h₂ λ r h₃.
-    omega (arith, field-leaves 2 bs x.0 x.1 p, ap (λ y. length y.1) (ok-inj h₃))
+offset_leaves : (bs rest : List ℕ) (o : ℤ) → read_offset bs ≡ ok (o, rest) → length rest ≤ length bs
+unfolding read_offset
+offset_leaves bs rest o h =
+    bind_elim _ _ h λ x p h₁.
+    need_elim _ _ _ h₁ λ q h₂.
+    need_elim _ _ _ h₂ λ r h₃.
+    omega (arith, field_leaves 2 bs x.0 x.1 p, ap (λ y. length y.1) (ok_inj h₃))
 
-list-leaves : (t : ℕ) (f : Shape) (limit : ℕ) (bs : List ℕ) (ms : List Mark) (rest : List ℕ) → readList t f limit bs ≡ ok (ms, rest) → length rest ≤ length bs
-unfolding readList
-list-leaves t f limit bs ms rest h =
-    bind-elim _ _ h λ x p h₁.
-    need-elim _ _ _ h₁ λ q h₂.
-    need-elim _ _ _ h₂ λ r h₃.
-    bind-elim _ _ h₃ λ us k h₄.
-    omega (arith, field-leaves t bs x.0 x.1 p, ap (λ y. length y.1) (ok-inj h₄))
+list_leaves : (t : ℕ) (f : Shape) (limit : ℕ) (bs : List ℕ) (ms : List Mark) (rest : List ℕ) → read_list t f limit bs ≡ ok (ms, rest) → length rest ≤ length bs
+unfolding read_list
+list_leaves t f limit bs ms rest h =
+    bind_elim _ _ h λ x p h₁.
+    need_elim _ _ _ h₁ λ q h₂.
+    need_elim _ _ _ h₂ λ r h₃.
+    bind_elim _ _ h₃ λ us k h₄.
+    omega (arith, field_leaves t bs x.0 x.1 p, ap (λ y. length y.1) (ok_inj h₄))
 
 -- ---- what is read is the same
 
@@ -124,51 +124,51 @@ ended ms y = ok (ms, y.1)
 module _ (have limit : ℕ) where
   -- the totals, and what follows
   abbrev Ends : Bool → Part → Answer Part
-  Ends u x = later (have - length x.1) (readTotals u x.0 x.1) >>= ended x.0
+  Ends u x = later (have - length x.1) (read_totals u x.0 x.1) >>= ended x.0
 
   abbrev rest : Bool → Part → Answer Part
-  rest u x = readFields have limit (totalFields u) x.0 x.1
+  rest u x = read_fields have limit (total_fields u) x.0 x.1
 
-  totals-read : (u : Bool) (x : Part) → rest u x ≡ Ends u x
-  unfolding readFields readHeld readTotals later ◌>>=◌
-  totals-read false x = refl
-  totals-read true x = go (readTotal 4 x.0 x.1)
+  totals_read : (u : Bool) (x : Part) → rest u x ≡ Ends u x
+  unfolding read_fields read_held read_totals later ◌>>=◌
+  totals_read false x = refl
+  totals_read true x = go (read_total 4 x.0 x.1)
     where
       go : (m : Answer (Unit {0} × List ℕ)) → (later (have - length x.1) (m >>= ended x.0) >>= kept) ≡ (later (have - length x.1) m >>= ended x.0)
       go (ok y) = refl
       go (refused n p) = refl
 
-  one_list : (u : Bool) (k : ℕ) (m : Answer Part) → (later k (m >>= kept) >>= rest u) ≡ (later k m >>= Ends u)
+  one_list_lem : (u : Bool) (k : ℕ) (m : Answer Part) → (later k (m >>= kept) >>= rest u) ≡ (later k m >>= Ends u)
   unfolding later ◌>>=◌
-  one_list u k (ok x) = totals-read u x
-  one_list u k (refused n p) = refl
+  one_list_lem u k (ok x) = totals_read u x
+  one_list_lem u k (refused n p) = refl
 
   -- the second list of two, after what was read
-  second-list : (u : Bool) (bs : List ℕ) (x : Part) (m : Answer Part) → length x.1 ≤ length bs → length bs ≤ have
+  second_list : (u : Bool) (bs : List ℕ) (x : Part) (m : Answer Part) → length x.1 ≤ length bs → length bs ≤ have
       → (later (have - length x.1) (m >>= joined x.0) >>= rest u) ≡ (later (have - length bs) (later (length bs - length x.1) m >>= joined x.0) >>= Ends u)
   unfolding later ◌>>=◌
-  second-list u bs x (ok y) l h = totals-read u (x.0 ++ y.0, y.1)
-  second-list u bs x (refused n p) l h = let e : have - length x.1 + p ≡ have - length bs + (length bs - length x.1 + p) = omega arith in ap (refused n) e
+  second_list u bs x (ok y) l h = totals_read u (x.0 ++ y.0, y.1)
+  second_list u bs x (refused n p) l h = let e : have - length x.1 + p ≡ have - length bs + (length bs - length x.1 + p) = omega arith in ap (refused n) e
 
-  abbrev log-1 : Part → Answer Part
-  log-1 x = readList 6 (InLog 1) (limit - length x.0) x.1
+  abbrev log_1 : Part → Answer Part
+  log_1 x = read_list 6 (InLog 1) (limit - length x.0) x.1
 
-  two-lists : (u : Bool) (bs : List ℕ) (m : Answer Part) → ((x : Part) → m ≡ ok x → length x.1 ≤ length bs) → length bs ≤ have
-      → (later (have - length bs) (m >>= kept) >>= (λ x. later (have - length x.1) (log-1 x >>= joined x.0) >>= rest u))
-      ≡ (later (have - length bs) (m >>= (λ x. later (length bs - length x.1) (log-1 x) >>= joined x.0)) >>= Ends u)
+  two_lists : (u : Bool) (bs : List ℕ) (m : Answer Part) → ((x : Part) → m ≡ ok x → length x.1 ≤ length bs) → length bs ≤ have
+      → (later (have - length bs) (m >>= kept) >>= (λ x. later (have - length x.1) (log_1 x >>= joined x.0) >>= rest u))
+      ≡ (later (have - length bs) (m >>= (λ x. later (length bs - length x.1) (log_1 x) >>= joined x.0)) >>= Ends u)
   unfolding later ◌>>=◌
-  two-lists u bs (ok x) l h = second-list u bs x (log-1 x) (l x refl) h
-  two-lists u bs (refused n p) l h = refl
+  two_lists u bs (ok x) l h = second_list u bs x (log_1 x) (l x refl) h
+  two_lists u bs (refused n p) l h = refl
 
-  marks-read : (t u : Bool) (bs : List ℕ) → length bs ≤ have → readFields have limit (markFields t ++ totalFields u) [] bs ≡ (later (have - length bs) (readMarks t limit bs) >>= Ends u)
-  unfolding readFields readHeld readMarks
-  marks-read false u bs h =
+  marks_read : (t u : Bool) (bs : List ℕ) → length bs ≤ have → read_fields have limit (mark_fields t ++ total_fields u) [] bs ≡ (later (have - length bs) (read_marks t limit bs) >>= Ends u)
+  unfolding read_fields read_held read_marks
+  marks_read false u bs h =
       let z : limit - 0 ≡ limit = omega arith in
-      ap (λ y. later (have - length bs) (readList 3 Whole y bs >>= kept) >>= rest u) z ∙ one_list u (have - length bs) (readList 3 Whole limit bs)
-  marks-read true u bs h =
+      ap (λ y. later (have - length bs) (read_list 3 Whole y bs >>= kept) >>= rest u) z ∙ one_list_lem u (have - length bs) (read_list 3 Whole limit bs)
+  marks_read true u bs h =
       let z : limit - 0 ≡ limit = omega arith in
-      ap (λ y. later (have - length bs) (readList 5 (InLog 0) y bs >>= kept) >>= (λ x. later (have - length x.1) (log-1 x >>= joined x.0) >>= rest u)) z
-      ∙ two-lists u bs (readList 5 (InLog 0) limit bs) (λ x e. list-leaves 5 (InLog 0) limit bs x.0 x.1 e) h
+      ap (λ y. later (have - length bs) (read_list 5 (InLog 0) y bs >>= kept) >>= (λ x. later (have - length x.1) (log_1 x >>= joined x.0) >>= rest u)) z
+      ∙ two_lists u bs (read_list 5 (InLog 0) limit bs) (λ x e. list_leaves 5 (InLog 0) limit bs x.0 x.1 e) h
 
 -- what follows the totals may follow each step
 third : (m : Answer (Unit {0} × List ℕ)) (ms : List Mark) (k : Part → Answer Sheet) → ((m >>= ended ms) >>= k) ≡ (m >>= (λ v. k (ms, v.1)))
@@ -182,12 +182,12 @@ unfolding ◌>>=◌
 second (ok x) t k = third (t x) x.0 k
 second (refused n p) t k = refl
 
-pub read_is : (f : Form) (bs : List ℕ) → readSheet f bs ≡ readSteps f bs
-unfolding readSheet readSteps
+pub read_is : (f : Form) (bs : List ℕ) → read_sheet f bs ≡ read_steps f bs
+unfolding read_sheet read_steps
 read_is f bs =
-    bind-same (readEdition f.editions bs) _ _ (λ x p.
-    bind-same (later (length bs - length x.1) (readOffset x.1)) _ _ (λ y q.
-    let l : length y.1 ≤ length bs = omega (arith, edition-leaves f.editions bs x.0 x.1 p, offset-leaves x.1 y.1 y.0 (later-inv _ _ q)) in
+    bind_same (read_edition f.editions bs) _ _ (λ x p.
+    bind_same (later (length bs - length x.1) (read_offset x.1)) _ _ (λ y q.
+    let l : length y.1 ≤ length bs = omega (arith, edition_leaves f.editions bs x.0 x.1 p, offset_leaves x.1 y.1 y.0 (later_inv _ _ q)) in
     let k : Part → Answer Sheet = λ z. later (length bs - length z.1) (need eqb (length z.1) 0 or 31 then ok (record { edition = x.0; offset = y.0; marks = z.0 })) in
-    ap (λ m. m >>= k) (marks-read (length bs) f.limit x.0.split x.0.totals y.1 l)
-    ∙ second (later (length bs - length y.1) (readMarks x.0.split f.limit y.1)) (λ z. later (length bs - length z.1) (readTotals x.0.totals z.0 z.1)) k))
+    ap (λ m. m >>= k) (marks_read (length bs) f.limit x.0.split x.0.totals y.1 l)
+    ∙ second (later (length bs - length y.1) (read_marks x.0.split f.limit y.1)) (λ z. later (length bs - length z.1) (read_totals x.0.totals z.0 z.1)) k))

@@ -5,7 +5,7 @@ use Rattle.std.proofs.Math.Option.{none}
 use Rattle.std.specs.Prelude.{[], ◌∷◌}
 use Rattle.rules.specs.Field.{spare, any, within, twos}
 use Rattle.rules.specs.Format.{Group, group, extended}
-use Rattle.rules.specs.Layout.{Layout, plain, compound, item, list, sub, subList}
+use Rattle.rules.specs.Layout.{Layout, plain, compound, item, list, sub, sub_list}
 use Rattle.rules.specs.Record.{Category, at, message}
 
 -- ---- 5.2, Description of Standard Data Items
@@ -62,15 +62,15 @@ i100 = list 1 255 1 (any 8 ∷ [])
 abbrev pub i130 : Layout
 i130 =
     compound
-    ((subList 2 (spare 1 ∷ any 15 ∷ [])  -- #1  track number: a spare bit, the number
-    ∷ subList 3 (any 24 ∷ [])  -- #2  aircraft address
-    ∷ subList 6 (any 6 ∷ any 6 ∷ any 6 ∷ any 6 ∷ any 6 ∷ any 6 ∷ any 6 ∷ any 6 ∷ [])  -- #3  aircraft identification: eight characters
-    ∷ subList 2 (any 1 ∷ any 1 ∷ any 1 ∷ any 1 ∷ any 12 ∷ [])  -- #4  code family: W1 to W4, Mode 3/A code
-    ∷ subList 4 (any 8 ∷ any 8 ∷ any 8 ∷ any 8 ∷ [])  -- #5  departure airport: four characters
-    ∷ subList 4 (any 8 ∷ any 8 ∷ any 8 ∷ any 8 ∷ [])  -- #6  destination airport: four characters
-    ∷ subList 4 (any 8 ∷ any 8 ∷ any 8 ∷ any 8 ∷ [])  -- #7  aircraft type: four characters
+    ((sub_list 2 (spare 1 ∷ any 15 ∷ [])  -- #1  track number: a spare bit, the number
+    ∷ sub_list 3 (any 24 ∷ [])  -- #2  aircraft address
+    ∷ sub_list 6 (any 6 ∷ any 6 ∷ any 6 ∷ any 6 ∷ any 6 ∷ any 6 ∷ any 6 ∷ any 6 ∷ [])  -- #3  aircraft identification: eight characters
+    ∷ sub_list 2 (any 1 ∷ any 1 ∷ any 1 ∷ any 1 ∷ any 12 ∷ [])  -- #4  code family: W1 to W4, Mode 3/A code
+    ∷ sub_list 4 (any 8 ∷ any 8 ∷ any 8 ∷ any 8 ∷ [])  -- #5  departure airport: four characters
+    ∷ sub_list 4 (any 8 ∷ any 8 ∷ any 8 ∷ any 8 ∷ [])  -- #6  destination airport: four characters
+    ∷ sub_list 4 (any 8 ∷ any 8 ∷ any 8 ∷ any 8 ∷ [])  -- #7  aircraft type: four characters
     ∷ [])
-    ∷ (subList 2 (any 8 ∷ any 8 ∷ [])  -- #8  current control position: centre, position
+    ∷ (sub_list 2 (any 8 ∷ any 8 ∷ [])  -- #8  current control position: centre, position
     -- #9  track/flight categories: SIM, CSR, PSR, SSR, MDS, ADS, VALT, FPC, CNF, SPI, a spare bit, GAT/OAT, IFR, VFR, CFR, RVSM, FRI/FOE, ME, MI, bits 7/1 spare
     ∷ sub 4
     (any 2 ∷ any 1 ∷ any 1 ∷ any 1 ∷ any 1 ∷ any 1 ∷ any 2 ∷ any 2 ∷ any 1 ∷ any 1 ∷ spare 1 ∷ any 2

@@ -13,46 +13,46 @@ joined [] = 0
 joined (b ∷ bs) = b * 256 ^ length bs + joined bs
 
 -- a number of k octets; `cut` is the refusal where they are not there
-unfoldable pub writeNum : ℕ → Write ℕ
-writeNum k n = need ltb n (256 ^ k) or 11 then ok (octets k n)
+unfoldable pub write_num : ℕ → Write ℕ
+write_num k n = need ltb n (256 ^ k) or 11 then ok (octets k n)
 
-unfoldable pub readNum : ℕ → ℕ → Read ℕ
-readNum cut k bs = need leb k (length bs) or cut then ok (joined (take k bs), drop k bs)
+unfoldable pub read_num : ℕ → ℕ → Read ℕ
+read_num cut k bs = need leb k (length bs) or cut then ok (joined (take k bs), drop k bs)
 
 -- parts of k octets, end to end
-unfoldable pub writeMany : ℕ → Write (List ℕ)
-writeMany k [] = ok []
-writeMany k (n ∷ ns) = do
-  b ← writeNum k n
-  bs ← writeMany k ns
+unfoldable pub write_many : ℕ → Write (List ℕ)
+write_many k [] = ok []
+write_many k (n ∷ ns) = do
+  b ← write_num k n
+  bs ← write_many k ns
   ok (b ++ bs)
 
-unfoldable pub readMany : ℕ → ℕ → Read (List ℕ)
-readMany k zero bs = ok ([], bs)
-readMany k (suc c) bs = do
-  (n, bs₁) ← readNum 9 k bs
-  (ns, bs₂) ← readMany k c bs₁
+unfoldable pub read_many : ℕ → ℕ → Read (List ℕ)
+read_many k zero bs = ok ([], bs)
+read_many k (suc c) bs = do
+  (n, bs₁) ← read_num 9 k bs
+  (ns, bs₂) ← read_many k c bs₁
   ok (n ∷ ns, bs₂)
 
 -- parts of the sizes given, the lowest bit of each (FX) saying whether another follows;
 -- `cut` is the refusal where one is not there, `past` where FX asks for more than may be
-unfoldable pub writeChain : List ℕ → Write (List ℕ)
-writeChain [] ns = refused 11 0
-writeChain (k ∷ ks) [] = refused 11 0
-writeChain (k ∷ ks) (n ∷ []) = writeNum k (n * 2)
-writeChain (k ∷ ks) (n ∷ (m ∷ ns)) = do
-  b ← writeNum k (n * 2 + 1)
-  bs ← writeChain ks (m ∷ ns)
+unfoldable pub write_chain : List ℕ → Write (List ℕ)
+write_chain [] ns = refused 11 0
+write_chain (k ∷ ks) [] = refused 11 0
+write_chain (k ∷ ks) (n ∷ []) = write_num k (n * 2)
+write_chain (k ∷ ks) (n ∷ (m ∷ ns)) = do
+  b ← write_num k (n * 2 + 1)
+  bs ← write_chain ks (m ∷ ns)
   ok (b ++ bs)
 
-unfoldable pub readChain : ℕ → ℕ → List ℕ → Read (List ℕ)
-readChain cut past [] bs = refused past 0
-readChain cut past (k ∷ ks) bs = do
-  (n, bs₁) ← readNum cut k bs
+unfoldable pub read_chain : ℕ → ℕ → List ℕ → Read (List ℕ)
+read_chain cut past [] bs = refused past 0
+read_chain cut past (k ∷ ks) bs = do
+  (n, bs₁) ← read_num cut k bs
   if eqb (n % 2) 0
       then ok (n / 2 ∷ [], bs₁)
       else do
-        (ns, bs₂) ← readChain cut past ks bs₁
+        (ns, bs₂) ← read_chain cut past ks bs₁
         ok (n / 2 ∷ ns, bs₂)
 
 -- lists end to end

@@ -4,29 +4,29 @@
 -- In order: times modulo a day; a record's time; which of two records goes first; the records of a log; a step; the run.
 use Rattle.std.specs.Prelude.{ℕ, zero, suc, ◌+◌, ◌-◌, ◌%◌, Bool, true, false, List, [], ◌∷◌, ◌++◌, leb, eqb, length, ℤ, pos, negsuc, ◌+ℤ◌, ◌-ℤ◌}
 use Rattle.std.proofs.Math.Option.{Option, none, some}
-use Rattle.rules.specs.Answer.{Answer, ok, refused, if◌then◌else◌, octetsOf}
-use Rattle.rules.specs.Layout.{Values, in_parts, inSubfields}
+use Rattle.rules.specs.Answer.{Answer, ok, refused, if◌then◌else◌, octets_of}
+use Rattle.rules.specs.Layout.{Values, in_parts, in_subfields}
 use Rattle.rules.specs.Presence.{has}
-use Rattle.rules.specs.Record.{Category, Record, items, value_of, type_of, writeRecord}
-use Rattle.rules.specs.Block.{Block, categoryOf, writeBlock}
-use Rattle.rules.specs.Recording.{readRecording}
+use Rattle.rules.specs.Record.{Category, Record, items, value_of, type_of, write_record}
+use Rattle.rules.specs.Block.{Block, category_of, write_block}
+use Rattle.rules.specs.Recording.{read_recording}
 
 -- ---- times of day, in units of 1/128 s
 
 abbrev pub day : ℕ
 day = 11_059_200
 
-abbrev pub halfDay : ℕ
-halfDay = 5_529_600
+abbrev pub half_day : ℕ
+half_day = 5_529_600
 
 -- what is left of a whole number modulo a day: 0 to 11,059,199. (negsuc n is -n - 1)
-unfoldable pub modDay : ℤ → ℕ
-modDay (pos n) = n % day
-modDay (negsuc n) = day - 1 - n % day
+unfoldable pub mod_day : ℤ → ℕ
+mod_day (pos n) = n % day
+mod_day (negsuc n) = day - 1 - n % day
 
 -- "B's time plus the offset, less A's time, modulo 11,059,200"
 unfoldable pub gap : ℤ → ℕ → ℕ → ℕ
-gap offset a b = modDay (pos b +ℤ offset -ℤ pos a)
+gap offset a b = mod_day (pos b +ℤ offset -ℤ pos a)
 
 -- "a clock offset for the second between −46,080 and 46,080 units of 1/128 s"
 abbrev pub in_range : ℤ → Bool
@@ -43,34 +43,34 @@ number_in (some (in_parts [])) = none
 number_in (some (in_parts ([] ∷ ps))) = none
 number_in (some (in_parts ((pos n ∷ vs) ∷ ps))) = some n
 number_in (some (in_parts ((negsuc n ∷ vs) ∷ ps))) = none
-number_in (some (inSubfields rs)) = none
+number_in (some (in_subfields rs)) = none
 
-abbrev pub isOneOf : Answer ℕ → List ℕ → Bool
-isOneOf (ok t) ts = has t ts
-isOneOf (refused n p) ts = false
+abbrev pub is_one_of : Answer ℕ → List ℕ → Bool
+is_one_of (ok t) ts = has t ts
+is_one_of (refused n p) ts = false
 
-unfoldable pub recordTime : Category → Record → Option ℕ
-recordTime c r = if isOneOf (type_of (value_of 0 (items c r))) c.untimed then none else number_in (value_of c.time (items c r))
+unfoldable pub record_time : Category → Record → Option ℕ
+record_time c r = if is_one_of (type_of (value_of 0 (items c r))) c.untimed then none else number_in (value_of c.time (items c r))
 
 -- ---- which of two records goes first
 
 pub data Log : Type 0 where
-  logA : Log
-  logB : Log
+  log_a : Log
+  log_b : Log
 
-abbrev pub logIf : Bool → Log
-logIf true = logA
-logIf false = logB
+abbrev pub log_if : Bool → Log
+log_if true = log_a
+log_if false = log_b
 
 abbrev pub choose : {X : Type 0} → Log → X → X → X
-choose logA x y = x
-choose logB x y = y
+choose log_a x y = x
+choose log_b x y = y
 
 -- "A record without a time goes out at once, A before B"; else "A goes first if .." the gap "is at most 5,529,600"
 unfoldable pub first : ℤ → Option ℕ → Option ℕ → Log
-first offset none b = logA
-first offset (some a) none = logB
-first offset (some a) (some b) = logIf (leb (gap offset a b) halfDay)
+first offset none b = log_a
+first offset (some a) none = log_b
+first offset (some a) (some b) = log_if (leb (gap offset a b) half_day)
 
 -- ---- the records of a log
 
@@ -81,31 +81,31 @@ pub record Head : Type 0 where
   pub time : Option ℕ
 
 -- records end to end, the first at a place
-unfoldable pub headsOf : Category → ℕ → List Record → List Head
-headsOf c k [] = []
-headsOf c k (r ∷ rs) =
-    record { place = k; size = length (octetsOf (writeRecord c r)); time = recordTime c r } ∷ headsOf c (k + length (octetsOf (writeRecord c r))) rs
+unfoldable pub heads_of : Category → ℕ → List Record → List Head
+heads_of c k [] = []
+heads_of c k (r ∷ rs) =
+    record { place = k; size = length (octets_of (write_record c r)); time = record_time c r } ∷ heads_of c (k + length (octets_of (write_record c r))) rs
 
-abbrev pub headsIn : Option Category → ℕ → List Record → List Head
-headsIn none k rs = []
-headsIn (some c) k rs = headsOf c k rs
+abbrev pub heads_in : Option Category → ℕ → List Record → List Head
+heads_in none k rs = []
+heads_in (some c) k rs = heads_of c k rs
 
 -- blocks end to end, the first at a place: a block's first record follows its three octets CAT and LEN
-unfoldable pub blockHeads : List Category → ℕ → List Block → List Head
-blockHeads cs b [] = []
-blockHeads cs b (k ∷ ks) = headsIn (categoryOf k.cat cs) (b + 3) k.records ++ blockHeads cs (b + length (octetsOf (writeBlock cs k))) ks
+unfoldable pub block_heads : List Category → ℕ → List Block → List Head
+block_heads cs b [] = []
+block_heads cs b (k ∷ ks) = heads_in (category_of k.cat cs) (b + 3) k.records ++ block_heads cs (b + length (octets_of (write_block cs k))) ks
 
 -- a log that was checked: its records and its length, or the refusal
 pub data Checked : Type 0 where
   accepted : List Head → ℕ → Checked
   unread : ℕ → ℕ → Checked
 
-abbrev pub checkedAs : List Category → ℕ → Answer (List Block) → Checked
-checkedAs cs end (ok ks) = accepted (blockHeads cs 0 ks) end
-checkedAs cs end (refused n p) = unread n p
+abbrev pub checked_as : List Category → ℕ → Answer (List Block) → Checked
+checked_as cs end (ok ks) = accepted (block_heads cs 0 ks) end
+checked_as cs end (refused n p) = unread n p
 
-unfoldable pub logOf : List Category → List ℕ → Checked
-logOf cs bs = checkedAs cs (length bs) (readRecording cs bs)
+unfoldable pub log_of : List Category → List ℕ → Checked
+log_of cs bs = checked_as cs (length bs) (read_recording cs bs)
 
 -- "the next record's start or the log's end", where these come next
 abbrev pub start_of : ℕ → List Head → ℕ
@@ -113,9 +113,9 @@ start_of end [] = end
 start_of end (h ∷ hs) = h.place
 
 -- the records from a place on; none where the place "is neither a record's start nor the log's end"
-unfoldable pub fromPlace : ℕ → ℕ → List Head → Option (List Head)
-fromPlace end p [] = if eqb p end then some [] else none
-fromPlace end p (h ∷ hs) = if eqb p h.place then some (h ∷ hs) else fromPlace end p hs
+unfoldable pub from_place : ℕ → ℕ → List Head → Option (List Head)
+from_place end p [] = if eqb p end then some [] else none
+from_place end p (h ∷ hs) = if eqb p h.place then some (h ∷ hs) else from_place end p hs
 
 -- ---- a step
 
@@ -123,7 +123,7 @@ fromPlace end p (h ∷ hs) = if eqb p h.place then some (h ∷ hs) else fromPlac
 pub data Told : Type 0 where
   next : Log → Told
   finished : Told
-  notAccepted : Log → ℕ → ℕ → Told
+  not_accepted : Log → ℕ → ℕ → Told
   barred : ℕ → Told
 
 -- a start and a length
@@ -137,61 +137,61 @@ span_of h = (h.place, h.size)
 pub record Step : Type 0 where
   pub told : Told
   pub span : Span
-  pub placeA : ℕ
-  pub placeB : ℕ
+  pub place_a : ℕ
+  pub place_b : ℕ
 
 abbrev pub goes : Log → Head → ℕ → ℕ → Step
-goes l h p q = record { told = next l; span = span_of h; placeA = p; placeB = q }
+goes l h p q = record { told = next l; span = span_of h; place_a = p; place_b = q }
 
 -- "these and finished hand back the empty part at log A's start and the places given"
 abbrev pub stay : Told → ℕ → ℕ → Step
-stay t p q = record { told = t; span = (0, 0); placeA = p; placeB = q }
+stay t p q = record { told = t; span = (0, 0); place_a = p; place_b = q }
 
 -- whose part it is
-abbrev pub partLog : Told → Log
-partLog (next l) = l
-partLog finished = logA
-partLog (notAccepted l r f) = logA
-partLog (barred r) = logA
+abbrev pub part_log : Told → Log
+part_log (next l) = l
+part_log finished = log_a
+part_log (not_accepted l r f) = log_a
+part_log (barred r) = log_a
 
 -- from the records that are left of each log, which end at m and n: "a finished log yields to the other"
-unfoldable pub stepFrom : ℤ → ℕ → ℕ → ℕ → ℕ → List Head → List Head → Step
-stepFrom offset m n p q [] [] = stay finished p q
-stepFrom offset m n p q (a ∷ xs) [] = goes logA a (start_of m xs) q
-stepFrom offset m n p q [] (b ∷ ys) = goes logB b p (start_of n ys)
-stepFrom offset m n p q (a ∷ xs) (b ∷ ys) = choose (first offset a.time b.time) (goes logA a (start_of m xs) q) (goes logB b p (start_of n ys))
+unfoldable pub step_from : ℤ → ℕ → ℕ → ℕ → ℕ → List Head → List Head → Step
+step_from offset m n p q [] [] = stay finished p q
+step_from offset m n p q (a ∷ xs) [] = goes log_a a (start_of m xs) q
+step_from offset m n p q [] (b ∷ ys) = goes log_b b p (start_of n ys)
+step_from offset m n p q (a ∷ xs) (b ∷ ys) = choose (first offset a.time b.time) (goes log_a a (start_of m xs) q) (goes log_b b p (start_of n ys))
 
 -- "23 a place, A's then B's"
-unfoldable pub withPlaces : ℤ → ℕ → ℕ → ℕ → ℕ → Option (List Head) → Option (List Head) → Step
-withPlaces offset m n p q none ys = stay (barred 23) p q
-withPlaces offset m n p q (some xs) none = stay (barred 23) p q
-withPlaces offset m n p q (some xs) (some ys) = stepFrom offset m n p q xs ys
+unfoldable pub with_places : ℤ → ℕ → ℕ → ℕ → ℕ → Option (List Head) → Option (List Head) → Step
+with_places offset m n p q none ys = stay (barred 23) p q
+with_places offset m n p q (some xs) none = stay (barred 23) p q
+with_places offset m n p q (some xs) (some ys) = step_from offset m n p q xs ys
 
 -- "Refusals in order: log A not accepted, log B (the log named), 22 an offset out of range, 23"
 unfoldable pub step_of : Checked → Checked → ℕ → ℕ → ℤ → Step
-step_of (unread r f) b p q offset = stay (notAccepted logA r f) p q
-step_of (accepted xs m) (unread r f) p q offset = stay (notAccepted logB r f) p q
+step_of (unread r f) b p q offset = stay (not_accepted log_a r f) p q
+step_of (accepted xs m) (unread r f) p q offset = stay (not_accepted log_b r f) p q
 step_of (accepted xs m) (accepted ys n) p q offset =
-    if in_range offset then withPlaces offset m n p q (fromPlace m p xs) (fromPlace n q ys) else stay (barred 22) p q
+    if in_range offset then with_places offset m n p q (from_place m p xs) (from_place n q ys) else stay (barred 22) p q
 
 -- THE RULE: "A step takes two recordings, a place in each, and a clock offset for the second"
-unfoldable pub mergeStep : List Category → List ℕ → List ℕ → ℕ → ℕ → ℤ → Step
-mergeStep cs as' bs p q offset = step_of (logOf cs as') (logOf cs bs) p q offset
+unfoldable pub merge_step : List Category → List ℕ → List ℕ → ℕ → ℕ → ℤ → Step
+merge_step cs as' bs p q offset = step_of (log_of cs as') (log_of cs bs) p q offset
 
 -- ---- the run
 
 -- nothing more, unless a record came out
-abbrev pub whenNext : Told → (Log → List (Log × Span)) → List (Log × Span)
-whenNext (next l) f = f l
-whenNext finished f = []
-whenNext (notAccepted l r p) f = []
-whenNext (barred r) f = []
+abbrev pub when_next : Told → (Log → List (Log × Span)) → List (Log × Span)
+when_next (next l) f = f l
+when_next finished f = []
+when_next (not_accepted l r p) f = []
+when_next (barred r) f = []
 
 -- the parts that steps hand out, one after another from the places given, at most so many
 unfoldable pub steps_of : Checked → Checked → ℤ → ℕ → ℕ → ℕ → List (Log × Span)
 steps_of a b offset zero p q = []
 steps_of a b offset (suc k) p q =
-    whenNext (step_of a b p q offset).told λ l. (l, (step_of a b p q offset).span) ∷ steps_of a b offset k (step_of a b p q offset).placeA (step_of a b p q offset).placeB
+    when_next (step_of a b p q offset).told λ l. (l, (step_of a b p q offset).span) ∷ steps_of a b offset k (step_of a b p q offset).place_a (step_of a b p q offset).place_b
 
 -- the first record's start, and how far the records can go
 abbrev pub opening : Checked → ℕ
@@ -207,5 +207,5 @@ unfoldable pub run_of : Checked → Checked → ℤ → List (Log × Span)
 run_of a b offset = steps_of a b offset (extent a + extent b) (opening a) (opening b)
 
 -- THE RUN, of two recordings
-unfoldable pub mergeRun : List Category → List ℕ → List ℕ → ℤ → List (Log × Span)
-mergeRun cs as' bs offset = run_of (logOf cs as') (logOf cs bs) offset
+unfoldable pub merge_run : List Category → List ℕ → List ℕ → ℤ → List (Log × Span)
+merge_run cs as' bs offset = run_of (log_of cs as') (log_of cs bs) offset

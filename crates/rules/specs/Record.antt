@@ -4,8 +4,8 @@ use Rattle.std.specs.Prelude.{ℕ, ◌+◌, ◌*◌, Bool, true, ◌&&◌, List,
 use Rattle.std.proofs.Math.Option.{Option, none, some}
 use Rattle.rules.specs.Answer.{Answer, ok, refused, ◌>>=◌, need◌or◌then◌, if◌then◌else◌, Read, Write}
 use Rattle.rules.specs.Chain.{flatten}
-use Rattle.rules.specs.Layout.{Layout, Values, in_parts, inSubfields, readItem, writeItem}
-use Rattle.rules.specs.Presence.{has, writePlaces, readPlaces}
+use Rattle.rules.specs.Layout.{Layout, Values, in_parts, in_subfields, read_item, write_item}
+use Rattle.rules.specs.Presence.{has, write_places, read_places}
 
 -- what the profile has at an FRN: the number after the slash of the item's reference, and its layout
 pub record Place : Type 0 where
@@ -65,9 +65,9 @@ value_of r [] = none
 value_of r ((s, v) ∷ is) = if eqb r s then some v else value_of r is
 
 -- every number of the first list is in the second
-abbrev pub allIn : List ℕ → List ℕ → Bool
-allIn [] ys = true
-allIn (x ∷ xs) ys = has x ys && allIn xs ys
+abbrev pub all_in : List ℕ → List ℕ → Bool
+all_in [] ys = true
+all_in (x ∷ xs) ys = has x ys && all_in xs ys
 
 -- ---- what the message type asks for
 
@@ -81,36 +81,36 @@ spelled t (negsuc n ∷ vs) = refused 13 0
 unfoldable pub type_of : Option Values → Answer ℕ
 type_of none = refused 12 0
 type_of (some (in_parts vs)) = spelled 0 (flatten vs)
-type_of (some (inSubfields rs)) = refused 13 0
+type_of (some (in_subfields rs)) = refused 13 0
 
-unfoldable pub messageOf : ℕ → List Message → Answer Message
-messageOf t [] = refused 13 0
-messageOf t (m ∷ ms) = if eqb t m.type then ok m else messageOf t ms
+unfoldable pub message_of : ℕ → List Message → Answer Message
+message_of t [] = refused 13 0
+message_of t (m ∷ ms) = if eqb t m.type then ok m else message_of t ms
 
 -- the record itself where its items are those that its message type asks for: 12, 13, 14, 15, at the record's start. It answers its argument so
 -- that it can stand as a line of a rule: writing goes on with what was judged, and reading answers it. What it lets through is `Legal.LegalRecord`
 unfoldable pub judge : Category → Record → Answer Record
 judge c r = do
   t ← type_of (value_of 0 (items c r))
-  m ← messageOf t c.messages
-  need allIn m.compulsory (references (items c r)) or 14 then
-      need allIn (references (items c r)) (m.compulsory ++ m.optional) or 15 then ok r
+  m ← message_of t c.messages
+  need all_in m.compulsory (references (items c r)) or 14 then
+      need all_in (references (items c r)) (m.compulsory ++ m.optional) or 15 then ok r
 
 -- THE WRITING RULE of a record
-unfoldable pub writePlace : Place → Write Values
-writePlace p = writeItem p.layout
+unfoldable pub write_place : Place → Write Values
+write_place p = write_item p.layout
 
-unfoldable pub writeRecord : Category → Write Record
-writeRecord c r = do
+unfoldable pub write_record : Category → Write Record
+write_record c r = do
   s ← judge c r
-  writePlaces writePlace c.profile s
+  write_places write_place c.profile s
 
 -- and the reading rule: the FSPEC (5, 6, 7, 8), the items (9, 10, 11), then what the message type asks for
 unfoldable pub read_place : Place → Read Values
-read_place p = readItem p.layout
+read_place p = read_item p.layout
 
-unfoldable pub readRecord : Category → Read Record
-readRecord c bs = do
-  (r, rest) ← readPlaces read_place 5 c.profile bs
+unfoldable pub read_record : Category → Read Record
+read_record c bs = do
+  (r, rest) ← read_places read_place 5 c.profile bs
   s ← judge c r
   ok (s, rest)

@@ -9,42 +9,42 @@ use Rattle.rules.specs.declared.Shape.TheVariants.{Whole, InLog}
 
 -- ---- a mark: its place in the log, four bytes; then a byte each its log, its station, any comment code, and zero
 
-abbrev pub lastLog : ℕ
-lastLog = 1
+abbrev pub last_log : ℕ
+last_log = 1
 
-abbrev pub lastStation : ℕ
-lastStation = 5
+abbrev pub last_station : ℕ
+last_station = 5
 
 -- ---- the fields
 
 -- every sheet starts with its edition, one byte, and the clock offset, four bytes two's complement
-abbrev pub editionTag : ℕ
-editionTag = 1
+abbrev pub edition_tag : ℕ
+edition_tag = 1
 
-abbrev pub offsetTag : ℕ
-offsetTag = 2
+abbrev pub offset_tag : ℕ
+offset_tag = 2
 
 -- what a field after these holds: a list of marks, each of a shape; or the totals of the stations
 pub data Holds : Type 0 where
-  theMarks : Shape → Holds
-  theTotals : Holds
+  the_marks : Shape → Holds
+  the_totals : Holds
 
 pub record Tagged : Type 0 where
   pub tag : ℕ
   pub holds : Holds
 
 -- the marks: in one list, or in one for each log
-abbrev pub markFields : Bool → List Tagged
-markFields false = record { tag = 3; holds = theMarks Whole } ∷ []
-markFields true = record { tag = 5; holds = theMarks (InLog 0) } ∷ record { tag = 6; holds = theMarks (InLog 1) } ∷ []
+abbrev pub mark_fields : Bool → List Tagged
+mark_fields false = record { tag = 3; holds = the_marks Whole } ∷ []
+mark_fields true = record { tag = 5; holds = the_marks (InLog 0) } ∷ record { tag = 6; holds = the_marks (InLog 1) } ∷ []
 
-abbrev pub totalFields : Bool → List Tagged
-totalFields false = []
-totalFields true = record { tag = 4; holds = theTotals } ∷ []
+abbrev pub total_fields : Bool → List Tagged
+total_fields false = []
+total_fields true = record { tag = 4; holds = the_totals } ∷ []
 
 -- the fields of an edition, in order
 abbrev pub fields : Edition → List Tagged
-fields e = markFields e.split ++ totalFields e.totals
+fields e = mark_fields e.split ++ total_fields e.totals
 
 -- ---- the form: how many marks a sheet may have; the least edition that is written, which a sheet of a lower one is written back as; the editions
 pub record Form : Type 0 where

@@ -18,27 +18,27 @@ use lib.Seq.{set-get_or}
 use Rattle.rules.specs.Presence.{flags, number}
 use Rattle.rules.specs.Entry.{over}
 use Rattle.rules.proofs.EntryLaws.{length_over}
-use Rattle.rules.proofs.PresenceLaws.{flags-length, number_lt, flags-number, number-flags}
+use Rattle.rules.proofs.PresenceLaws.{flags_length, number_lt, flags_number, number_flags}
 use Rattle.sets.specs.Sets.{bits_of, within}
 
 -- ---- flags end to end
 
-pub number-none : (n : ℕ) → number (replicate n false) ≡ 0
+pub number_none : (n : ℕ) → number (replicate n false) ≡ 0
 unfolding number
-number-none zero = refl
-number-none (suc n) = number-none n
+number_none zero = refl
+number_none (suc n) = number_none n
 
 -- the flags of a number are those of its higher bits, then those of its lower
-pub flags-split : (j k n : ℕ) → n < 2 ^ (j + k) → flags (j + k) n ≡ flags j (n / 2 ^ k) ++ flags k (n % 2 ^ k)
+pub flags_split : (j k n : ℕ) → n < 2 ^ (j + k) → flags (j + k) n ≡ flags j (n / 2 ^ k) ++ flags k (n % 2 ^ k)
 unfolding flags
-flags-split zero k n h = rw (zero-add k) (ap (flags k) (sym (mod-eq_of_lt (subst (λ m. n < 2 ^ m) (zero-add k) h))))
-flags-split (suc j) k n h =
+flags_split zero k n h = rw (zero-add k) (ap (flags k) (sym (mod-eq_of_lt (subst (λ m. n < 2 ^ m) (zero-add k) h))))
+flags_split (suc j) k n h =
     rw (suc-add j k)
-    (ap₂ ◌∷◌ (high-flag j k n)
-    (flags-split j k (n % 2 ^ (j + k)) (mod-lt n (pow_pos (j + k))) ∙ ap₂ (λ a b. flags j a ++ flags k b) (field n j k) (mod-mod-pow n j k)))
+    (ap₂ ◌∷◌ (high_flag j k n)
+    (flags_split j k (n % 2 ^ (j + k)) (mod-lt n (pow_pos (j + k))) ∙ ap₂ (λ a b. flags j a ++ flags k b) (field n j k) (mod-mod-pow n j k)))
   where
-    high-flag : (j k n : ℕ) → leb (2 ^ (j + k)) n ≡ leb (2 ^ j) (n / 2 ^ k)
-    high-flag j k n = go (leb (2 ^ (j + k)) n) refl
+    high_flag : (j k n : ℕ) → leb (2 ^ (j + k)) n ≡ leb (2 ^ j) (n / 2 ^ k)
+    high_flag j k n = go (leb (2 ^ (j + k)) n) refl
       where
         go : (t : Bool) → leb (2 ^ (j + k)) n ≡ t → t ≡ leb (2 ^ j) (n / 2 ^ k)
         go true e = sym (le-leb (2 ^ j) (n / 2 ^ k) ((le-div_iff_mul-le (pow_pos k)).1 (subst (λ m. m ≤ n) (pow-add 2 j k) (leb-true _ _ e))))
@@ -46,31 +46,31 @@ flags-split (suc j) k n h =
 
 -- ---- flags over none
 
-pub over-pad : {A : Type 0} (xs : List A) (n : ℕ) (d : A) → length xs ≤ n → over xs (replicate n d) ≡ xs ++ replicate (n - length xs) d
-over-pad [] n d h = ap (λ k. replicate k d) (sym (sub-zero n))
-over-pad (x ∷ xs) zero d h = absurd (omega arith)
-over-pad (x ∷ xs) (suc n) d h = ap (λ l. x ∷ l) (over-pad xs n d (omega arith) ∙ ap (λ k. xs ++ replicate k d) (sym (suc-sub-suc n (length xs))))
+pub over_pad : {A : Type 0} (xs : List A) (n : ℕ) (d : A) → length xs ≤ n → over xs (replicate n d) ≡ xs ++ replicate (n - length xs) d
+over_pad [] n d h = ap (λ k. replicate k d) (sym (sub-zero n))
+over_pad (x ∷ xs) zero d h = absurd (omega arith)
+over_pad (x ∷ xs) (suc n) d h = ap (λ l. x ∷ l) (over_pad xs n d (omega arith) ∙ ap (λ k. xs ++ replicate k d) (sym (suc-sub-suc n (length xs))))
 
 -- ---- a set of flags from FRN 1 on
 
-pub bits-flags : (ts : List Bool) → flags 64 (bits_of ts) ≡ over (false ∷ ts) (replicate 64 false)
+pub bits_flags : (ts : List Bool) → flags 64 (bits_of ts) ≡ over (false ∷ ts) (replicate 64 false)
 unfolding bits_of
-bits-flags ts =
+bits_flags ts =
     ap (λ k. flags k (number (over (false ∷ ts) (replicate 64 false)))) (sym (length_over (false ∷ ts) (replicate 64 false)))
-    ∙ flags-number (over (false ∷ ts) (replicate 64 false))
+    ∙ flags_number (over (false ∷ ts) (replicate 64 false))
 
-pub bits-tail : (ts : List Bool) → bits_of ts ≡ number (over ts (replicate 63 false))
+pub bits_tail : (ts : List Bool) → bits_of ts ≡ number (over ts (replicate 63 false))
 unfolding bits_of number
-bits-tail ts = refl
+bits_tail ts = refl
 
-pub bits-flags-tail : (ts : List Bool) → flags 63 (bits_of ts) ≡ over ts (replicate 63 false)
-bits-flags-tail ts =
-    ap (flags 63) (bits-tail ts)
+pub bits_flags_tail : (ts : List Bool) → flags 63 (bits_of ts) ≡ over ts (replicate 63 false)
+bits_flags_tail ts =
+    ap (flags 63) (bits_tail ts)
     ∙ ap (λ k. flags k (number (over ts (replicate 63 false)))) (sym (length_over ts (replicate 63 false)))
-    ∙ flags-number (over ts (replicate 63 false))
+    ∙ flags_number (over ts (replicate 63 false))
 
-pub bits-lt : (ts : List Bool) → bits_of ts < 2 ^ 63
-bits-lt ts = rw bits-tail (subst (λ k. number (over ts (replicate 63 false)) < 2 ^ k) (length_over ts (replicate 63 false)) (number_lt (over ts (replicate 63 false))))
+pub bits_lt : (ts : List Bool) → bits_of ts < 2 ^ 63
+bits_lt ts = rw bits_tail (subst (λ k. number (over ts (replicate 63 false)) < 2 ^ k) (length_over ts (replicate 63 false)) (number_lt (over ts (replicate 63 false))))
 
 -- ---- one set within another
 
@@ -79,31 +79,31 @@ within_none zero us = refl
 within_none (suc n) [] = within_none n []
 within_none (suc n) (u ∷ us) = within_none n us
 
-pub within-pad : (n : ℕ) (ts us : List Bool) → length ts ≤ n → length us ≤ n → within (over ts (replicate n false)) (over us (replicate n false)) ≡ within ts us
-within-pad zero [] [] h k = refl
-within-pad zero [] (u ∷ us) h k = absurd (omega arith)
-within-pad zero (t ∷ ts) us h k = absurd (omega arith)
-within-pad (suc n) [] [] h k = within_none n (replicate n false)
-within-pad (suc n) [] (u ∷ us) h k = within_none n (over us (replicate n false))
-within-pad (suc n) (false ∷ ts) [] h k = within-pad n ts [] (omega arith) (omega arith)
-within-pad (suc n) (true ∷ ts) [] h k = refl
-within-pad (suc n) (false ∷ ts) (u ∷ us) h k = within-pad n ts us (omega arith) (omega arith)
-within-pad (suc n) (true ∷ ts) (u ∷ us) h k = ap (λ b. u && b) (within-pad n ts us (omega arith) (omega arith))
+pub within_pad : (n : ℕ) (ts us : List Bool) → length ts ≤ n → length us ≤ n → within (over ts (replicate n false)) (over us (replicate n false)) ≡ within ts us
+within_pad zero [] [] h k = refl
+within_pad zero [] (u ∷ us) h k = absurd (omega arith)
+within_pad zero (t ∷ ts) us h k = absurd (omega arith)
+within_pad (suc n) [] [] h k = within_none n (replicate n false)
+within_pad (suc n) [] (u ∷ us) h k = within_none n (over us (replicate n false))
+within_pad (suc n) (false ∷ ts) [] h k = within_pad n ts [] (omega arith) (omega arith)
+within_pad (suc n) (true ∷ ts) [] h k = refl
+within_pad (suc n) (false ∷ ts) (u ∷ us) h k = within_pad n ts us (omega arith) (omega arith)
+within_pad (suc n) (true ∷ ts) (u ∷ us) h k = ap (λ b. u && b) (within_pad n ts us (omega arith) (omega arith))
 
 and_assoc : (a b c : Bool) → a && (b && c) ≡ (a && b) && c
 and_assoc true b c = refl
 and_assoc false b c = refl
 
-pub within-append : (ts us vs ws : List Bool) → length ts ≡ length us → within (ts ++ vs) (us ++ ws) ≡ within ts us && within vs ws
-within-append [] [] vs ws h = refl
-within-append [] (u ∷ us) vs ws h = absurd (omega arith)
-within-append (t ∷ ts) [] vs ws h = absurd (omega arith)
-within-append (false ∷ ts) (u ∷ us) vs ws h = within-append ts us vs ws (omega arith)
-within-append (true ∷ ts) (u ∷ us) vs ws h = ap (λ b. u && b) (within-append ts us vs ws (omega arith)) ∙ and_assoc u (within ts us) (within vs ws)
+pub within_append : (ts us vs ws : List Bool) → length ts ≡ length us → within (ts ++ vs) (us ++ ws) ≡ within ts us && within vs ws
+within_append [] [] vs ws h = refl
+within_append [] (u ∷ us) vs ws h = absurd (omega arith)
+within_append (t ∷ ts) [] vs ws h = absurd (omega arith)
+within_append (false ∷ ts) (u ∷ us) vs ws h = within_append ts us vs ws (omega arith)
+within_append (true ∷ ts) (u ∷ us) vs ws h = ap (λ b. u && b) (within_append ts us vs ws (omega arith)) ∙ and_assoc u (within ts us) (within vs ws)
 
 -- of two numbers: each flag of the first is one of the second exactly where their conjunction is the first
-eqb-add : (c x y : ℕ) → eqb (c + x) (c + y) ≡ eqb x y
-eqb-add c x y = go (eqb x y) refl
+eqb_add : (c x y : ℕ) → eqb (c + x) (c + y) ≡ eqb x y
+eqb_add c x y = go (eqb x y) refl
   where
     go : (t : Bool) → eqb x y ≡ t → eqb (c + x) (c + y) ≡ t
     go true e = eq-eqb (c + x) (c + y) (ap (λ n. c + n) (eqb-true x y e))
@@ -114,8 +114,8 @@ high_one k n l u =
     let r : n - 2 ^ k < 2 ^ k = omega (arith, pow-suc 2 k) in
     rw (mod-eq-sub-mod l, mod-eq_of_lt r) (omega arith)
 
-low-none : (k n : ℕ) → n < 2 ^ k → n ≡ 0 * 2 ^ k + n % 2 ^ k
-low-none k n l = rw (mod-eq_of_lt l) (omega arith)
+low_none : (k n : ℕ) → n < 2 ^ k → n ≡ 0 * 2 ^ k + n % 2 ^ k
+low_none k n l = rw (mod-eq_of_lt l) (omega arith)
 
 and_one : (k a b : ℕ) → 2 ^ k ≤ a → a < 2 ^ suc k → 2 ^ k ≤ b → b < 2 ^ suc k → bit_and a b ≡ 2 ^ k + bit_and (a % 2 ^ k) (b % 2 ^ k)
 and_one k a b p q r s =
@@ -125,24 +125,24 @@ and_one k a b p q r s =
 
 and_low : (k a b : ℕ) → a < 2 ^ k → bit_and a b ≡ bit_and (a % 2 ^ k) (b % 2 ^ k)
 and_low k a b p =
-    ap₂ bit_and (low-none k a p) (sym (split b k))
+    ap₂ bit_and (low_none k a p) (sym (split b k))
     ∙ and_block k 0 (b / 2 ^ k) (a % 2 ^ k) (b % 2 ^ k) (mod-lt a (pow_pos k)) (mod-lt b (pow_pos k))
     ∙ ap (λ n. n * 2 ^ k + bit_and (a % 2 ^ k) (b % 2 ^ k)) (and_zero_l (b / 2 ^ k))
     ∙ (let e : 0 * 2 ^ k + bit_and (a % 2 ^ k) (b % 2 ^ k) ≡ bit_and (a % 2 ^ k) (b % 2 ^ k) = omega arith in e)
 
-pub and-within : (k a b : ℕ) → a < 2 ^ k → b < 2 ^ k → eqb (bit_and a b) a ≡ within (flags k a) (flags k b)
+pub and_within : (k a b : ℕ) → a < 2 ^ k → b < 2 ^ k → eqb (bit_and a b) a ≡ within (flags k a) (flags k b)
 unfolding flags
-and-within zero a b h j =
+and_within zero a b h j =
     let z : a ≡ 0 = omega arith in
     eq-eqb (bit_and a b) a (ap (λ n. bit_and n b) z ∙ and_zero_l b ∙ sym z)
-and-within (suc k) a b h j = go (leb (2 ^ k) a) (leb (2 ^ k) b) refl refl (and-within k (a % 2 ^ k) (b % 2 ^ k) (mod-lt a (pow_pos k)) (mod-lt b (pow_pos k)))
+and_within (suc k) a b h j = go (leb (2 ^ k) a) (leb (2 ^ k) b) refl refl (and_within k (a % 2 ^ k) (b % 2 ^ k) (mod-lt a (pow_pos k)) (mod-lt b (pow_pos k)))
   where
     go : (s t : Bool) → leb (2 ^ k) a ≡ s → leb (2 ^ k) b ≡ t
         → eqb (bit_and (a % 2 ^ k) (b % 2 ^ k)) (a % 2 ^ k) ≡ within (flags k (a % 2 ^ k)) (flags k (b % 2 ^ k))
         → eqb (bit_and a b) a ≡ within (s ∷ flags k (a % 2 ^ k)) (t ∷ flags k (b % 2 ^ k))
     go true true p q ih =
         ap₂ eqb (and_one k a b (leb-true _ _ p) h (leb-true _ _ q) j) (high_one k a (leb-true _ _ p) h ∙ (let e : 1 * 2 ^ k + a % 2 ^ k ≡ 2 ^ k + a % 2 ^ k = omega arith in e))
-        ∙ eqb-add (2 ^ k) (bit_and (a % 2 ^ k) (b % 2 ^ k)) (a % 2 ^ k)
+        ∙ eqb_add (2 ^ k) (bit_and (a % 2 ^ k) (b % 2 ^ k)) (a % 2 ^ k)
         ∙ ih
     go true false p q ih =
         ne_eqb (bit_and a b) a (λ (e : bit_and a b ≡ a). absurd (omega (arith, and_le_r a b, leb-true (2 ^ k) a p, leb-false (2 ^ k) b q)))
@@ -150,8 +150,8 @@ and-within (suc k) a b h j = go (leb (2 ^ k) a) (leb (2 ^ k) b) refl refl (and-w
 
 -- ---- one flag of a number
 
-first-flag : (k n : ℕ) → n < 2 ^ suc k → leb (2 ^ k) n ≡ eqb (n / 2 ^ k % 2) 1
-first-flag k n h = go (leb (2 ^ k) n) refl
+first_flag : (k n : ℕ) → n < 2 ^ suc k → leb (2 ^ k) n ≡ eqb (n / 2 ^ k % 2) 1
+first_flag k n h = go (leb (2 ^ k) n) refl
   where
     go : (t : Bool) → leb (2 ^ k) n ≡ t → t ≡ eqb (n / 2 ^ k % 2) 1
     go true e =
@@ -171,79 +171,79 @@ lower n j k h =
 pub flag_at : (k n f : ℕ) → n < 2 ^ k → f < k → get_or (flags k n) f false ≡ eqb (n / 2 ^ (k - suc f) % 2) 1
 unfolding flags
 flag_at zero n f h l = absurd (omega arith)
-flag_at (suc k) n zero h l = first-flag k n h ∙ ap (λ j. eqb (n / 2 ^ j % 2) 1) (sym (suc-sub-suc k 0 ∙ sub-zero k))
+flag_at (suc k) n zero h l = first_flag k n h ∙ ap (λ j. eqb (n / 2 ^ j % 2) 1) (sym (suc-sub-suc k 0 ∙ sub-zero k))
 flag_at (suc k) n (suc f) h l =
     flag_at k (n % 2 ^ k) f (mod-lt n (pow_pos k)) (omega arith)
     ∙ ap (λ m. eqb m 1) (lower n (k - suc f) k (omega arith))
     ∙ ap (λ j. eqb (n / 2 ^ j % 2) 1) (sym (suc-sub-suc k (suc f)))
 
 -- of a set of FRNs
-pub has-bit : (bits f : ℕ) → bits < 2 ^ 64 → f < 64 → get_or (flags 64 bits) f false ≡ eqb (bits / 2 ^ (63 - f) % 2) 1
-has-bit bits f h l = let e : 64 - suc f ≡ 63 - f = omega arith in flag_at 64 bits f h l ∙ ap (λ j. eqb (bits / 2 ^ j % 2) 1) e
+pub has_bit : (bits f : ℕ) → bits < 2 ^ 64 → f < 64 → get_or (flags 64 bits) f false ≡ eqb (bits / 2 ^ (63 - f) % 2) 1
+has_bit bits f h l = let e : 64 - suc f ≡ 63 - f = omega arith in flag_at 64 bits f h l ∙ ap (λ j. eqb (bits / 2 ^ j % 2) 1) e
 
-pub flag-past : (k n f : ℕ) → k ≤ f → get_or (flags k n) f false ≡ false
+pub flag_past : (k n f : ℕ) → k ≤ f → get_or (flags k n) f false ≡ false
 unfolding flags
-flag-past zero n f h = refl
-flag-past (suc k) n zero h = absurd (omega arith)
-flag-past (suc k) n (suc f) h = flag-past k (n % 2 ^ k) f (omega arith)
+flag_past zero n f h = refl
+flag_past (suc k) n zero h = absurd (omega arith)
+flag_past (suc k) n (suc f) h = flag_past k (n % 2 ^ k) f (omega arith)
 
 -- one flag more
-number-set : (ts : List Bool) (f : ℕ) → f < length ts → get_or ts f false ≡ false → number (set ts f true) ≡ number ts + 2 ^ (length ts - suc f)
+number_set : (ts : List Bool) (f : ℕ) → f < length ts → get_or ts f false ≡ false → number (set ts f true) ≡ number ts + 2 ^ (length ts - suc f)
 unfolding number
-number-set [] f l h = absurd (omega arith)
-number-set (true ∷ ts) zero l h = let z : ◌≡◌ {A = ℕ} 0 1 = cc in absurd (omega arith)
-number-set (false ∷ ts) zero l h = rw (suc-sub-suc (length ts) 0, sub-zero (length ts)) (omega arith)
-number-set (true ∷ ts) (suc f) l h = rw (number-set ts f (omega arith) h, length-set ts f true, suc-sub-suc (length ts) (suc f)) (omega arith)
-number-set (false ∷ ts) (suc f) l h = rw (number-set ts f (omega arith) h, suc-sub-suc (length ts) (suc f))
+number_set [] f l h = absurd (omega arith)
+number_set (true ∷ ts) zero l h = let z : ◌≡◌ {A = ℕ} 0 1 = cc in absurd (omega arith)
+number_set (false ∷ ts) zero l h = rw (suc-sub-suc (length ts) 0, sub-zero (length ts)) (omega arith)
+number_set (true ∷ ts) (suc f) l h = rw (number_set ts f (omega arith) h, length-set ts f true, suc-sub-suc (length ts) (suc f)) (omega arith)
+number_set (false ∷ ts) (suc f) l h = rw (number_set ts f (omega arith) h, suc-sub-suc (length ts) (suc f))
 
-pub flag-more : (k n f : ℕ) → n < 2 ^ k → f < k → get_or (flags k n) f false ≡ false → flags k (n + 2 ^ (k - suc f)) ≡ set (flags k n) f true
-flag-more k n f h l e =
-    let s : length (set (flags k n) f true) ≡ k = length-set (flags k n) f true ∙ flags-length k n in
-    ap (λ m. flags k (m + 2 ^ (k - suc f))) (sym (number-flags k n h))
-    ∙ ap (λ j. flags k (number (flags k n) + 2 ^ (j - suc f))) (sym (flags-length k n))
-    ∙ ap (flags k) (sym (number-set (flags k n) f (rw (flags-length k n) l) e))
+pub flag_more : (k n f : ℕ) → n < 2 ^ k → f < k → get_or (flags k n) f false ≡ false → flags k (n + 2 ^ (k - suc f)) ≡ set (flags k n) f true
+flag_more k n f h l e =
+    let s : length (set (flags k n) f true) ≡ k = length-set (flags k n) f true ∙ flags_length k n in
+    ap (λ m. flags k (m + 2 ^ (k - suc f))) (sym (number_flags k n h))
+    ∙ ap (λ j. flags k (number (flags k n) + 2 ^ (j - suc f))) (sym (flags_length k n))
+    ∙ ap (flags k) (sym (number_set (flags k n) f (rw (flags_length k n) l) e))
     ∙ ap (λ j. flags j (number (set (flags k n) f true))) (sym s)
-    ∙ flags-number (set (flags k n) f true)
+    ∙ flags_number (set (flags k n) f true)
 
-pub flag-more-lt : (k n f : ℕ) → n < 2 ^ k → f < k → get_or (flags k n) f false ≡ false → n + 2 ^ (k - suc f) < 2 ^ k
-flag-more-lt k n f h l e =
-    let s : length (set (flags k n) f true) ≡ k = length-set (flags k n) f true ∙ flags-length k n in
+pub flag_more_lt : (k n f : ℕ) → n < 2 ^ k → f < k → get_or (flags k n) f false ≡ false → n + 2 ^ (k - suc f) < 2 ^ k
+flag_more_lt k n f h l e =
+    let s : length (set (flags k n) f true) ≡ k = length-set (flags k n) f true ∙ flags_length k n in
     let v : number (set (flags k n) f true) ≡ n + 2 ^ (k - suc f) =
-    number-set (flags k n) f (rw (flags-length k n) l) e ∙ ap₂ (λ m j. m + 2 ^ (j - suc f)) (number-flags k n h) (flags-length k n) in
+    number_set (flags k n) f (rw (flags_length k n) l) e ∙ ap₂ (λ m j. m + 2 ^ (j - suc f)) (number_flags k n h) (flags_length k n) in
     subst (λ m. m < 2 ^ k) v (subst (λ j. number (set (flags k n) f true) < 2 ^ j) s (number_lt (set (flags k n) f true)))
 
 pub flag_same : (k n f : ℕ) → get_or (flags k n) f false ≡ true → flags k n ≡ set (flags k n) f true
 flag_same k n f e = sym (ap (set (flags k n) f) (sym e) ∙ set-get_or (flags k n) f false)
 
 -- a set is told by its flags
-pub flags-same : (k a b : ℕ) → a < 2 ^ k → b < 2 ^ k → flags k a ≡ flags k b → a ≡ b
-flags-same k a b h j e = sym (number-flags k a h) ∙ ap number e ∙ number-flags k b j
+pub flags_same : (k a b : ℕ) → a < 2 ^ k → b < 2 ^ k → flags k a ≡ flags k b → a ≡ b
+flags_same k a b h j e = sym (number_flags k a h) ∙ ap number e ∙ number_flags k b j
 
 -- the set that no FRN is in
-pub flags-none : flags 64 0 ≡ replicate 64 false
+pub flags_none : flags 64 0 ≡ replicate 64 false
 unfolding flags
-flags-none = refl
+flags_none = refl
 
 pub bits_none : (bits : ℕ) → bits < 2 ^ 64 → flags 64 bits ≡ replicate 64 false → bits ≡ 0
-bits_none bits h e = flags-same 64 bits 0 h (omega arith) (e ∙ sym flags-none)
+bits_none bits h e = flags_same 64 bits 0 h (omega arith) (e ∙ sym flags_none)
 
 -- ---- a set with one FRN more: f is the FRN as it is held, t whether it is there already, w its bit
 
-pub with-same : (bits frn f : ℕ) {t : Bool} → f ≡ min frn 63 → t ≡ get_or (flags 64 bits) f false → t ≡ true → flags 64 bits ≡ set (flags 64 bits) (min frn 63) true
-with-same bits frn f e h y = flag_same 64 bits f (sym h ∙ y) ∙ ap (λ k. set (flags 64 bits) k true) e
+pub with_same : (bits frn f : ℕ) {t : Bool} → f ≡ min frn 63 → t ≡ get_or (flags 64 bits) f false → t ≡ true → flags 64 bits ≡ set (flags 64 bits) (min frn 63) true
+with_same bits frn f e h y = flag_same 64 bits f (sym h ∙ y) ∙ ap (λ k. set (flags 64 bits) k true) e
 
 module _ (bits frn f w : ℕ) {t : Bool} (fits : bits < 2 ^ 64) (e : f ≡ min frn 63) (h : t ≡ get_or (flags 64 bits) f false) (n : t ≡ false) (is : w ≡ 2 ^ (63 - f)) where
   weight_is : w ≡ 2 ^ (64 - suc f)
   weight_is = let z : 63 - f ≡ 64 - suc f = omega arith in is ∙ ap (λ k. 2 ^ k) z
 
-  pub with-more : flags 64 (bits + w) ≡ set (flags 64 bits) (min frn 63) true
-  with-more =
+  pub with_more : flags 64 (bits + w) ≡ set (flags 64 bits) (min frn 63) true
+  with_more =
       ap (λ k. flags 64 (bits + k)) weight_is
-      ∙ flag-more 64 bits f fits (omega arith) (sym h ∙ n)
+      ∙ flag_more 64 bits f fits (omega arith) (sym h ∙ n)
       ∙ ap (λ k. set (flags 64 bits) k true) e
 
-  pub with-fits : bits + w < 2 ^ 64
-  with-fits = rw weight_is (flag-more-lt 64 bits f fits (omega arith) (sym h ∙ n))
+  pub with_fits : bits + w < 2 ^ 64
+  with_fits = rw weight_is (flag_more_lt 64 bits f fits (omega arith) (sym h ∙ n))
 
 -- ---- the first FRN of a set: as many zeros stand before its bit as its number says
 
@@ -265,8 +265,8 @@ first left some below =
 
 module _ (left f : ℕ) (t : First left f) where
   -- no flag from another FRN on is set before it
-  pub first-from : (j : ℕ) → left < 2 ^ (64 - j) → j ≤ f
-  first-from j h = go (leb j f) refl
+  pub first_from : (j : ℕ) → left < 2 ^ (64 - j) → j ≤ f
+  first_from j h = go (leb j f) refl
     where
       go : (b : Bool) → leb j f ≡ b → j ≤ f
       go true e = leb-true _ _ e
@@ -282,8 +282,8 @@ module _ (left f : ℕ) (t : First left f) where
   pub first_rest : left - 2 ^ (63 - f) < 2 ^ (63 - f)
   first_rest = let e : 2 ^ (64 - f) ≡ 2 ^ (63 - f) * 2 = ap (λ k. 2 ^ k) one_less ∙ pow-suc 2 (63 - f) in omega (arith, t.there, t.none_before)
 
-  pub first-flags : flags (64 - f) left ≡ true ∷ flags (63 - f) (left - 2 ^ (63 - f))
+  pub first_flags : flags (64 - f) left ≡ true ∷ flags (63 - f) (left - 2 ^ (63 - f))
   unfolding flags
-  first-flags =
+  first_flags =
       let m : left % 2 ^ (63 - f) ≡ left - 2 ^ (63 - f) = mod-eq-sub-mod t.there ∙ mod-eq_of_lt first_rest in
       rw (one_less, le-leb (2 ^ (63 - f)) left t.there, m)

@@ -11,26 +11,26 @@ use Rattle.sets.specs.declared.Judgement.TheVariants as judgement
 -- ---- the FSPEC
 
 -- a set, and how many octets its FSPEC has
-abbrev pub setOf : SetRead → Answer (ℕ × ℕ)
-setOf (Items s n) = ok (s.bits, n)
-setOf (Refused n) = refused n 0
+abbrev pub set_of : SetRead → Answer (ℕ × ℕ)
+set_of (Items s n) = ok (s.bits, n)
+set_of (Refused n) = refused n 0
 
 -- the number of a refusal, 0 where there is none
-abbrev pub setNumber : SetRead → ℕ
-setNumber (Items s n) = 0
-setNumber (Refused n) = n
+abbrev pub set_number : SetRead → ℕ
+set_number (Items s n) = 0
+set_number (Refused n) = n
 
 -- ---- what the message type asks for
 
 -- the sets of a message type: what it must have, and what it must or may have
-abbrev pub rowOf : MessageRow → Answer (ℕ × ℕ)
-rowOf (Known must may) = ok (must, may)
-rowOf Unknown = refused 13 0
+abbrev pub row_of : MessageRow → Answer (ℕ × ℕ)
+row_of (Known must may) = ok (must, may)
+row_of Unknown = refused 13 0
 
-abbrev pub judgedOf : Judgement → Answer (Unit {0})
-judgedOf judgement.Right = ok tt
-judgedOf (judgement.Refused n) = refused n 0
+abbrev pub judged_of : Judgement → Answer (Unit {0})
+judged_of judgement.Right = ok tt
+judged_of (judgement.Refused n) = refused n 0
 
-abbrev pub judgedNumber : Judgement → ℕ
-judgedNumber judgement.Right = 0
-judgedNumber (judgement.Refused n) = n
+abbrev pub judged_number : Judgement → ℕ
+judged_number judgement.Right = 0
+judged_number (judgement.Refused n) = n

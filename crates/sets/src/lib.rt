@@ -4,9 +4,9 @@ mod messages;
 
 ghost use Rattle.std.specs.Prelude.{◌≡◌, true, false, ◌+◌, ◌-◌, ◌*◌, ◌/◌, ◌^◌, ◌<◌, ◌≤◌, min, length, get_or, set, replicate};
 ghost use Rattle.rules.specs.Presence.{flags};
-ghost use Rattle.sets.specs.Sets.{categoryAt, within, set_at, fspecAt};
-ghost use Rattle.sets.specs.Steps.{usableBits, ended, typeFrn, judgeSet, rowsLeft};
-ghost use Rattle.sets.specs.Answers.{setOf, setNumber, judgedOf, judgedNumber};
+ghost use Rattle.sets.specs.Sets.{category_at, within, set_at, fspec_at};
+ghost use Rattle.sets.specs.Steps.{usable_bits, ended, type_frn, judge_set, rows_left};
+ghost use Rattle.sets.specs.Answers.{set_of, set_number, judged_of, judged_number};
 
 use messages::{MessageRow, row_of};
 use numbers::wide;
@@ -29,14 +29,14 @@ pub enum SetRead {
 
 // How many octets an FSPEC has at most.
 fn fspec_most(profile: usize) -> usize
-    ensures { result ≡ length (categoryAt profile).profile }
+    ensures { result ≡ length (category_at profile).profile }
 {
     profile_row(profile).octets as usize
 }
 
 // The FRNs that a profile has an item for.
 pub fn usable(profile: usize) -> ItemSet
-    ensures { result.bits ≡ usableBits profile }
+    ensures { result.bits ≡ usable_bits profile }
 {
     ItemSet {
         bits: profile_row(profile).usable,
@@ -111,7 +111,7 @@ impl ItemSet {
 
     // The set, once the last octet x of its FSPEC is read.
     fn ended(self, profile: usize, x: u64, used: usize) -> SetRead
-        ensures { setOf result ≡ ended profile x self.bits used }
+        ensures { set_of result ≡ ended profile x self.bits used }
     {
         if x / 2 == 0 {
             return SetRead::Refused { number: 7 };
@@ -127,7 +127,7 @@ impl ItemSet {
 
     // The FSPEC at the start of a part.
     pub fn from_octets(profile: usize, part: &[u8]) -> SetRead
-        ensures { setOf result ≡ set_at profile part.now }
+        ensures { set_of result ≡ set_at profile part.now }
     {
         let most = fspec_most(profile);
         let mut rest = part;
@@ -151,7 +151,7 @@ impl ItemSet {
 
 // The number of a refusal, 0 where there is none.
 pub fn set_number(s: SetRead) -> u8
-    ensures { result ≡ setNumber s }
+    ensures { result ≡ set_number s }
 {
     match s {
         SetRead::Items { set: _, octets: _ } => 0,
@@ -164,7 +164,7 @@ pub fn set_number(s: SetRead) -> u8
 // How many octets name the FRNs of a set, of which none is 0.
 pub fn octets_of(bits: u64) -> usize
     requires { bits < 2 ^ 63 }
-    ensures { (result ≡ rowsLeft 9 0 bits) × (result ≤ 9) }
+    ensures { (result ≡ rows_left 9 0 bits) × (result ≤ 9) }
 {
     let mut left = bits;
     let mut n: usize = 0;
@@ -177,7 +177,7 @@ pub fn octets_of(bits: u64) -> usize
 
 // How many octets the FSPEC of a set has; 0 where the set is empty or names an FRN that the profile lacks.
 pub fn fspec_octets(profile: usize, set: ItemSet) -> usize
-    ensures { result ≡ length (fspecAt profile set.bits) }
+    ensures { result ≡ length (fspec_at profile set.bits) }
 {
     if !set.is_within(usable(profile)) {
         return 0;
@@ -188,7 +188,7 @@ pub fn fspec_octets(profile: usize, set: ItemSet) -> usize
 
 // The octet at a place of a set's FSPEC, counted from 0; 0 past its end.
 pub fn fspec_octet(profile: usize, set: ItemSet, place: usize) -> u8
-    ensures { result ≡ get_or (fspecAt profile set.bits) place 0 }
+    ensures { result ≡ get_or (fspec_at profile set.bits) place 0 }
 {
     let count = fspec_octets(profile, set);
     if count <= place {
@@ -207,7 +207,7 @@ pub fn fspec_octet(profile: usize, set: ItemSet, place: usize) -> u8
 
 // The FRN of the message type item, I0nn/000.
 pub fn type_frn(profile: usize) -> usize
-    ensures { result ≡ typeFrn profile }
+    ensures { result ≡ type_frn profile }
 {
     profile_row(profile).kind as usize
 }
@@ -222,7 +222,7 @@ pub enum Judgement {
 
 // By the items of a record, and the first octet of its message type item.
 pub fn judge(profile: usize, items: ItemSet, kind: u8) -> Judgement
-    ensures { judgedOf result ≡ judgeSet profile items.bits kind }
+    ensures { judged_of result ≡ judge_set profile items.bits kind }
 {
     if !items.has(type_frn(profile)) {
         return Judgement::Refused { number: 12 };
@@ -244,7 +244,7 @@ pub fn judge(profile: usize, items: ItemSet, kind: u8) -> Judgement
 
 // The number of a refusal, 0 where there is none.
 pub fn judged_number(j: Judgement) -> u8
-    ensures { result ≡ judgedNumber j }
+    ensures { result ≡ judged_number j }
 {
     match j {
         Judgement::Right => 0,

@@ -3,7 +3,7 @@
 // A number of 64 bits is a set of FRNs: FRN f is bit 63 - f.
 ghost use Rattle.std.specs.Prelude.{◌≡◌};
 ghost use Rattle.sets.specs.Steps.{row_at};
-ghost use Rattle.sets.specs.Answers.{rowOf};
+ghost use Rattle.sets.specs.Answers.{row_of};
 
 use tables::PROFILES;
 
@@ -18,7 +18,7 @@ pub enum MessageRow {
 
 // The row of a message type, found by one number: the profile, and in its last two hexadecimal digits the type.
 pub fn row_of(profile: usize, kind: u8) -> MessageRow
-    ensures { rowOf result ≡ row_at profile kind }
+    ensures { row_of result ≡ row_at profile kind }
 {
     if PROFILES <= profile {
         return MessageRow::Unknown;

@@ -9,11 +9,11 @@ use Rattle.sheets.specs.declared.Coded.{Coded}
 use Rattle.sheets.specs.declared.Coded.TheVariants.{Code, Barred}
 
 -- what is told of a sheet; its marks lie from its fourteenth byte on
-unfoldable pub sheetRead : Answer Sheet → SheetRead
-sheetRead (ok s) = Accepted s.edition.byte s.offset (lists_of s.edition.split 14 s.marks)
-sheetRead (refused n p) = Refused n p
+unfoldable pub sheet_read : Answer Sheet → SheetRead
+sheet_read (ok s) = Accepted s.edition.byte s.offset (lists_of s.edition.split 14 s.marks)
+sheet_read (refused n p) = Refused n p
 
 -- the four bytes of an offset, or 33
-abbrev pub codedAs : Coded → Answer ℕ
-codedAs (Code c) = ok c
-codedAs Barred = refused 33 0
+abbrev pub coded_as : Coded → Answer ℕ
+coded_as (Code c) = ok c
+coded_as Barred = refused 33 0

@@ -3,14 +3,14 @@
 ghost use Rattle.std.specs.Prelude.{◌≡◌, length};
 ghost use Rattle.rules.specs.Answer.{ok, need◌or◌then◌};
 ghost use Rattle.rules.specs.Entry.{leaves};
-ghost use Rattle.rules.specs.Mark.{okMark};
+ghost use Rattle.rules.specs.Mark.{ok_mark};
 ghost use Rattle.rules.specs.SheetForm.{form};
 ghost use Rattle.rules.specs.Merge.{in_range};
-ghost use Rattle.rules.specs.Sheet.{offsetCode, toldEdition, readSheet};
-ghost use Rattle.rules.specs.SheetChange.{backOf, sheetAdd, sheetRemove, sheetEmpty, writeMarks, fitted};
-ghost use Rattle.viewing.specs.Read.{editionAnswer};
+ghost use Rattle.rules.specs.Sheet.{offset_code, told_edition, read_sheet};
+ghost use Rattle.rules.specs.SheetChange.{back_of, sheet_add, sheet_remove, sheet_empty, write_marks, fitted};
+ghost use Rattle.viewing.specs.Read.{edition_answer};
 ghost use Rattle.laying.specs.Lay.{written_of};
-ghost use Rattle.sheets.specs.Answers.{sheetRead, codedAs};
+ghost use Rattle.sheets.specs.Answers.{sheet_read, coded_as};
 
 use laying::Written;
 use marks::{Change, LAST_LOG, LAST_STATION, Lists};
@@ -34,7 +34,7 @@ pub enum SheetRead {
 }
 
 pub fn read_sheet(sheet: &[u8]) -> SheetRead
-    ensures { result ≡ sheetRead (readSheet form sheet.now) }
+    ensures { result ≡ sheet_read (read_sheet form sheet.now) }
 {
     match viewing::view_sheet(sheet, 0) {
         SheetViewed::Accepted(view) => {
@@ -57,7 +57,7 @@ const LEAST: u8 = 1;
 
 // What a changed sheet of an edition is written back as.
 fn back_of(edition: Edition) -> Edition
-    ensures { result ≡ backOf form edition }
+    ensures { result ≡ back_of form edition }
 {
     if LEAST <= edition.byte {
         return edition;
@@ -73,7 +73,7 @@ fn back_of(edition: Edition) -> Edition
 
 // The edition that writing is told.
 fn told_edition(byte: u8) -> EditionRead
-    ensures { editionAnswer result ≡ toldEdition form byte }
+    ensures { edition_answer result ≡ told_edition form byte }
 {
     if byte < LEAST {
         return EditionRead::Unread {
@@ -88,8 +88,8 @@ fn told_edition(byte: u8) -> EditionRead
 
 // The sheet without its marks.
 pub fn empty_sheet(sheet: &[u8], out: &mut [u8]) -> Written
-    ensures value { result ≡ written_of (fitted (length out.old) (sheetEmpty form sheet.now)) }
-    ensures out_after { out.new ≡ leaves (fitted (length out.old) (sheetEmpty form sheet.now)) out.old }
+    ensures value { result ≡ written_of (fitted (length out.old) (sheet_empty form sheet.now)) }
+    ensures out_after { out.new ≡ leaves (fitted (length out.old) (sheet_empty form sheet.now)) out.old }
 {
     let view = match viewing::view_sheet(sheet, 0) {
         SheetViewed::Accepted(v) => v,
@@ -102,7 +102,7 @@ pub fn empty_sheet(sheet: &[u8], out: &mut [u8]) -> Written
 }
 
 fn mark_ok(m: Mark) -> bool
-    ensures { result ≡ okMark m }
+    ensures { result ≡ ok_mark m }
 {
     if LAST_LOG < m.log {
         return false;
@@ -115,8 +115,8 @@ fn mark_ok(m: Mark) -> bool
 
 // The sheet with a mark more, after those below it.
 pub fn add_mark(sheet: &[u8], mark: Mark, out: &mut [u8]) -> Written
-    ensures value { result ≡ written_of (fitted (length out.old) (sheetAdd form mark sheet.now)) }
-    ensures out_after { out.new ≡ leaves (fitted (length out.old) (sheetAdd form mark sheet.now)) out.old }
+    ensures value { result ≡ written_of (fitted (length out.old) (sheet_add form mark sheet.now)) }
+    ensures out_after { out.new ≡ leaves (fitted (length out.old) (sheet_add form mark sheet.now)) out.old }
 {
     let key = marks::key_of(mark);
     let view = match viewing::view_sheet(sheet, key) {
@@ -162,8 +162,8 @@ pub fn add_mark(sheet: &[u8], mark: Mark, out: &mut [u8]) -> Written
 
 // The sheet without the mark at a log and place.
 pub fn remove_mark(sheet: &[u8], log: u8, place: u32, out: &mut [u8]) -> Written
-    ensures value { result ≡ written_of (fitted (length out.old) (sheetRemove form log place sheet.now)) }
-    ensures out_after { out.new ≡ leaves (fitted (length out.old) (sheetRemove form log place sheet.now)) out.old }
+    ensures value { result ≡ written_of (fitted (length out.old) (sheet_remove form log place sheet.now)) }
+    ensures out_after { out.new ≡ leaves (fitted (length out.old) (sheet_remove form log place sheet.now)) out.old }
 {
     let key = marks::key_of(Mark {
         log,
@@ -210,7 +210,7 @@ pub enum Coded {
 
 // A clock offset in four bytes, two's complement: from -46,080 to 46,080 (W-201). The magnitude of -n is n - 1.
 fn offset_code(offset: i64) -> Coded
-    ensures { codedAs result ≡ (need in_range offset or 33 then ok (offsetCode offset)) }
+    ensures { coded_as result ≡ (need in_range offset or 33 then ok (offset_code offset)) }
 {
     let m = numbers::magnitude(offset);
     if offset < 0 {
@@ -227,8 +227,8 @@ fn offset_code(offset: i64) -> Coded
 
 // The sheet of a clock offset and of marks that are lent end to end, eight bytes each, as tag 3 has them.
 pub fn write_sheet(offset: i64, marks: &[u8], out: &mut [u8]) -> Written
-    ensures value { result ≡ written_of (fitted (length out.old) (writeMarks form form.least offset marks.now)) }
-    ensures out_after { out.new ≡ leaves (fitted (length out.old) (writeMarks form form.least offset marks.now)) out.old }
+    ensures value { result ≡ written_of (fitted (length out.old) (write_marks form form.least offset marks.now)) }
+    ensures out_after { out.new ≡ leaves (fitted (length out.old) (write_marks form form.least offset marks.now)) out.old }
 {
     let n = marks.len() / 8;
     if LIMIT < n {

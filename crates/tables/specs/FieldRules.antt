@@ -6,7 +6,7 @@ use Rattle.rules.specs.Chain.{flatten}
 use Rattle.rules.specs.Format.{Group}
 use Rattle.rules.specs.Catalogue.{categories}
 use Rattle.tables.specs.declared.tables.LayoutRow.{LayoutRow}
-use Rattle.tables.specs.Tables.{groups, groupRows, groupAt, layoutAt, profileRows, isFree}
+use Rattle.tables.specs.Tables.{groups, group_rows, group_at, layout_at, profile_rows, is_free}
 
 -- how many bits stand below the field, how many it has, what is added to its code, and the limit
 pub record Rule : Type 0 where
@@ -15,58 +15,58 @@ pub record Rule : Type 0 where
   pub added : ℕ
   pub limit : ℕ
 
-abbrev pub ruleOf : Field → ℕ → Rule
-ruleOf (spare w) k = record { shift = k; width = w; added = 0; limit = 0 }
-ruleOf (value w (unsigned lo hi)) k = record { shift = k; width = w; added = (2 ^ w - lo) % 2 ^ w; limit = hi - lo }
-ruleOf (value w (signed lo hi)) k = record { shift = k; width = w; added = lo; limit = lo + hi }
+abbrev pub rule_of : Field → ℕ → Rule
+rule_of (spare w) k = record { shift = k; width = w; added = 0; limit = 0 }
+rule_of (value w (unsigned lo hi)) k = record { shift = k; width = w; added = (2 ^ w - lo) % 2 ^ w; limit = hi - lo }
+rule_of (value w (signed lo hi)) k = record { shift = k; width = w; added = lo; limit = lo + hi }
 
-abbrev pub rulesOf : List Field → List Rule
-rulesOf [] = []
-rulesOf (f ∷ fs) = cond (isFree (f ∷ [])) (rulesOf fs) (ruleOf f (bits fs) ∷ rulesOf fs)
+abbrev pub rules_of : List Field → List Rule
+rules_of [] = []
+rules_of (f ∷ fs) = cond (is_free (f ∷ [])) (rules_of fs) (rule_of f (bits fs) ∷ rules_of fs)
 
 -- a number obeys a rule, and each of some rules
 unfoldable pub obeys : Rule → ℕ → Bool
 obeys r n = leb ((n / 2 ^ r.shift + r.added) % 2 ^ r.width) r.limit
 
-abbrev pub allObeyed : List Rule → ℕ → Bool
-allObeyed [] n = true
-allObeyed (r ∷ rs) n = obeys r n && allObeyed rs n
+abbrev pub all_obeyed : List Rule → ℕ → Bool
+all_obeyed [] n = true
+all_obeyed (r ∷ rs) n = obeys r n && all_obeyed rs n
 
 -- ---- the tables of the code
 
 unfoldable pub rules : List Rule
-rules = flatten (map (λ g. rulesOf g.fields) groups)
+rules = flatten (map (λ g. rules_of g.fields) groups)
 
-abbrev pub ruleCount : ℕ
-ruleCount = length rules
+abbrev pub rule_count : ℕ
+rule_count = length rules
 
 -- the place of each group's first rule, and of the end
-abbrev pub firstRules : ℕ → List Group → List ℕ
-firstRules k [] = k ∷ []
-firstRules k (g ∷ gs) = k ∷ firstRules (k + length (rulesOf g.fields)) gs
+abbrev pub first_rules : ℕ → List Group → List ℕ
+first_rules k [] = k ∷ []
+first_rules k (g ∷ gs) = k ∷ first_rules (k + length (rules_of g.fields)) gs
 
-unfoldable pub firstRule : ℕ → ℕ
-firstRule g = get_or (firstRules 0 groups) g 0
+unfoldable pub first_rule : ℕ → ℕ
+first_rule g = get_or (first_rules 0 groups) g 0
 
-unfoldable pub ruleAt : ℕ → Rule
-ruleAt i = get_or rules i (record { shift = 0; width = 0; added = 0; limit = 0 })
+unfoldable pub rule_at : ℕ → Rule
+rule_at i = get_or rules i (record { shift = 0; width = 0; added = 0; limit = 0 })
 
 -- the shift and the width, 2 digits each
-unfoldable pub ruleWords : List ℕ
-ruleWords = map (λ r. r.shift * 100 + r.width) rules
+unfoldable pub rule_words : List ℕ
+rule_words = map (λ r. r.shift * 100 + r.width) rules
 
-unfoldable pub addedTo : List ℕ
-addedTo = map (λ r. r.added) rules
+unfoldable pub added_to : List ℕ
+added_to = map (λ r. r.added) rules
 
 unfoldable pub limits : List ℕ
 limits = map (λ r. r.limit) rules
 
 unfoldable pub sizes : List ℕ
-sizes = map (λ r. r.octets) (groupRows 0 groups)
+sizes = map (λ r. r.octets) (group_rows 0 groups)
 
 -- of an item with one part, its octets where it is free, and else 8 more than the place of its group; of any other item 0
-abbrev pub singleOf : LayoutRow → ℕ
-singleOf l = cond (eqb l.kind 1) (cond (groupAt l.first).free (groupAt l.first).octets (8 + l.first)) 0
+abbrev pub single_of : LayoutRow → ℕ
+single_of l = cond (eqb l.kind 1) (cond (group_at l.first).free (group_at l.first).octets (8 + l.first)) 0
 
 unfoldable pub singles : List ℕ
-singles = map (λ r. singleOf (layoutAt r.layout)) (profileRows 1 categories)
+singles = map (λ r. single_of (layout_at r.layout)) (profile_rows 1 categories)

@@ -5,11 +5,11 @@ use Rattle.rules.specs.Answer.{if◌then◌else◌}
 use Rattle.rules.specs.Record.{Place}
 
 -- whether the item at a place has a reference
-abbrev pub isNamed : ℕ → Option Place → Bool
-isNamed ref none = false
-isNamed ref (some p) = eqb ref p.reference
+abbrev pub is_named : ℕ → Option Place → Bool
+is_named ref none = false
+is_named ref (some p) = eqb ref p.reference
 
 -- the FRN of the item with a reference, the first place having the number given
-unfoldable pub frnAs : ℕ → ℕ → List (Option Place) → Option ℕ
-frnAs ref f [] = none
-frnAs ref f (p ∷ ps) = if isNamed ref p then some f else frnAs ref (f + 1) ps
+unfoldable pub frn_as : ℕ → ℕ → List (Option Place) → Option ℕ
+frn_as ref f [] = none
+frn_as ref f (p ∷ ps) = if is_named ref p then some f else frn_as ref (f + 1) ps

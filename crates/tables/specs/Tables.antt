@@ -19,20 +19,20 @@ use Rattle.tables.specs.declared.tables.PlaceRow.{PlaceRow}
 -- ---- what the rules have, end to end
 
 -- the subfields that there are
-abbrev pub subfieldsOf : List (Option Format) → List Layout
-subfieldsOf [] = []
-subfieldsOf (none ∷ ps) = subfieldsOf ps
-subfieldsOf (some s ∷ ps) = plain s ∷ subfieldsOf ps
+abbrev pub subfields_of : List (Option Format) → List Layout
+subfields_of [] = []
+subfields_of (none ∷ ps) = subfields_of ps
+subfields_of (some s ∷ ps) = plain s ∷ subfields_of ps
 
 -- an item's layout, and behind a compound one those of its subfields
-abbrev pub withSubfields : Layout → List Layout
-withSubfields (plain s) = plain s ∷ []
-withSubfields (compound ps) = compound ps ∷ subfieldsOf (flatten ps)
+abbrev pub with_subfields : Layout → List Layout
+with_subfields (plain s) = plain s ∷ []
+with_subfields (compound ps) = compound ps ∷ subfields_of (flatten ps)
 
-abbrev pub layoutsOf : List (Option Place) → List Layout
-layoutsOf [] = []
-layoutsOf (none ∷ ps) = layoutsOf ps
-layoutsOf (some p ∷ ps) = withSubfields p.layout ++ layoutsOf ps
+abbrev pub layouts_of : List (Option Place) → List Layout
+layouts_of [] = []
+layouts_of (none ∷ ps) = layouts_of ps
+layouts_of (some p ∷ ps) = with_subfields p.layout ++ layouts_of ps
 
 -- the groups of a layout's parts, one for all parts of a list or of a led item's contents; a compound item has no parts but its subfields'
 abbrev pub groups_of : Layout → List Group
@@ -43,49 +43,49 @@ groups_of (plain (extended gs)) = gs
 groups_of (compound ps) = []
 
 -- its primary octets
-abbrev pub primariesOf : Layout → List (List (Option Format))
-primariesOf (plain s) = []
-primariesOf (compound ps) = ps
+abbrev pub primaries_of : Layout → List (List (Option Format))
+primaries_of (plain s) = []
+primaries_of (compound ps) = ps
 
 unfoldable pub layouts : List Layout
-layouts = flatten (map (λ c. layoutsOf (places c)) categories)
+layouts = flatten (map (λ c. layouts_of (places c)) categories)
 
 unfoldable pub groups : List Group
 groups = flatten (map groups_of layouts)
 
 unfoldable pub primaries : List (List (Option Format))
-primaries = flatten (map primariesOf layouts)
+primaries = flatten (map primaries_of layouts)
 
 unfoldable pub fields : List Field
 fields = flatten (map (λ g. g.fields) groups)
 
 -- ---- how many of each there are
 
-abbrev pub fieldCount : ℕ
-fieldCount = length fields
+abbrev pub field_count : ℕ
+field_count = length fields
 
-abbrev pub groupCount : ℕ
-groupCount = length groups
+abbrev pub group_count : ℕ
+group_count = length groups
 
 -- the first row is that of no item
-abbrev pub layoutCount : ℕ
-layoutCount = suc (length layouts)
+abbrev pub layout_count : ℕ
+layout_count = suc (length layouts)
 
-abbrev pub primaryCount : ℕ
-primaryCount = length primaries
+abbrev pub primary_count : ℕ
+primary_count = length primaries
 
--- the code counts with these two numbers: `profiles-long` has that they are the profiles, `profile-few` that each has room for its FRNs, 0 among them
+-- the code counts with these two numbers: `profiles_long` has that they are the profiles, `profile_few` that each has room for its FRNs, 0 among them
 -- ---- made by model/make.py: profileCount, frnCount
-abbrev pub profileCount : ℕ
-profileCount = 3
+abbrev pub profile_count : ℕ
+profile_count = 3
 
-abbrev pub frnCount : ℕ
-frnCount = 36
+abbrev pub frn_count : ℕ
+frn_count = 36
 
 -- ---- end of what is made
 
-abbrev pub placeCount : ℕ
-placeCount = profileCount * frnCount
+abbrev pub place_count : ℕ
+place_count = profile_count * frn_count
 
 -- ---- the rows of the code
 
@@ -94,125 +94,125 @@ abbrev pub minus : ℕ → ℤ
 minus zero = pos 0
 minus (suc n) = negsuc n
 
-abbrev pub fieldRow : Field → FieldRow
-fieldRow (spare w) = record { bits = w; holds = 2; least = pos 0; greatest = pos 0 }
-fieldRow (value w (unsigned lo hi)) = record { bits = w; holds = 0; least = pos lo; greatest = pos hi }
-fieldRow (value w (signed lo hi)) = record { bits = w; holds = 1; least = minus lo; greatest = pos hi }
+abbrev pub field_row : Field → FieldRow
+field_row (spare w) = record { bits = w; holds = 2; least = pos 0; greatest = pos 0 }
+field_row (value w (unsigned lo hi)) = record { bits = w; holds = 0; least = pos lo; greatest = pos hi }
+field_row (value w (signed lo hi)) = record { bits = w; holds = 1; least = minus lo; greatest = pos hi }
 
 -- any bits are legal in each of the fields
-abbrev pub isFree : List Field → Bool
-isFree [] = true
-isFree (spare w ∷ fs) = false
-isFree (value w (unsigned lo hi) ∷ fs) = eqb lo 0 && eqb (suc hi) (2 ^ w) && isFree fs
-isFree (value w (signed lo hi) ∷ fs) = eqb lo (half w) && eqb (suc hi) (half w) && isFree fs
+abbrev pub is_free : List Field → Bool
+is_free [] = true
+is_free (spare w ∷ fs) = false
+is_free (value w (unsigned lo hi) ∷ fs) = eqb lo 0 && eqb (suc hi) (2 ^ w) && is_free fs
+is_free (value w (signed lo hi) ∷ fs) = eqb lo (half w) && eqb (suc hi) (half w) && is_free fs
 
 -- of groups whose first field stands at a place
-abbrev pub groupRows : ℕ → List Group → List GroupRow
-groupRows k [] = []
-groupRows k (g ∷ gs) =
-    record { octets = g.size; first = k; end = k + length g.fields; values = arity g.fields; free = isFree g.fields } ∷ groupRows (k + length g.fields) gs
+abbrev pub group_rows : ℕ → List Group → List GroupRow
+group_rows k [] = []
+group_rows k (g ∷ gs) =
+    record { octets = g.size; first = k; end = k + length g.fields; values = arity g.fields; free = is_free g.fields } ∷ group_rows (k + length g.fields) gs
 
 -- of a layout whose first group, or whose first primary octet, stands at a place
-abbrev pub layoutRow : ℕ → ℕ → Layout → LayoutRow
-layoutRow k j (plain (fixed g)) = record { kind = 1; least = 1; most = 1; first = k; end = k + 1 }
-layoutRow k j (plain (repeated lo hi g)) = record { kind = 2; least = lo; most = hi; first = k; end = k + 1 }
-layoutRow k j (plain (led lo)) = record { kind = 3; least = lo; most = 254; first = k; end = k + 1 }
-layoutRow k j (plain (extended gs)) = record { kind = 4; least = 1; most = length gs; first = k; end = k + length gs }
-layoutRow k j (compound ps) = record { kind = 5; least = 0; most = 0; first = j; end = j + length ps }
+abbrev pub layout_row : ℕ → ℕ → Layout → LayoutRow
+layout_row k j (plain (fixed g)) = record { kind = 1; least = 1; most = 1; first = k; end = k + 1 }
+layout_row k j (plain (repeated lo hi g)) = record { kind = 2; least = lo; most = hi; first = k; end = k + 1 }
+layout_row k j (plain (led lo)) = record { kind = 3; least = lo; most = 254; first = k; end = k + 1 }
+layout_row k j (plain (extended gs)) = record { kind = 4; least = 1; most = length gs; first = k; end = k + length gs }
+layout_row k j (compound ps) = record { kind = 5; least = 0; most = 0; first = j; end = j + length ps }
 
-abbrev pub layoutRows : ℕ → ℕ → List Layout → List LayoutRow
-layoutRows k j [] = []
-layoutRows k j (l ∷ ls) = layoutRow k j l ∷ layoutRows (k + length (groups_of l)) (j + length (primariesOf l)) ls
+abbrev pub layout_rows : ℕ → ℕ → List Layout → List LayoutRow
+layout_rows k j [] = []
+layout_rows k j (l ∷ ls) = layout_row k j l ∷ layout_rows (k + length (groups_of l)) (j + length (primaries_of l)) ls
 
 -- of the bits of primary octets, the first subfield's layout standing at a place: 0 where there is none
-abbrev pub subfieldPlaces : ℕ → List (Option Format) → List ℕ
-subfieldPlaces k [] = []
-subfieldPlaces k (none ∷ ps) = 0 ∷ subfieldPlaces k ps
-subfieldPlaces k (some s ∷ ps) = k ∷ subfieldPlaces (k + 1) ps
+abbrev pub subfield_places : ℕ → List (Option Format) → List ℕ
+subfield_places k [] = []
+subfield_places k (none ∷ ps) = 0 ∷ subfield_places k ps
+subfield_places k (some s ∷ ps) = k ∷ subfield_places (k + 1) ps
 
 -- of all of them, the first layout standing at a place
-abbrev pub subfieldRows : ℕ → List Layout → List ℕ
-subfieldRows k [] = []
-subfieldRows k (l ∷ ls) = subfieldPlaces (k + 1) (flatten (primariesOf l)) ++ subfieldRows (k + 1) ls
+abbrev pub subfield_rows : ℕ → List Layout → List ℕ
+subfield_rows k [] = []
+subfield_rows k (l ∷ ls) = subfield_places (k + 1) (flatten (primaries_of l)) ++ subfield_rows (k + 1) ls
 
 -- no item
 abbrev pub nowhere : PlaceRow
 nowhere = record { layout = 0; reference = 0 }
 
 -- of the places of a profile, the first item's layout standing at a place
-abbrev pub placeRows : ℕ → List (Option Place) → List PlaceRow
-placeRows k [] = []
-placeRows k (none ∷ ps) = nowhere ∷ placeRows k ps
-placeRows k (some p ∷ ps) = record { layout = k; reference = p.reference } ∷ placeRows (k + length (withSubfields p.layout)) ps
+abbrev pub place_rows : ℕ → List (Option Place) → List PlaceRow
+place_rows k [] = []
+place_rows k (none ∷ ps) = nowhere ∷ place_rows k ps
+place_rows k (some p ∷ ps) = record { layout = k; reference = p.reference } ∷ place_rows (k + length (with_subfields p.layout)) ps
 
 -- as many places for each profile, FRN 0 first
-abbrev pub profileRows : ℕ → List Category → List PlaceRow
-profileRows k [] = []
-profileRows k (c ∷ cs) = over (nowhere ∷ placeRows k (places c)) (replicate frnCount nowhere) ++ profileRows (k + length (layoutsOf (places c))) cs
+abbrev pub profile_rows : ℕ → List Category → List PlaceRow
+profile_rows k [] = []
+profile_rows k (c ∷ cs) = over (nowhere ∷ place_rows k (places c)) (replicate frn_count nowhere) ++ profile_rows (k + length (layouts_of (places c))) cs
 
 -- what a table has past its end: no bits, no octets, no parts
-abbrev pub noFieldRow : FieldRow
-noFieldRow = record { bits = 0; holds = 0; least = pos 0; greatest = pos 0 }
+abbrev pub no_field_row : FieldRow
+no_field_row = record { bits = 0; holds = 0; least = pos 0; greatest = pos 0 }
 
-abbrev pub noGroupRow : GroupRow
-noGroupRow = record { octets = 0; first = 0; end = 0; values = 0; free = false }
+abbrev pub no_group_row : GroupRow
+no_group_row = record { octets = 0; first = 0; end = 0; values = 0; free = false }
 
-abbrev pub noLayoutRow : LayoutRow
-noLayoutRow = record { kind = 0; least = 0; most = 0; first = 0; end = 0 }
+abbrev pub no_layout_row : LayoutRow
+no_layout_row = record { kind = 0; least = 0; most = 0; first = 0; end = 0 }
 
 unfoldable pub field_at : ℕ → FieldRow
-field_at i = get_or (map fieldRow fields) i noFieldRow
+field_at i = get_or (map field_row fields) i no_field_row
 
-unfoldable pub groupAt : ℕ → GroupRow
-groupAt i = get_or (groupRows 0 groups) i noGroupRow
+unfoldable pub group_at : ℕ → GroupRow
+group_at i = get_or (group_rows 0 groups) i no_group_row
 
 -- the first layout is that of no item
-unfoldable pub layoutAt : ℕ → LayoutRow
-layoutAt i = get_or (noLayoutRow ∷ layoutRows 0 0 layouts) i noLayoutRow
+unfoldable pub layout_at : ℕ → LayoutRow
+layout_at i = get_or (no_layout_row ∷ layout_rows 0 0 layouts) i no_layout_row
 
 -- the bits of a primary octet that have a subfield, FX apart
-unfoldable pub primariesIn : List ℕ
-primariesIn = map (λ p. 2 * number (map present p)) primaries
+unfoldable pub primaries_in : List ℕ
+primaries_in = map (λ p. 2 * number (map present p)) primaries
 
-unfoldable pub primaryAt : ℕ → ℕ
-primaryAt i = get_or primariesIn i 0
+unfoldable pub primary_at : ℕ → ℕ
+primary_at i = get_or primaries_in i 0
 
 -- the place of the layout of a subfield: of a bit of a primary octet, seven to an octet
-unfoldable pub subfieldsIn : List ℕ
-subfieldsIn = subfieldRows 1 layouts
+unfoldable pub subfields_in : List ℕ
+subfields_in = subfield_rows 1 layouts
 
-unfoldable pub subfieldAt : ℕ → ℕ
-subfieldAt i = get_or subfieldsIn i 0
+unfoldable pub subfield_at : ℕ → ℕ
+subfield_at i = get_or subfields_in i 0
 
-abbrev pub subfieldCount : ℕ
-subfieldCount = length subfieldsIn
+abbrev pub subfield_count : ℕ
+subfield_count = length subfields_in
 
-unfoldable pub placeRowAt : ℕ → PlaceRow
-placeRowAt i = get_or (profileRows 1 categories) i nowhere
+unfoldable pub place_row_at : ℕ → PlaceRow
+place_row_at i = get_or (profile_rows 1 categories) i nowhere
 
 -- ---- a row as one number, its columns as decimal digits
 
 -- the ranges of the fields, each once, in the order in which they first occur
-abbrev pub sameZ : ℤ → ℤ → Bool
-sameZ (pos a) (pos b) = eqb a b
-sameZ (pos a) (negsuc b) = false
-sameZ (negsuc a) (pos b) = false
-sameZ (negsuc a) (negsuc b) = eqb a b
+abbrev pub same_z : ℤ → ℤ → Bool
+same_z (pos a) (pos b) = eqb a b
+same_z (pos a) (negsuc b) = false
+same_z (negsuc a) (pos b) = false
+same_z (negsuc a) (negsuc b) = eqb a b
 
 -- the place of a range in a list, or how long the list is
-abbrev pub rangeIn : List (ℤ × ℤ) → ℤ → ℤ → ℕ
-rangeIn [] low high = 0
-rangeIn (r ∷ rs) low high = cond (sameZ low r.0 && sameZ high r.1) 0 (suc (rangeIn rs low high))
+abbrev pub range_in : List (ℤ × ℤ) → ℤ → ℤ → ℕ
+range_in [] low high = 0
+range_in (r ∷ rs) low high = cond (same_z low r.0 && same_z high r.1) 0 (suc (range_in rs low high))
 
-abbrev pub rangesOf : List (ℤ × ℤ) → List FieldRow → List (ℤ × ℤ)
-rangesOf rs [] = rs
-rangesOf rs (f ∷ fs) = rangesOf (cond (eqb (rangeIn rs f.least f.greatest) (length rs)) (rs ++ ((f.least, f.greatest) ∷ [])) rs) fs
+abbrev pub ranges_of : List (ℤ × ℤ) → List FieldRow → List (ℤ × ℤ)
+ranges_of rs [] = rs
+ranges_of rs (f ∷ fs) = ranges_of (cond (eqb (range_in rs f.least f.greatest) (length rs)) (rs ++ ((f.least, f.greatest) ∷ [])) rs) fs
 
 unfoldable pub ranges : List (ℤ × ℤ)
-ranges = rangesOf [] (map fieldRow fields)
+ranges = ranges_of [] (map field_row fields)
 
-abbrev pub rangeCount : ℕ
-rangeCount = length ranges
+abbrev pub range_count : ℕ
+range_count = length ranges
 
 unfoldable pub least : List ℤ
 least = map (λ r. r.0) ranges
@@ -221,68 +221,68 @@ unfoldable pub greatest : List ℤ
 greatest = map (λ r. r.1) ranges
 
 -- bits, what it holds, the place of its range: 2, 1 and 2 digits
-abbrev pub fieldWord : FieldRow → ℕ
-fieldWord r = r.bits * 1_000 + r.holds * 100 + rangeIn ranges r.least r.greatest
+abbrev pub field_word : FieldRow → ℕ
+field_word r = r.bits * 1_000 + r.holds * 100 + range_in ranges r.least r.greatest
 
 -- octets, place of the first field, how many fields, how many values, whether it is free: 1, 3, 2, 2 and 1 digits
-abbrev pub groupWord : GroupRow → ℕ
-groupWord r = r.octets * 100_000_000 + r.first * 100_000 + (r.end - r.first) * 1_000 + r.values * 10 + cond r.free 1 0
+abbrev pub group_word : GroupRow → ℕ
+group_word r = r.octets * 100_000_000 + r.first * 100_000 + (r.end - r.first) * 1_000 + r.values * 10 + cond r.free 1 0
 
 -- how the parts lie, the least and the greatest number of parts, place of the first group, how many groups: 1, 1, 3, 3 and 1 digits
-abbrev pub layoutWord : LayoutRow → ℕ
-layoutWord r = r.kind * 100_000_000 + r.least * 10_000_000 + r.most * 10_000 + r.first * 10 + (r.end - r.first)
+abbrev pub layout_word : LayoutRow → ℕ
+layout_word r = r.kind * 100_000_000 + r.least * 10_000_000 + r.most * 10_000 + r.first * 10 + (r.end - r.first)
 
-unfoldable pub fieldWords : List ℕ
-fieldWords = map fieldWord (map fieldRow fields)
+unfoldable pub field_words : List ℕ
+field_words = map field_word (map field_row fields)
 
-unfoldable pub groupWords : List ℕ
-groupWords = map groupWord (groupRows 0 groups)
+unfoldable pub group_words : List ℕ
+group_words = map group_word (group_rows 0 groups)
 
-unfoldable pub layoutWords : List ℕ
-layoutWords = 0 ∷ map layoutWord (layoutRows 0 0 layouts)
+unfoldable pub layout_words : List ℕ
+layout_words = 0 ∷ map layout_word (layout_rows 0 0 layouts)
 
-unfoldable pub layoutsIn : List ℕ
-layoutsIn = map (λ r. r.layout) (profileRows 1 categories)
+unfoldable pub layouts_in : List ℕ
+layouts_in = map (λ r. r.layout) (profile_rows 1 categories)
 
-unfoldable pub referencesIn : List ℕ
-referencesIn = map (λ r. r.reference) (profileRows 1 categories)
+unfoldable pub references_in : List ℕ
+references_in = map (λ r. r.reference) (profile_rows 1 categories)
 
 -- ---- what the rows stand for
 
-abbrev pub groupIs : GroupRow → Group
-groupIs r = group r.octets (slice r.first r.end fields)
+abbrev pub group_is : GroupRow → Group
+group_is r = group r.octets (slice r.first r.end fields)
 
-unfoldable pub formatBy : ℕ → ℕ → ℕ → Group → List Group → Option Format
-formatBy zero lo hi g gs = none
-formatBy (suc zero) lo hi g gs = some (fixed g)
-formatBy (suc (suc zero)) lo hi g gs = some (repeated lo hi g)
-formatBy (suc (suc (suc zero))) lo hi g gs = some (led lo)
-formatBy (suc (suc (suc (suc zero)))) lo hi g gs = some (extended gs)
-formatBy (suc (suc (suc (suc (suc k))))) lo hi g gs = none
+unfoldable pub format_by : ℕ → ℕ → ℕ → Group → List Group → Option Format
+format_by zero lo hi g gs = none
+format_by (suc zero) lo hi g gs = some (fixed g)
+format_by (suc (suc zero)) lo hi g gs = some (repeated lo hi g)
+format_by (suc (suc (suc zero))) lo hi g gs = some (led lo)
+format_by (suc (suc (suc (suc zero)))) lo hi g gs = some (extended gs)
+format_by (suc (suc (suc (suc (suc k))))) lo hi g gs = none
 
 -- a row of parts has a format
-unfoldable pub formatIs : LayoutRow → Option Format
-formatIs r = formatBy r.kind r.least r.most (groupIs (groupAt r.first)) (slice r.first r.end (map groupIs (groupRows 0 groups)))
+unfoldable pub format_is : LayoutRow → Option Format
+format_is r = format_by r.kind r.least r.most (group_is (group_at r.first)) (slice r.first r.end (map group_is (group_rows 0 groups)))
 
 -- the formats at the bits of so many primary octets, the first of them at a place
-abbrev pub bitsIs : ℕ → ℕ → List (Option Format)
-bitsIs zero i = []
-bitsIs (suc n) i = formatIs (layoutAt (subfieldAt i)) ∷ bitsIs n (i + 1)
+abbrev pub bits_is : ℕ → ℕ → List (Option Format)
+bits_is zero i = []
+bits_is (suc n) i = format_is (layout_at (subfield_at i)) ∷ bits_is n (i + 1)
 
-abbrev pub primariesIs : ℕ → ℕ → List (List (Option Format))
-primariesIs zero j = []
-primariesIs (suc n) j = bitsIs 7 (7 * j) ∷ primariesIs n (j + 1)
+abbrev pub primaries_is : ℕ → ℕ → List (List (Option Format))
+primaries_is zero j = []
+primaries_is (suc n) j = bits_is 7 (7 * j) ∷ primaries_is n (j + 1)
 
-abbrev pub asPlain : Option Format → Option Layout
-asPlain none = none
-asPlain (some s) = some (plain s)
+abbrev pub as_plain : Option Format → Option Layout
+as_plain none = none
+as_plain (some s) = some (plain s)
 
-unfoldable pub layoutIs : LayoutRow → Option Layout
-layoutIs r = cond (eqb r.kind 5) (some (compound (primariesIs (r.end - r.first) r.first))) (asPlain (formatIs r))
+unfoldable pub layout_is : LayoutRow → Option Layout
+layout_is r = cond (eqb r.kind 5) (some (compound (primaries_is (r.end - r.first) r.first))) (as_plain (format_is r))
 
 abbrev pub with : ℕ → Option Layout → Option Place
 with r none = none
 with r (some l) = at r l
 
-unfoldable pub placeIs : PlaceRow → Option Place
-placeIs r = with r.reference (layoutIs (layoutAt r.layout))
+unfoldable pub place_is : PlaceRow → Option Place
+place_is r = with r.reference (layout_is (layout_at r.layout))

@@ -2,8 +2,8 @@
 // read, so the check reads octets, and leaves a field that has no rule alone. The contracts tie each table, whole, to the rules' profiles.
 ghost use Rattle.std.specs.Prelude.{◌≡◌, ◌≤◌, ◌<◌, ◌^◌, get_or};
 ghost use Rattle.std.proofs.Math.Seq.{slice};
-ghost use Rattle.tables.specs.Tables.{groupCount, placeCount, groupAt};
-ghost use Rattle.tables.specs.FieldRules.{ruleCount, obeys, allObeyed, rules, ruleAt, firstRule, ruleWords, addedTo, limits, sizes, singles};
+ghost use Rattle.tables.specs.Tables.{group_count, place_count, group_at};
+ghost use Rattle.tables.specs.FieldRules.{rule_count, obeys, all_obeyed, rules, rule_at, first_rule, rule_words, added_to, limits, sizes, singles};
 
 // Rules, group after group: how many bits stand below the field _ how many it has.
 // ---- made by model/make.py: RULES
@@ -459,42 +459,42 @@ const SINGLE: [u8; 108] = [
 // ---- end of what is made
 
 fn rule_word(place: usize) -> u16
-    requires { place < ruleCount }
-    ensures { result ≡ get_or ruleWords place 0 }
+    requires { place < rule_count }
+    ensures { result ≡ get_or rule_words place 0 }
 {
     RULES[place]
 }
 
 fn added_at(place: usize) -> u32
-    requires { place < ruleCount }
-    ensures { result ≡ get_or addedTo place 0 }
+    requires { place < rule_count }
+    ensures { result ≡ get_or added_to place 0 }
 {
     ADDED[place]
 }
 
 fn limit_at(place: usize) -> u32
-    requires { place < ruleCount }
+    requires { place < rule_count }
     ensures { result ≡ get_or limits place 0 }
 {
     LIMITS[place]
 }
 
 fn size_in(group: usize) -> u8
-    requires { group < groupCount }
+    requires { group < group_count }
     ensures { result ≡ get_or sizes group 0 }
 {
     SIZES[group]
 }
 
 fn first_in(group: usize) -> u8
-    requires { group ≤ groupCount }
-    ensures { result ≡ firstRule group }
+    requires { group ≤ group_count }
+    ensures { result ≡ first_rule group }
 {
     FIRST_RULES[group]
 }
 
 fn single_in(place: usize) -> u8
-    requires { place < placeCount }
+    requires { place < place_count }
     ensures { result ≡ get_or singles place 0 }
 {
     SINGLE[place]
@@ -502,31 +502,31 @@ fn single_in(place: usize) -> u8
 
 // How many octets a part of a group has.
 pub fn size_at(group: usize) -> usize
-    requires { group < groupCount }
-    ensures { result ≡ (groupAt group).octets }
+    requires { group < group_count }
+    ensures { result ≡ (group_at group).octets }
 {
     size_in(group) as usize
 }
 
 // The place of a group's first rule; of the last group's next, the end.
 pub fn first_rule(group: usize) -> usize
-    requires { group ≤ groupCount }
-    ensures { result ≡ firstRule group }
+    requires { group ≤ group_count }
+    ensures { result ≡ first_rule group }
 {
     first_in(group) as usize
 }
 
 // Whether a group is free: it has no rule.
 pub fn is_free(group: usize) -> bool
-    requires { group < groupCount }
-    ensures { result ≡ (groupAt group).free }
+    requires { group < group_count }
+    ensures { result ≡ (group_at group).free }
 {
     first_rule(group + 1) <= first_rule(group)
 }
 
 // Of an item with one part, its octets, at most 7, where it is free, or 8 more than its group; else 0.
 pub fn single_at(place: usize) -> usize
-    requires { place < placeCount }
+    requires { place < place_count }
     ensures { result ≡ get_or singles place 0 }
 {
     single_in(place) as usize
@@ -542,8 +542,8 @@ pub fn pow2(k: u64) -> u64
 
 // Whether a number obeys a rule.
 fn is_obeyed(rule: usize, n: u64) -> bool
-    requires { rule < ruleCount }
-    ensures { result ≡ obeys (ruleAt rule) n }
+    requires { rule < rule_count }
+    ensures { result ≡ obeys (rule_at rule) n }
 {
     let w = rule_word(rule);
     let codes = pow2((w % 100) as u64);
@@ -553,8 +553,8 @@ fn is_obeyed(rule: usize, n: u64) -> bool
 
 // Whether a number obeys each rule from a place to before a place.
 pub fn are_obeyed(n: u64, first: usize, end: usize) -> bool
-    requires { end ≤ ruleCount }
-    ensures { result ≡ allObeyed (slice first end rules) n }
+    requires { end ≤ rule_count }
+    ensures { result ≡ all_obeyed (slice first end rules) n }
 {
     let mut i = first;
     while i < end {

@@ -2,7 +2,7 @@
 // a whole; its items are in tables.rt.
 ghost use Rattle.std.specs.Prelude.{◌≡◌, ◌≤◌};
 ghost use Rattle.rules.specs.Catalogue.{categories};
-ghost use Rattle.tables.specs.Profiles.{profileIn, profileRowAt};
+ghost use Rattle.tables.specs.Profiles.{profile_in, profile_row_at};
 
 use crate::tables::PROFILES;
 
@@ -40,7 +40,7 @@ const UNTIMED: [u8; 3] = [0, 0x41, 0];
 
 // The row of a profile, all zeros where there is none.
 pub fn profile_row(profile: usize) -> ProfileRow
-    ensures { result ≡ profileRowAt profile }
+    ensures { result ≡ profile_row_at profile }
 {
     if profile < PROFILES {
         return ProfileRow {
@@ -64,7 +64,7 @@ pub fn profile_row(profile: usize) -> ProfileRow
 
 // The profile of a category, by its CAT: past the last for any other category.
 pub fn profile_of(cat: u8) -> usize
-    ensures { result ≡ profileIn cat categories }
+    ensures { result ≡ profile_in cat categories }
 {
     let mut profile: usize = 0;
     while profile < PROFILES {

@@ -2,7 +2,7 @@
 // document; Table 2 of category 017, 5.3.1; Table 9 of category 018, 5.3.1; Table 3 of category 061, 5.3). Profile 0 is category 017, edition
 // 1.3; profile 1 is category 018, edition 1.6; profile 2 is category 061, edition 1.2. Rows stand in the order of the profiles, FRN by FRN; the contracts tie each table, whole, to the rules' profiles.
 ghost use Rattle.std.specs.Prelude.{◌≡◌, ◌<◌, get_or, pos};
-ghost use Rattle.tables.specs.Tables.{fieldCount, rangeCount, groupCount, layoutCount, placeCount, primaryCount, subfieldCount, field_at, groupAt, layoutAt, placeRowAt, least, greatest, fieldWords, groupWords, layoutWords, layoutsIn, referencesIn, primariesIn, subfieldsIn, primaryAt, subfieldAt};
+ghost use Rattle.tables.specs.Tables.{field_count, range_count, group_count, layout_count, place_count, primary_count, subfield_count, field_at, group_at, layout_at, place_row_at, least, greatest, field_words, group_words, layout_words, layouts_in, references_in, primaries_in, subfields_in, primary_at, subfield_at};
 
 // What a field holds: a number, a number in two's complement, or zero.
 pub const UNSIGNED: u8 = 0;
@@ -958,8 +958,8 @@ const SUBFIELDS: [u8; 42] = [
 // A constant array is written out where it is read; so that the last category's rows cost the others nothing, the long tables are in two.
 
 fn field_word(place: usize) -> u16
-    requires { place < fieldCount }
-    ensures { result ≡ get_or fieldWords place 0 }
+    requires { place < field_count }
+    ensures { result ≡ get_or field_words place 0 }
 {
     if place < FIELDS_CUT {
         return FIELDS[place];
@@ -968,22 +968,22 @@ fn field_word(place: usize) -> u16
 }
 
 fn least_at(place: usize) -> i64
-    requires { place < rangeCount }
+    requires { place < range_count }
     ensures { result ≡ get_or least place (pos 0) }
 {
     LEAST[place]
 }
 
 fn greatest_at(place: usize) -> i64
-    requires { place < rangeCount }
+    requires { place < range_count }
     ensures { result ≡ get_or greatest place (pos 0) }
 {
     GREATEST[place]
 }
 
 fn group_word(place: usize) -> u32
-    requires { place < groupCount }
-    ensures { result ≡ get_or groupWords place 0 }
+    requires { place < group_count }
+    ensures { result ≡ get_or group_words place 0 }
 {
     if place < GROUPS_CUT {
         return GROUPS[place];
@@ -992,8 +992,8 @@ fn group_word(place: usize) -> u32
 }
 
 fn layout_word(place: usize) -> u32
-    requires { place < layoutCount }
-    ensures { result ≡ get_or layoutWords place 0 }
+    requires { place < layout_count }
+    ensures { result ≡ get_or layout_words place 0 }
 {
     if place < LAYOUTS_CUT {
         return LAYOUTS[place];
@@ -1002,8 +1002,8 @@ fn layout_word(place: usize) -> u32
 }
 
 fn layout_in(place: usize) -> u8
-    requires { place < placeCount }
-    ensures { result ≡ get_or layoutsIn place 0 }
+    requires { place < place_count }
+    ensures { result ≡ get_or layouts_in place 0 }
 {
     if place < PLACES_CUT {
         return PLACES[place];
@@ -1012,8 +1012,8 @@ fn layout_in(place: usize) -> u8
 }
 
 fn reference_in(place: usize) -> u16
-    requires { place < placeCount }
-    ensures { result ≡ get_or referencesIn place 0 }
+    requires { place < place_count }
+    ensures { result ≡ get_or references_in place 0 }
 {
     if place < REFERENCES_CUT {
         return REFERENCES[place];
@@ -1022,21 +1022,21 @@ fn reference_in(place: usize) -> u16
 }
 
 fn primary_in(place: usize) -> u8
-    requires { place < primaryCount }
-    ensures { result ≡ get_or primariesIn place 0 }
+    requires { place < primary_count }
+    ensures { result ≡ get_or primaries_in place 0 }
 {
     PRIMARIES[place]
 }
 
 fn subfield_in(place: usize) -> u8
-    requires { place < subfieldCount }
-    ensures { result ≡ get_or subfieldsIn place 0 }
+    requires { place < subfield_count }
+    ensures { result ≡ get_or subfields_in place 0 }
 {
     SUBFIELDS[place]
 }
 
 pub fn field_at(place: usize) -> FieldRow
-    requires { place < fieldCount }
+    requires { place < field_count }
     ensures { result ≡ field_at place }
 {
     let w = field_word(place);
@@ -1050,8 +1050,8 @@ pub fn field_at(place: usize) -> FieldRow
 }
 
 pub fn group_at(place: usize) -> GroupRow
-    requires { place < groupCount }
-    ensures { result ≡ groupAt place }
+    requires { place < group_count }
+    ensures { result ≡ group_at place }
 {
     let w = group_word(place);
     let first = (w / 100_000 % 1_000) as usize;
@@ -1065,8 +1065,8 @@ pub fn group_at(place: usize) -> GroupRow
 }
 
 pub fn layout_at(place: usize) -> LayoutRow
-    requires { place < layoutCount }
-    ensures { result ≡ layoutAt place }
+    requires { place < layout_count }
+    ensures { result ≡ layout_at place }
 {
     let w = layout_word(place);
     let first = (w / 10 % 1_000) as usize;
@@ -1081,31 +1081,31 @@ pub fn layout_at(place: usize) -> LayoutRow
 
 // The place of the layout alone.
 pub fn layout_row(place: usize) -> usize
-    requires { place < placeCount }
-    ensures { result ≡ (placeRowAt place).layout }
+    requires { place < place_count }
+    ensures { result ≡ (place_row_at place).layout }
 {
     layout_in(place) as usize
 }
 
 // The bits of a primary octet that have a subfield, FX apart.
 pub fn primary_at(place: usize) -> u8
-    requires { place < primaryCount }
-    ensures { result ≡ primaryAt place }
+    requires { place < primary_count }
+    ensures { result ≡ primary_at place }
 {
     primary_in(place)
 }
 
 // The place of the layout of a subfield, 0 where a bit has none.
 pub fn subfield_at(place: usize) -> usize
-    requires { place < subfieldCount }
-    ensures { (result ≡ subfieldAt place) × (result < layoutCount) }
+    requires { place < subfield_count }
+    ensures { (result ≡ subfield_at place) × (result < layout_count) }
 {
     subfield_in(place) as usize
 }
 
 pub fn place_at(place: usize) -> PlaceRow
-    requires { place < placeCount }
-    ensures { result ≡ placeRowAt place }
+    requires { place < place_count }
+    ensures { result ≡ place_row_at place }
 {
     PlaceRow {
         layout: layout_in(place) as usize,

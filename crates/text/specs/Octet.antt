@@ -2,17 +2,17 @@
 use Rattle.std.specs.Prelude.{ℕ, ◌+◌, ◌/◌, ◌%◌, cond, List, [], ◌∷◌, ◌++◌, ltb}
 use Rattle.text.specs.Page.{codes}
 
-abbrev pub glyphOf : ℕ → ℕ
-glyphOf d = cond (ltb d 10) (48 + d) (55 + d)
+abbrev pub glyph_of : ℕ → ℕ
+glyph_of d = cond (ltb d 10) (48 + d) (55 + d)
 
-abbrev pub octetText : ℕ → List ℕ
-octetText b = glyphOf (b / 16) ∷ (glyphOf (b % 16) ∷ [])
+abbrev pub octet_text : ℕ → List ℕ
+octet_text b = glyph_of (b / 16) ∷ (glyph_of (b % 16) ∷ [])
 
-unfoldable pub hexText : List ℕ → List ℕ
-hexText [] = []
-hexText (b ∷ bs) = octetText b ++ hexText bs
+unfoldable pub hex_text : List ℕ → List ℕ
+hex_text [] = []
+hex_text (b ∷ bs) = octet_text b ++ hex_text bs
 
 -- a minus alone stands for none
-unfoldable pub octetsText : List ℕ → List ℕ
-octetsText [] = codes "-"
-octetsText (b ∷ bs) = hexText (b ∷ bs)
+unfoldable pub octets_text : List ℕ → List ℕ
+octets_text [] = codes "-"
+octets_text (b ∷ bs) = hex_text (b ∷ bs)

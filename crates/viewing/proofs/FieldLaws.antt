@@ -16,143 +16,143 @@ use Rattle.rules.specs.declared.Shape.TheVariants.{Whole, InLog}
 use Rattle.rules.specs.declared.Edition.{Edition}
 use lib.ListN.{length, take, drop, get_or, length-drop}
 use lib.Seq.{length-take-le, get_or-take, get_or-drop, drop-cons}
-use Rattle.rules.specs.Mark.{size, number4, marksIn}
+use Rattle.rules.specs.Mark.{size, number4, marks_in}
 use Rattle.rules.specs.Merge.{in_range}
-use Rattle.rules.specs.Sheet.{editionOf, offset_of, bodyLength, fieldLength, readField, readEdition, readOffset, readList}
-use Rattle.rules.proofs.AnswerLaws.{ok-inj, need-elim}
+use Rattle.rules.specs.Sheet.{edition_of, offset_of, body_length, field_length, read_field, read_edition, read_offset, read_list}
+use Rattle.rules.proofs.AnswerLaws.{ok_inj, need_elim}
 use Rattle.rules.proofs.Codec.{decide}
 use Rattle.marks.specs.declared.Tally.{Tally}
 use Rattle.marks.specs.Lists.{passing, tally}
-use Rattle.marks.proofs.MarkSteps.{fault-in, marks-pass}
+use Rattle.marks.proofs.MarkSteps.{fault_in, marks_pass}
 use Rattle.viewing.specs.Read.{fmap, value}
 
 -- ---- the length of a field's body
 module _ (t : ℕ) (bs : List ℕ) where
-  pub field-none : length bs ≡ 0 → refused 31 0 ≡ fieldLength t bs
-  unfolding fieldLength need◌or◌then◌
-  field-none h = rw (h)
+  pub field_none : length bs ≡ 0 → refused 31 0 ≡ field_length t bs
+  unfolding field_length need◌or◌then◌
+  field_none h = rw (h)
 
-  pub field-head : (length bs ≡ 0 → ⊥) → length bs < 3 → refused 30 0 ≡ fieldLength t bs
-  unfolding fieldLength need◌or◌then◌
-  field-head n h = rw (lt-ltb 0 (length bs) (omega arith), lt-leb 3 (length bs) h)
+  pub field_head : (length bs ≡ 0 → ⊥) → length bs < 3 → refused 30 0 ≡ field_length t bs
+  unfolding field_length need◌or◌then◌
+  field_head n h = rw (lt-ltb 0 (length bs) (omega arith), lt-leb 3 (length bs) h)
 
-  pub field_cut : (n : ℕ) → 3 ≤ length bs → n ≡ bodyLength bs → length bs < 3 + n → refused 30 0 ≡ fieldLength t bs
-  unfolding fieldLength need◌or◌then◌
-  field_cut n l e h = rw (lt-ltb 0 (length bs) (omega arith), le-leb 3 (length bs) l, lt-leb (3 + bodyLength bs) (length bs) (omega arith))
+  pub field_cut : (n : ℕ) → 3 ≤ length bs → n ≡ body_length bs → length bs < 3 + n → refused 30 0 ≡ field_length t bs
+  unfolding field_length need◌or◌then◌
+  field_cut n l e h = rw (lt-ltb 0 (length bs) (omega arith), le-leb 3 (length bs) l, lt-leb (3 + body_length bs) (length bs) (omega arith))
 
-  pub field-tag : (n : ℕ) → 3 ≤ length bs → n ≡ bodyLength bs → 3 + n ≤ length bs → (get_or bs 0 0 ≡ t → ⊥) → refused 31 0 ≡ fieldLength t bs
-  unfolding fieldLength need◌or◌then◌
-  field-tag n l e h d =
-      rw (lt-ltb 0 (length bs) (omega arith), le-leb 3 (length bs) l, le-leb (3 + bodyLength bs) (length bs) (omega arith), ne_eqb (get_or bs 0 0) t d)
+  pub field_tag : (n : ℕ) → 3 ≤ length bs → n ≡ body_length bs → 3 + n ≤ length bs → (get_or bs 0 0 ≡ t → ⊥) → refused 31 0 ≡ field_length t bs
+  unfolding field_length need◌or◌then◌
+  field_tag n l e h d =
+      rw (lt-ltb 0 (length bs) (omega arith), le-leb 3 (length bs) l, le-leb (3 + body_length bs) (length bs) (omega arith), ne_eqb (get_or bs 0 0) t d)
 
-  pub field-whole : (n : ℕ) → 3 ≤ length bs → n ≡ bodyLength bs → 3 + n ≤ length bs → get_or bs 0 0 ≡ t → ok n ≡ fieldLength t bs
-  unfolding fieldLength need◌or◌then◌
-  field-whole n l e h d =
-      rw (lt-ltb 0 (length bs) (omega arith), le-leb 3 (length bs) l, le-leb (3 + bodyLength bs) (length bs) (omega arith), eq-eqb (get_or bs 0 0) t d) (ap ok e)
+  pub field_whole : (n : ℕ) → 3 ≤ length bs → n ≡ body_length bs → 3 + n ≤ length bs → get_or bs 0 0 ≡ t → ok n ≡ field_length t bs
+  unfolding field_length need◌or◌then◌
+  field_whole n l e h d =
+      rw (lt-ltb 0 (length bs) (omega arith), le-leb 3 (length bs) l, le-leb (3 + body_length bs) (length bs) (omega arith), eq-eqb (get_or bs 0 0) t d) (ap ok e)
 
-  pub field_fits : (n : ℕ) → fieldLength t bs ≡ ok n → 3 + n ≤ length bs
-  unfolding fieldLength
-  field_fits n h =
-      need-elim _ _ _ h λ p₁ h₁.
-      need-elim _ _ _ h₁ λ p₂ h₂.
-      need-elim _ _ _ h₂ λ p₃ h₃.
-      need-elim _ _ _ h₃ λ p₄ h₄.
-      let e : bodyLength bs ≡ n = ok-inj h₄ in
-      omega (arith, leb→le (3 + bodyLength bs) (length bs) p₃)
+  pub field_fits_lem : (n : ℕ) → field_length t bs ≡ ok n → 3 + n ≤ length bs
+  unfolding field_length
+  field_fits_lem n h =
+      need_elim _ _ _ h λ p₁ h₁.
+      need_elim _ _ _ h₁ λ p₂ h₂.
+      need_elim _ _ _ h₂ λ p₃ h₃.
+      need_elim _ _ _ h₃ λ p₄ h₄.
+      let e : body_length bs ≡ n = ok_inj h₄ in
+      omega (arith, leb→le (3 + body_length bs) (length bs) p₃)
 
-  pub body-length : (n : ℕ) → fieldLength t bs ≡ ok n → length (take n (drop 3 bs)) ≡ n
-  body-length n h = length-take-le n (drop 3 bs) (omega (arith, length-drop 3 bs, field_fits n h))
+  pub body_length_lem : (n : ℕ) → field_length t bs ≡ ok n → length (take n (drop 3 bs)) ≡ n
+  body_length_lem n h = length-take-le n (drop 3 bs) (omega (arith, length-drop 3 bs, field_fits_lem n h))
 
-pub field-refused : {A : Type 0} (t : ℕ) (bs : List ℕ) (k p : ℕ) (f : List ℕ × List ℕ → Answer A) → refused k p ≡ fieldLength t bs → (readField t bs >>= f) ≡ refused k p
-unfolding readField ◌>>=◌
-field-refused t bs k p f h = rw (← h)
+pub field_refused : {A : Type 0} (t : ℕ) (bs : List ℕ) (k p : ℕ) (f : List ℕ × List ℕ → Answer A) → refused k p ≡ field_length t bs → (read_field t bs >>= f) ≡ refused k p
+unfolding read_field ◌>>=◌
+field_refused t bs k p f h = rw (← h)
 
-pub field-read : {A : Type 0} (t : ℕ) (bs : List ℕ) (n : ℕ) (f : List ℕ × List ℕ → Answer A) → ok n ≡ fieldLength t bs → (readField t bs >>= f) ≡ f (take n (drop 3 bs), drop (3 + n) bs)
-unfolding readField ◌>>=◌
-field-read t bs n f h = rw (← h)
+pub field_read : {A : Type 0} (t : ℕ) (bs : List ℕ) (n : ℕ) (f : List ℕ × List ℕ → Answer A) → ok n ≡ field_length t bs → (read_field t bs >>= f) ≡ f (take n (drop 3 bs), drop (3 + n) bs)
+unfolding read_field ◌>>=◌
+field_read t bs n f h = rw (← h)
 
-drop-rest : {A : Type 0} (m : Answer A) (r : List ℕ) → value (m >>= (λ e. ok (e, r))) ≡ m
+drop_rest : {A : Type 0} (m : Answer A) (r : List ℕ) → value (m >>= (λ e. ok (e, r))) ≡ m
 unfolding fmap ◌>>=◌
-drop-rest (ok a) r = refl
-drop-rest (refused k p) r = refl
+drop_rest (ok a) r = refl
+drop_rest (refused k p) r = refl
 
-need-rest : (t : Bool) (z : ℤ) (r : List ℕ) → value (need t or 33 then ok (z, r)) ≡ (need t or 33 then ok z)
+need_rest : (t : Bool) (z : ℤ) (r : List ℕ) → value (need t or 33 then ok (z, r)) ≡ (need t or 33 then ok z)
 unfolding fmap need◌or◌then◌
-need-rest true z r = refl
-need-rest false z r = refl
+need_rest true z r = refl
+need_rest false z r = refl
 
 -- ---- the edition
 module _ (es : List Edition) (bs : List ℕ) where
-  pub edition-refused : (k p : ℕ) → refused k p ≡ fieldLength 1 bs → refused k p ≡ value (readEdition es bs)
-  unfolding readEdition fmap
-  edition-refused k p h = rw (field-refused 1 bs k p _ h)
+  pub edition_refused : (k p : ℕ) → refused k p ≡ field_length 1 bs → refused k p ≡ value (read_edition es bs)
+  unfolding read_edition fmap
+  edition_refused k p h = rw (field_refused 1 bs k p _ h)
 
-  pub edition-length : (n : ℕ) → ok n ≡ fieldLength 1 bs → (n ≡ 1 → ⊥) → refused 32 0 ≡ value (readEdition es bs)
-  unfolding readEdition fmap need◌or◌then◌
-  edition-length n h d = rw (field-read 1 bs n _ h, body-length 1 bs n (sym h), ne_eqb n 1 d)
+  pub edition_length : (n : ℕ) → ok n ≡ field_length 1 bs → (n ≡ 1 → ⊥) → refused 32 0 ≡ value (read_edition es bs)
+  unfolding read_edition fmap need◌or◌then◌
+  edition_length n h d = rw (field_read 1 bs n _ h, body_length_lem 1 bs n (sym h), ne_eqb n 1 d)
 
-  pub edition-value : (n : ℕ) → ok n ≡ fieldLength 1 bs → n ≡ 1 → value (readEdition es bs) ≡ editionOf es (get_or bs 3 0)
-  unfolding readEdition fmap need◌or◌then◌
-  edition-value n h d =
+  pub edition_value : (n : ℕ) → ok n ≡ field_length 1 bs → n ≡ 1 → value (read_edition es bs) ≡ edition_of es (get_or bs 3 0)
+  unfolding read_edition fmap need◌or◌then◌
+  edition_value n h d =
       let g : get_or (take n (drop 3 bs)) 0 0 ≡ get_or bs 3 0 = get_or-take n (drop 3 bs) 0 0 (omega arith) ∙ get_or-drop 3 bs 0 0 in
-      rw (field-read 1 bs n _ h, body-length 1 bs n (sym h), eq-eqb n 1 d, g) (drop-rest (editionOf es (get_or bs 3 0)) (drop (3 + n) bs))
+      rw (field_read 1 bs n _ h, body_length_lem 1 bs n (sym h), eq-eqb n 1 d, g) (drop_rest (edition_of es (get_or bs 3 0)) (drop (3 + n) bs))
 
 -- the rows, one after another
 pub record Searched (es : List Edition) (n i : ℕ) : Type 0 where
   pub within : i ≤ length es
-  pub left : editionOf (drop i es) n ≡ editionOf es n
+  pub left : edition_of (drop i es) n ≡ edition_of es n
 
-pub searched-none : (es : List Edition) (n : ℕ) → Searched es n 0
-searched-none es n = record { within = omega arith; left = refl }
+pub searched_none : (es : List Edition) (n : ℕ) → Searched es n 0
+searched_none es n = record { within = omega arith; left = refl }
 
 module _ (es : List Edition) (n i : ℕ) (e d : Edition) (w : Searched es n i) (l : i < length es) (r : e ≡ get_or es i d) where
-  row_step : (if eqb n e.byte then ok e else editionOf (drop (suc i) es) n) ≡ editionOf es n
-  unfolding editionOf
-  row_step = ap (λ x. if eqb n x.byte then ok x else editionOf (drop (suc i) es) n) r ∙ ap (λ x. editionOf x n) (sym (drop-cons es i d l)) ∙ w.left
+  row_step : (if eqb n e.byte then ok e else edition_of (drop (suc i) es) n) ≡ edition_of es n
+  unfolding edition_of
+  row_step = ap (λ x. if eqb n x.byte then ok x else edition_of (drop (suc i) es) n) r ∙ ap (λ x. edition_of x n) (sym (drop-cons es i d l)) ∙ w.left
 
-  pub searched-here : e.byte ≡ n → ok e ≡ editionOf es n
+  pub searched_here : e.byte ≡ n → ok e ≡ edition_of es n
   unfolding if◌then◌else◌
-  searched-here h = rw (eq-eqb n e.byte (sym h)) at row_step
+  searched_here h = rw (eq-eqb n e.byte (sym h)) at row_step
 
-  pub searched-more : (e.byte ≡ n → ⊥) → Searched es n (i + 1)
+  pub searched_more : (e.byte ≡ n → ⊥) → Searched es n (i + 1)
   unfolding if◌then◌else◌
-  searched-more h =
+  searched_more h =
       let y : suc i ≡ i + 1 = omega arith in
-      record { within = omega arith; left = ap (λ k. editionOf (drop k es) n) (sym y) ∙ (rw (ne_eqb n e.byte (λ q. h (sym q))) at row_step) }
+      record { within = omega arith; left = ap (λ k. edition_of (drop k es) n) (sym y) ∙ (rw (ne_eqb n e.byte (λ q. h (sym q))) at row_step) }
 
-nil-of : (es : List Edition) (n : ℕ) → length es ≡ 0 → refused 33 0 ≡ editionOf es n
-unfolding editionOf
-nil-of [] n h = refl
-nil-of (e ∷ es) n h = absurd (omega arith)
+nil_of : (es : List Edition) (n : ℕ) → length es ≡ 0 → refused 33 0 ≡ edition_of es n
+unfolding edition_of
+nil_of [] n h = refl
+nil_of (e ∷ es) n h = absurd (omega arith)
 
-pub searched-all : (es : List Edition) (n i : ℕ) → Searched es n i → length es ≤ i → refused 33 0 ≡ editionOf es n
-searched-all es n i w l = nil-of (drop i es) n (omega (arith, length-drop i es)) ∙ w.left
+pub searched_all : (es : List Edition) (n i : ℕ) → Searched es n i → length es ≤ i → refused 33 0 ≡ edition_of es n
+searched_all es n i w l = nil_of (drop i es) n (omega (arith, length-drop i es)) ∙ w.left
 
 -- ---- the offset
 module _ (bs : List ℕ) where
-  pub offset-refused : (k p : ℕ) → refused k p ≡ fieldLength 2 bs → refused k p ≡ value (readOffset bs)
-  unfolding readOffset fmap
-  offset-refused k p h = rw (field-refused 2 bs k p _ h)
+  pub offset_refused : (k p : ℕ) → refused k p ≡ field_length 2 bs → refused k p ≡ value (read_offset bs)
+  unfolding read_offset fmap
+  offset_refused k p h = rw (field_refused 2 bs k p _ h)
 
-  pub offset-length : (n : ℕ) → ok n ≡ fieldLength 2 bs → (n ≡ 4 → ⊥) → refused 32 0 ≡ value (readOffset bs)
-  unfolding readOffset fmap need◌or◌then◌
-  offset-length n h d = rw (field-read 2 bs n _ h, body-length 2 bs n (sym h), ne_eqb n 4 d)
+  pub offset_length : (n : ℕ) → ok n ≡ field_length 2 bs → (n ≡ 4 → ⊥) → refused 32 0 ≡ value (read_offset bs)
+  unfolding read_offset fmap need◌or◌then◌
+  offset_length n h d = rw (field_read 2 bs n _ h, body_length_lem 2 bs n (sym h), ne_eqb n 4 d)
 
-  pub offset-value : (n c : ℕ) → ok n ≡ fieldLength 2 bs → n ≡ 4 → c ≡ number4 (take 4 (drop 3 bs)) → value (readOffset bs) ≡ (need in_range (offset_of c) or 33 then ok (offset_of c))
-  unfolding readOffset fmap need◌or◌then◌
-  offset-value n c h d e = rw (field-read 2 bs n _ h, body-length 2 bs n (sym h), eq-eqb n 4 d, d, ← e) (need-rest (in_range (offset_of c)) (offset_of c) (drop (3 + 4) bs))
+  pub offset_value : (n c : ℕ) → ok n ≡ field_length 2 bs → n ≡ 4 → c ≡ number4 (take 4 (drop 3 bs)) → value (read_offset bs) ≡ (need in_range (offset_of c) or 33 then ok (offset_of c))
+  unfolding read_offset fmap need◌or◌then◌
+  offset_value n c h d e = rw (field_read 2 bs n _ h, body_length_lem 2 bs n (sym h), eq-eqb n 4 d, d, ← e) (need_rest (in_range (offset_of c)) (offset_of c) (drop (3 + 4) bs))
 
 pub offset_up : (c : ℕ) → c ≤ 46080 → (need in_range (offset_of c) or 33 then ok (offset_of c)) ≡ ok (pos c)
 unfolding need◌or◌then◌
 offset_up c h = rw (lt-ltb c 2147483648 (omega arith), le-leb c 46080 h)
 
-pub offset-down : (c : ℕ) → 4294921216 ≤ c → c < 4294967296 → (need in_range (offset_of c) or 33 then ok (offset_of c)) ≡ ok (negsuc (4294967295 - c))
+pub offset_down : (c : ℕ) → 4294921216 ≤ c → c < 4294967296 → (need in_range (offset_of c) or 33 then ok (offset_of c)) ≡ ok (negsuc (4294967295 - c))
 unfolding need◌or◌then◌
-offset-down c h l = rw (le-ltb c 2147483648 (omega arith), le-leb (4294967295 - c) 46079 (omega arith))
+offset_down c h l = rw (le-ltb c 2147483648 (omega arith), le-leb (4294967295 - c) 46079 (omega arith))
 
-pub offset-barred : (c : ℕ) → 46080 < c → c < 4294921216 → (need in_range (offset_of c) or 33 then ok (offset_of c)) ≡ refused 33 0
+pub offset_barred : (c : ℕ) → 46080 < c → c < 4294921216 → (need in_range (offset_of c) or 33 then ok (offset_of c)) ≡ refused 33 0
 unfolding need◌or◌then◌
-offset-barred c h l = ⊎_elim
+offset_barred c h l = ⊎_elim
     (λ (e : ltb c 2147483648 ≡ true). rw (e, lt-leb c 46080 h))
     (λ (e : ltb c 2147483648 ≡ false). rw (e, lt-leb (4294967295 - c) 46079 (omega arith)))
     (decide (ltb c 2147483648))
@@ -166,29 +166,29 @@ parts_in Whole n i z e = rw e (omega arith, λ h. omega arith)
 parts_in (InLog l) n i z e = rw e (omega arith, λ h. omega arith)
 
 module _ (t : ℕ) (f : Shape) (limit : ℕ) (key : ℕ) (bs : List ℕ) where
-  pub list-room : (n z : ℕ) → ok n ≡ fieldLength t bs → z ≡ size f → n / z * size f ≤ length (take (3 + n - 3) (drop 3 bs))
-  list-room n z h e = rw (body_end n, body-length t bs n (sym h)) (parts_in f n 0 z e).0
+  pub list_room : (n z : ℕ) → ok n ≡ field_length t bs → z ≡ size f → n / z * size f ≤ length (take (3 + n - 3) (drop 3 bs))
+  list_room n z h e = rw (body_end n, body_length_lem t bs n (sym h)) (parts_in f n 0 z e).0
 
-  pub list-place : (n z i : ℕ) → ok n ≡ fieldLength t bs → z ≡ size f → i < n / z → 3 + i * z ≤ length bs
-  list-place n z i h e l = omega (arith, (parts_in f n i z e).1 l, field_fits t bs n (sym h))
+  pub list_place : (n z i : ℕ) → ok n ≡ field_length t bs → z ≡ size f → i < n / z → 3 + i * z ≤ length bs
+  list_place n z i h e l = omega (arith, (parts_in f n i z e).1 l, field_fits_lem t bs n (sym h))
 
   abbrev Tells : Answer Tally → Type 0
-  Tells r = r ≡ fmap (λ x. tally key x.0) (readList t f limit bs)
+  Tells r = r ≡ fmap (λ x. tally key x.0) (read_list t f limit bs)
 
-  pub list-refused : (k p : ℕ) → refused k p ≡ fieldLength t bs → Tells (refused k p)
-  unfolding readList fmap
-  list-refused k p h = rw (field-refused t bs k p _ h)
+  pub list_refused : (k p : ℕ) → refused k p ≡ field_length t bs → Tells (refused k p)
+  unfolding read_list fmap
+  list_refused k p h = rw (field_refused t bs k p _ h)
 
-  pub list_length : (n z : ℕ) → ok n ≡ fieldLength t bs → z ≡ size f → (n % z ≡ 0 → ⊥) → Tells (refused 32 0)
-  unfolding readList fmap need◌or◌then◌
-  list_length n z h e d = rw (field-read t bs n _ h, body-length t bs n (sym h), ← e, ne_eqb (n % z) 0 d)
+  pub list_length : (n z : ℕ) → ok n ≡ field_length t bs → z ≡ size f → (n % z ≡ 0 → ⊥) → Tells (refused 32 0)
+  unfolding read_list fmap need◌or◌then◌
+  list_length n z h e d = rw (field_read t bs n _ h, body_length_lem t bs n (sym h), ← e, ne_eqb (n % z) 0 d)
 
-  pub list-many : (n z : ℕ) → ok n ≡ fieldLength t bs → z ≡ size f → n % z ≡ 0 → limit < n / z → Tells (refused 34 0)
-  unfolding readList fmap need◌or◌then◌
-  list-many n z h e d l = rw (field-read t bs n _ h, body-length t bs n (sym h), ← e, eq-eqb (n % z) 0 d, lt-leb (n / z) limit l)
+  pub list_many : (n z : ℕ) → ok n ≡ field_length t bs → z ≡ size f → n % z ≡ 0 → limit < n / z → Tells (refused 34 0)
+  unfolding read_list fmap need◌or◌then◌
+  list_many n z h e d l = rw (field_read t bs n _ h, body_length_lem t bs n (sym h), ← e, eq-eqb (n % z) 0 d, lt-leb (n / z) limit l)
 
   -- the pass over the body
-  module _ (n z : ℕ) (a : Tally) (h : ok n ≡ fieldLength t bs) (e : z ≡ size f) (d : n % z ≡ 0) (l : n / z ≤ limit) (g : a ≡ tally key (passing f 0 (n / z) (take (3 + n - 3) (drop 3 bs)))) where
+  module _ (n z : ℕ) (a : Tally) (h : ok n ≡ field_length t bs) (e : z ≡ size f) (d : n % z ≡ 0) (l : n / z ≤ limit) (g : a ≡ tally key (passing f 0 (n / z) (take (3 + n - 3) (drop 3 bs)))) where
     passed : a ≡ tally key (passing f 0 (n / z) (take n (drop 3 bs)))
     passed = g ∙ ap (λ y. tally key (passing f 0 (n / z) (take y (drop 3 bs)))) (body_end n)
 
@@ -201,16 +201,16 @@ module _ (t : ℕ) (f : Shape) (limit : ℕ) (key : ℕ) (bs : List ℕ) where
     few : leb (n / size f) limit ≡ true
     few = ap (λ y. leb (n / y) limit) (sym e) ∙ le-leb (n / z) limit l
 
-    pub list-fault : a.count < n / z → Tells (refused 33 (3 + a.count * z))
-    unfolding readList fmap need◌or◌then◌ ◌>>=◌ later
-    list-fault k =
-        let x : marksIn f 0 (n / size f) (take n (drop 3 bs)) ≡ refused 33 (a.count * z) =
-        ap (λ y. marksIn f 0 (n / y) (take n (drop 3 bs))) (sym e) ∙ fault-in f 0 (n / z) (take n (drop 3 bs)) (omega (arith, many)) ∙ ap₂ (λ u v. refused 33 (u * v)) (sym many) (sym e) in
-        rw (field-read t bs n _ h, body-length t bs n (sym h), whole, few, x)
+    pub list_fault : a.count < n / z → Tells (refused 33 (3 + a.count * z))
+    unfolding read_list fmap need◌or◌then◌ ◌>>=◌ later
+    list_fault k =
+        let x : marks_in f 0 (n / size f) (take n (drop 3 bs)) ≡ refused 33 (a.count * z) =
+        ap (λ y. marks_in f 0 (n / y) (take n (drop 3 bs))) (sym e) ∙ fault_in f 0 (n / z) (take n (drop 3 bs)) (omega (arith, many)) ∙ ap₂ (λ u v. refused 33 (u * v)) (sym many) (sym e) in
+        rw (field_read t bs n _ h, body_length_lem t bs n (sym h), whole, few, x)
 
-    pub list-told : n / z ≤ a.count → Tells (ok a)
-    unfolding readList fmap need◌or◌then◌ ◌>>=◌ later
-    list-told k =
-        let (r, q) = marks-pass f 0 (n / z) (take n (drop 3 bs)) (omega (arith, many)) in
-        let x : marksIn f 0 (n / size f) (take n (drop 3 bs)) ≡ ok (passing f 0 (n / z) (take n (drop 3 bs))) = ap (λ y. marksIn f 0 (n / y) (take n (drop 3 bs))) (sym e) ∙ r in
-        rw (field-read t bs n _ h, body-length t bs n (sym h), whole, few, x) (ap ok passed)
+    pub list_told : n / z ≤ a.count → Tells (ok a)
+    unfolding read_list fmap need◌or◌then◌ ◌>>=◌ later
+    list_told k =
+        let (r, q) = marks_pass f 0 (n / z) (take n (drop 3 bs)) (omega (arith, many)) in
+        let x : marks_in f 0 (n / size f) (take n (drop 3 bs)) ≡ ok (passing f 0 (n / z) (take n (drop 3 bs))) = ap (λ y. marks_in f 0 (n / y) (take n (drop 3 bs))) (sym e) ∙ r in
+        rw (field_read t bs n _ h, body_length_lem t bs n (sym h), whole, few, x) (ap ok passed)

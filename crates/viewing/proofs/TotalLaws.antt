@@ -10,112 +10,112 @@ use Rattle.rules.specs.Answer.{Answer, ok, refused, need◌or◌then◌}
 use Rattle.rules.specs.declared.Mark.{Mark}
 use lib.ListN.{length, take, drop, get_or, length-drop}
 use lib.Seq.{drop-cons}
-use Rattle.rules.specs.Mark.{count, totalsFrom, totals}
-use Rattle.rules.specs.Sheet.{fieldLength, same, readTotal}
-use Rattle.rules.proofs.SheetSteps.{readTotals}
+use Rattle.rules.specs.Mark.{count, totals_from, totals}
+use Rattle.rules.specs.Sheet.{field_length, same, read_total}
+use Rattle.rules.proofs.SheetSteps.{read_totals}
 use Rattle.marks.specs.declared.Lists.{Lists}
 use Rattle.marks.specs.declared.Change.TheVariants.{Keep}
-use Rattle.marks.specs.Lists.{span, marksOf, newAt}
+use Rattle.marks.specs.Lists.{span, marks_of, new_at}
 use Rattle.marks.proofs.ChangedLaws.{kept}
 use Rattle.viewing.specs.Read.{fmap}
-use Rattle.viewing.proofs.FieldLaws.{field-refused, field-read, body-length, field_fits}
+use Rattle.viewing.proofs.FieldLaws.{field_refused, field_read, body_length_lem, field_fits_lem}
 
 pub record Agreed (ms : List Mark) (body : List ℕ) (j at : ℕ) : Type 0 where
   pub within : j ≤ 6
   pub place : at ≡ j * 2
-  pub left : same (drop at body) (totalsFrom j (6 - j) ms) ≡ same body (totals ms)
+  pub left : same (drop at body) (totals_from j (6 - j) ms) ≡ same body (totals ms)
 
-pub agreed-none : (ms : List Mark) (body : List ℕ) → Agreed ms body 0 0
-agreed-none ms body = record { within = omega arith; place = refl; left = refl }
+pub agreed_none : (ms : List Mark) (body : List ℕ) → Agreed ms body 0 0
+agreed_none ms body = record { within = omega arith; place = refl; left = refl }
 
-two-more : (body : List ℕ) (at : ℕ) → at + 1 < length body → drop at body ≡ get_or body at 0 ∷ get_or body (at + 1) 0 ∷ drop (at + 2) body
-two-more body at h =
+two_more : (body : List ℕ) (at : ℕ) → at + 1 < length body → drop at body ≡ get_or body at 0 ∷ get_or body (at + 1) 0 ∷ drop (at + 2) body
+two_more body at h =
     let e : suc at ≡ at + 1 = omega arith in
     let g : suc (at + 1) ≡ at + 2 = omega arith in
     drop-cons body at 0 (omega arith) ∙ ap (λ l. get_or body at 0 ∷ l) (ap (λ k. drop k body) e ∙ drop-cons body (at + 1) 0 h ∙ ap (λ k. get_or body (at + 1) 0 ∷ drop k body) g)
 
-total-step : (ms : List Mark) (j : ℕ) → j < 6 → totalsFrom j (6 - j) ms ≡ count j ms / 256 ∷ count j ms % 256 ∷ totalsFrom (j + 1) (6 - (j + 1)) ms
-unfolding totalsFrom
-total-step ms j h =
+total_step : (ms : List Mark) (j : ℕ) → j < 6 → totals_from j (6 - j) ms ≡ count j ms / 256 ∷ count j ms % 256 ∷ totals_from (j + 1) (6 - (j + 1)) ms
+unfolding totals_from
+total_step ms j h =
     let z : 6 - j ≡ suc (6 - (j + 1)) = omega arith in
     let y : suc j ≡ j + 1 = omega arith in
-    ap (λ n. totalsFrom j n ms) z ∙ ap (λ k. count j ms / 256 ∷ count j ms % 256 ∷ totalsFrom k (6 - (j + 1)) ms) y
+    ap (λ n. totals_from j n ms) z ∙ ap (λ k. count j ms / 256 ∷ count j ms % 256 ∷ totals_from k (6 - (j + 1)) ms) y
 
 same_step : (a b c d : ℕ) (x y : List ℕ) → same (a ∷ b ∷ x) (c ∷ d ∷ y) ≡ (eqb a c && (eqb b d && same x y))
 unfolding same
 same_step a b c d x y = refl
 
 module _ (ms : List Mark) (body : List ℕ) (j at : ℕ) (l : length body ≡ 12) (p : Agreed ms body j at) (h : j < 6) where
-  agreed-step : (eqb (get_or body at 0) (count j ms / 256) && (eqb (get_or body (at + 1) 0) (count j ms % 256) && same (drop (at + 2) body) (totalsFrom (j + 1) (6 - (j + 1)) ms))) ≡ same body (totals ms)
-  agreed-step = sym (same_step _ _ _ _ _ _) ∙ ap₂ same (sym (two-more body at (omega (arith, p.place)))) (sym (total-step ms j h)) ∙ p.left
+  agreed_step : (eqb (get_or body at 0) (count j ms / 256) && (eqb (get_or body (at + 1) 0) (count j ms % 256) && same (drop (at + 2) body) (totals_from (j + 1) (6 - (j + 1)) ms))) ≡ same body (totals ms)
+  agreed_step = sym (same_step _ _ _ _ _ _) ∙ ap₂ same (sym (two_more body at (omega (arith, p.place)))) (sym (total_step ms j h)) ∙ p.left
 
-  pub agreed-high : (n w : ℕ) → n ≡ count j ms → (w ≡ get_or body at 0) × (w < 256) → (w ≡ n / 256 → ⊥) → false ≡ same body (totals ms)
-  agreed-high n w e g d =
+  pub agreed_high : (n w : ℕ) → n ≡ count j ms → (w ≡ get_or body at 0) × (w < 256) → (w ≡ n / 256 → ⊥) → false ≡ same body (totals ms)
+  agreed_high n w e g d =
       let q : eqb (get_or body at 0) (count j ms / 256) ≡ false = ne_eqb _ _ (λ y. d (g.0 ∙ y ∙ ap (λ x. x / 256) (sym e))) in
-      rw q at agreed-step
+      rw q at agreed_step
 
-  pub agreed-low : (n w v : ℕ) → n ≡ count j ms → (w ≡ get_or body at 0) × (w < 256) → w ≡ n / 256 → (v ≡ get_or body (at + 1) 0) × (v < 256) → (v ≡ n % 256 → ⊥) → false ≡ same body (totals ms)
-  agreed-low n w v e g d f k =
+  pub agreed_low : (n w v : ℕ) → n ≡ count j ms → (w ≡ get_or body at 0) × (w < 256) → w ≡ n / 256 → (v ≡ get_or body (at + 1) 0) × (v < 256) → (v ≡ n % 256 → ⊥) → false ≡ same body (totals ms)
+  agreed_low n w v e g d f k =
       let q : eqb (get_or body at 0) (count j ms / 256) ≡ true = eq-eqb _ _ (sym g.0 ∙ d ∙ ap (λ x. x / 256) e) in
       let r : eqb (get_or body (at + 1) 0) (count j ms % 256) ≡ false = ne_eqb _ _ (λ y. k (f.0 ∙ y ∙ ap (λ x. x % 256) (sym e))) in
-      rw (q, r) at agreed-step
+      rw (q, r) at agreed_step
 
-  pub agreed-more : (n w v : ℕ) → n ≡ count j ms → (w ≡ get_or body at 0) × (w < 256) → w ≡ n / 256 → (v ≡ get_or body (at + 1) 0) × (v < 256) → v ≡ n % 256 → Agreed ms body (j + 1) (at + 2)
-  agreed-more n w v e g d f k =
+  pub agreed_more : (n w v : ℕ) → n ≡ count j ms → (w ≡ get_or body at 0) × (w < 256) → w ≡ n / 256 → (v ≡ get_or body (at + 1) 0) × (v < 256) → v ≡ n % 256 → Agreed ms body (j + 1) (at + 2)
+  agreed_more n w v e g d f k =
       let q : eqb (get_or body at 0) (count j ms / 256) ≡ true = eq-eqb _ _ (sym g.0 ∙ d ∙ ap (λ x. x / 256) e) in
       let r : eqb (get_or body (at + 1) 0) (count j ms % 256) ≡ true = eq-eqb _ _ (sym f.0 ∙ k ∙ ap (λ x. x % 256) e) in
-      record { within = omega arith; place = omega (arith, p.place); left = rw (q, r) at agreed-step }
+      record { within = omega arith; place = omega (arith, p.place); left = rw (q, r) at agreed_step }
 
-nil-of : (x : List ℕ) → length x ≡ 0 → x ≡ []
-nil-of [] h = refl
-nil-of (a ∷ x) h = absurd (omega arith)
+nil_of : (x : List ℕ) → length x ≡ 0 → x ≡ []
+nil_of [] h = refl
+nil_of (a ∷ x) h = absurd (omega arith)
 
-same-nil : true ≡ same [] []
+same_nil : true ≡ same [] []
 unfolding same
-same-nil = refl
+same_nil = refl
 
-none_left : (ms : List Mark) → totalsFrom 6 0 ms ≡ []
-unfolding totalsFrom
+none_left : (ms : List Mark) → totals_from 6 0 ms ≡ []
+unfolding totals_from
 none_left ms = refl
 
-pub agreed-all : (ms : List Mark) (body : List ℕ) (j at : ℕ) → length body ≡ 12 → Agreed ms body j at → 6 ≤ j → true ≡ same body (totals ms)
-agreed-all ms body j at l p h =
+pub agreed_all : (ms : List Mark) (body : List ℕ) (j at : ℕ) → length body ≡ 12 → Agreed ms body j at → 6 ≤ j → true ≡ same body (totals ms)
+agreed_all ms body j at l p h =
     let e : j ≡ 6 = omega (arith, p.within) in
-    let d : drop at body ≡ [] = nil-of (drop at body) (omega (arith, length-drop at body, p.place)) in
-    let t : totalsFrom j (6 - j) ms ≡ [] = ap (λ k. totalsFrom k (6 - k) ms) e ∙ none_left ms in
-    same-nil ∙ ap₂ same (sym d) (sym t) ∙ p.left
+    let d : drop at body ≡ [] = nil_of (drop at body) (omega (arith, length-drop at body, p.place)) in
+    let t : totals_from j (6 - j) ms ≡ [] = ap (λ k. totals_from k (6 - k) ms) e ∙ none_left ms in
+    same_nil ∙ ap₂ same (sym d) (sym t) ∙ p.left
 
 -- ---- the field
 module _ (ms : List Mark) (bs : List ℕ) where
   abbrev Says : Answer ℕ → Type 0
-  Says r = r ≡ fmap (λ x. 0) (readTotal 4 ms bs)
+  Says r = r ≡ fmap (λ x. 0) (read_total 4 ms bs)
 
-  pub total-refused : (k p : ℕ) → refused k p ≡ fieldLength 4 bs → Says (refused k p)
-  unfolding readTotal fmap
-  total-refused k p h = rw (field-refused 4 bs k p _ h)
+  pub total_refused : (k p : ℕ) → refused k p ≡ field_length 4 bs → Says (refused k p)
+  unfolding read_total fmap
+  total_refused k p h = rw (field_refused 4 bs k p _ h)
 
-  pub total-length : (n : ℕ) → ok n ≡ fieldLength 4 bs → (n ≡ 12 → ⊥) → Says (refused 32 0)
-  unfolding readTotal fmap need◌or◌then◌
-  total-length n h d = rw (field-read 4 bs n _ h, body-length 4 bs n (sym h), ne_eqb n 12 d)
+  pub total_length : (n : ℕ) → ok n ≡ field_length 4 bs → (n ≡ 12 → ⊥) → Says (refused 32 0)
+  unfolding read_total fmap need◌or◌then◌
+  total_length n h d = rw (field_read 4 bs n _ h, body_length_lem 4 bs n (sym h), ne_eqb n 12 d)
 
-  pub total-same : (n : ℕ) → ok n ≡ fieldLength 4 bs → n ≡ 12 → same (take 12 (drop 3 bs)) (totals ms) ≡ true → Says (ok 0)
-  unfolding readTotal fmap need◌or◌then◌
-  total-same n h d e = rw (field-read 4 bs n _ h, body-length 4 bs n (sym h), eq-eqb n 12 d, d, e)
+  pub total_same : (n : ℕ) → ok n ≡ field_length 4 bs → n ≡ 12 → same (take 12 (drop 3 bs)) (totals ms) ≡ true → Says (ok 0)
+  unfolding read_total fmap need◌or◌then◌
+  total_same n h d e = rw (field_read 4 bs n _ h, body_length_lem 4 bs n (sym h), eq-eqb n 12 d, d, e)
 
-  pub total-other : (n : ℕ) → ok n ≡ fieldLength 4 bs → n ≡ 12 → same (take 12 (drop 3 bs)) (totals ms) ≡ false → Says (refused 37 0)
-  unfolding readTotal fmap need◌or◌then◌
-  total-other n h d e = rw (field-read 4 bs n _ h, body-length 4 bs n (sym h), eq-eqb n 12 d, d, e)
+  pub total_other : (n : ℕ) → ok n ≡ field_length 4 bs → n ≡ 12 → same (take 12 (drop 3 bs)) (totals ms) ≡ false → Says (refused 37 0)
+  unfolding read_total fmap need◌or◌then◌
+  total_other n h d e = rw (field_read 4 bs n _ h, body_length_lem 4 bs n (sym h), eq-eqb n 12 d, d, e)
 
-  pub total_body : (n : ℕ) → ok n ≡ fieldLength 4 bs → n ≡ 12 → (length (take 12 (drop 3 bs)) ≡ 12) × (15 ≤ length bs)
-  total_body n h d = (ap (λ k. length (take k (drop 3 bs))) (sym d) ∙ body-length 4 bs n (sym h) ∙ d, omega (arith, field_fits 4 bs n (sym h)))
+  pub total_body : (n : ℕ) → ok n ≡ field_length 4 bs → n ≡ 12 → (length (take 12 (drop 3 bs)) ≡ 12) × (15 ≤ length bs)
+  total_body n h d = (ap (λ k. length (take k (drop 3 bs))) (sym d) ∙ body_length_lem 4 bs n (sym h) ∙ d, omega (arith, field_fits_lem 4 bs n (sym h)))
 
-pub totals-none : (t : Bool) (ms : List Mark) (bs : List ℕ) → t ≡ false → ◌≡◌ {A = Answer ℕ} (ok 0) (fmap (λ x. 0) (readTotals t ms bs))
-unfolding readTotals fmap
-totals-none t ms bs h = rw h
+pub totals_none : (t : Bool) (ms : List Mark) (bs : List ℕ) → t ≡ false → ◌≡◌ {A = Answer ℕ} (ok 0) (fmap (λ x. 0) (read_totals t ms bs))
+unfolding read_totals fmap
+totals_none t ms bs h = rw h
 
-pub totals-some : (t : Bool) (ms : List Mark) (bs : List ℕ) (r : Answer ℕ) → t ≡ true → r ≡ fmap (λ x. 0) (readTotal 4 ms bs) → r ≡ fmap (λ x. 0) (readTotals t ms bs)
-unfolding readTotals
-totals-some t ms bs r h k = rw h k
+pub totals_some : (t : Bool) (ms : List Mark) (bs : List ℕ) (r : Answer ℕ) → t ≡ true → r ≡ fmap (λ x. 0) (read_total 4 ms bs) → r ≡ fmap (λ x. 0) (read_totals t ms bs)
+unfolding read_totals
+totals_some t ms bs r h k = rw h k
 
-pub kept-count : (c : Lists) (s : List ℕ) (j n : ℕ) → (n ≡ count j (span (newAt Keep c s) 0 c.count)) × (n ≤ c.count) → n ≡ count j (marksOf c s)
-kept-count c s j n (h, l) = h ∙ ap (count j) (kept c s)
+pub kept_count : (c : Lists) (s : List ℕ) (j n : ℕ) → (n ≡ count j (span (new_at Keep c s) 0 c.count)) × (n ≤ c.count) → n ≡ count j (marks_of c s)
+kept_count c s j n (h, l) = h ∙ ap (count j) (kept c s)

@@ -22,8 +22,8 @@ use Rattle.viewing.specs.declared.SheetViewed.{SheetViewed}
 use Rattle.viewing.specs.declared.SheetViewed.TheVariants.{Accepted, Refused}
 
 -- what stands in no row
-abbrev pub noEdition : Edition
-noEdition = record { byte = 0; split = false; totals = false }
+abbrev pub no_edition : Edition
+no_edition = record { byte = 0; split = false; totals = false }
 
 -- an answer's value, put another way
 unfoldable pub fmap : {A B : Type 0} → (A → B) → Answer A → Answer B
@@ -34,38 +34,38 @@ fmap f (refused n p) = refused n p
 abbrev pub value : {A : Type 0} → Answer (A × List ℕ) → Answer A
 value r = fmap (λ x. x.0) r
 
-abbrev pub countAnswer : Counted → Answer ℕ
-countAnswer (Count n) = ok n
-countAnswer (Fault k p) = refused k p
+abbrev pub count_answer : Counted → Answer ℕ
+count_answer (Count n) = ok n
+count_answer (Fault k p) = refused k p
 
-abbrev pub editionAnswer : EditionRead → Answer Edition
-editionAnswer (Known e) = ok e
-editionAnswer (Unread k p) = refused k p
+abbrev pub edition_answer : EditionRead → Answer Edition
+edition_answer (Known e) = ok e
+edition_answer (Unread k p) = refused k p
 
-abbrev pub offsetAnswer : OffsetRead → Answer ℤ
-offsetAnswer (Units z) = ok z
-offsetAnswer (Barred k p) = refused k p
+abbrev pub offset_answer : OffsetRead → Answer ℤ
+offset_answer (Units z) = ok z
+offset_answer (Barred k p) = refused k p
 
-abbrev pub listAnswer : Listed → Answer Tally
-listAnswer (listed.Marks t) = ok t
-listAnswer (listed.Fault k p) = refused k p
+abbrev pub list_answer : Listed → Answer Tally
+list_answer (listed.Marks t) = ok t
+list_answer (listed.Fault k p) = refused k p
 
-abbrev pub marksAnswer : MarksRead → Answer Marked
-marksAnswer (Marks m) = ok m
-marksAnswer (Stopped k p) = refused k p
+abbrev pub marks_answer : MarksRead → Answer Marked
+marks_answer (Marks m) = ok m
+marks_answer (Stopped k p) = refused k p
 
 -- how long the field of totals is
-abbrev pub totalsSize : Bool → ℕ
-totalsSize true = 15
-totalsSize false = 0
+abbrev pub totals_size : Bool → ℕ
+totals_size true = 15
+totals_size false = 0
 
 -- what is told of marks, with a key that is looked for; they lie from a sheet's fourteenth byte on
-abbrev pub markedOf : ℕ → Bool → List Mark → Marked
-markedOf k t ms = record { lists = lists_of t 14 ms; tally = tally k ms }
+abbrev pub marked_of : ℕ → Bool → List Mark → Marked
+marked_of k t ms = record { lists = lists_of t 14 ms; tally = tally k ms }
 
 abbrev pub view_of : ℕ → Sheet → View
 view_of k s = record { edition = s.edition; offset = s.offset; lists = lists_of s.edition.split 14 s.marks; tally = tally k s.marks }
 
-abbrev pub viewAnswer : SheetViewed → Answer View
-viewAnswer (Accepted v) = ok v
-viewAnswer (Refused k p) = refused k p
+abbrev pub view_answer : SheetViewed → Answer View
+view_answer (Accepted v) = ok v
+view_answer (Refused k p) = refused k p

@@ -3,10 +3,10 @@
 ghost use Rattle.std.specs.Prelude.{◌≡◌, ℕ, ◌+◌, ◌<◌, ◌≤◌, ◌^◌, true, false, length, get_or};
 ghost use Rattle.rules.specs.Mark.{totals};
 ghost use Rattle.rules.specs.SheetForm.{form};
-ghost use Rattle.rules.specs.Sheet.{editionOf, fieldLength, readEdition, readOffset, readList, same, readTotal, readSheet};
-ghost use Rattle.rules.proofs.SheetSteps.{readMarks, readTotals};
-ghost use Rattle.marks.specs.Lists.{tally, Held, marksOf};
-ghost use Rattle.viewing.specs.Read.{noEdition, fmap, value, countAnswer, editionAnswer, offsetAnswer, listAnswer, marksAnswer, totalsSize, markedOf, view_of, viewAnswer};
+ghost use Rattle.rules.specs.Sheet.{edition_of, field_length, read_edition, read_offset, read_list, same, read_total, read_sheet};
+ghost use Rattle.rules.proofs.SheetSteps.{read_marks, read_totals};
+ghost use Rattle.marks.specs.Lists.{tally, Held, marks_of};
+ghost use Rattle.viewing.specs.Read.{no_edition, fmap, value, count_answer, edition_answer, offset_answer, list_answer, marks_answer, totals_size, marked_of, view_of, view_answer};
 
 use marks::{Change, Lists, Tally};
 use numbers::octet;
@@ -34,14 +34,14 @@ const ROWS: usize = 1;
 
 fn edition_at(i: usize) -> Edition
     requires { i < length form.editions }
-    ensures { result ≡ get_or form.editions i noEdition }
+    ensures { result ≡ get_or form.editions i no_edition }
 {
     EDITIONS[i]
 }
 
 // The edition that a byte names.
 pub fn edition_of(byte: u8) -> EditionRead
-    ensures { editionAnswer result ≡ editionOf form.editions byte }
+    ensures { edition_answer result ≡ edition_of form.editions byte }
 {
     let mut i: usize = 0;
     while i < ROWS {
@@ -68,7 +68,7 @@ pub enum Counted {
 
 // The length of a field's body.
 fn field_length(bs: &[u8], tag: u8) -> Counted
-    ensures { countAnswer result ≡ fieldLength tag bs.now }
+    ensures { count_answer result ≡ field_length tag bs.now }
 {
     if bs.len() == 0 {
         return Counted::Fault {
@@ -99,7 +99,7 @@ fn field_length(bs: &[u8], tag: u8) -> Counted
 }
 
 fn read_edition(bs: &[u8]) -> EditionRead
-    ensures { editionAnswer result ≡ value (readEdition form.editions bs.now) }
+    ensures { edition_answer result ≡ value (read_edition form.editions bs.now) }
 {
     let n = match field_length(bs, 1) {
         Counted::Count(n) => n,
@@ -122,7 +122,7 @@ pub enum OffsetRead {
 
 // From -46,080, which is 4,294,921,216 in four bytes of two's complement, to 46,080 (W-201).
 fn read_offset(bs: &[u8]) -> OffsetRead
-    ensures { offsetAnswer result ≡ value (readOffset bs.now) }
+    ensures { offset_answer result ≡ value (read_offset bs.now) }
 {
     let n = match field_length(bs, 2) {
         Counted::Count(n) => n,
@@ -157,7 +157,7 @@ pub enum Listed {
 
 // A field of marks, with a key that is looked for among them.
 fn read_list(bs: &[u8], tag: u8, shape: Shape, limit: usize, key: usize) -> Listed
-    ensures { listAnswer result ≡ fmap (λ x. tally key x.0) (readList tag shape limit bs.now) }
+    ensures { list_answer result ≡ fmap (λ x. tally key x.0) (read_list tag shape limit bs.now) }
 {
     let n = match field_length(bs, tag) {
         Counted::Count(n) => n,
@@ -203,7 +203,7 @@ pub enum MarksRead {
 
 // Tag 3.
 fn read_whole(bs: &[u8], key: usize) -> MarksRead
-    ensures { marksAnswer result ≡ fmap (λ x. markedOf key false x.0) (readMarks false form.limit bs.now) }
+    ensures { marks_answer result ≡ fmap (λ x. marked_of key false x.0) (read_marks false form.limit bs.now) }
 {
     match read_list(bs, 3, Shape::Whole, LIMIT, key) {
         Listed::Marks(t) => MarksRead::Marks(Marked {
@@ -221,7 +221,7 @@ fn read_whole(bs: &[u8], key: usize) -> MarksRead
 
 // Tags 5 and 6.
 fn read_split(bs: &[u8], key: usize) -> MarksRead
-    ensures { marksAnswer result ≡ fmap (λ x. markedOf key true x.0) (readMarks true form.limit bs.now) }
+    ensures { marks_answer result ≡ fmap (λ x. marked_of key true x.0) (read_marks true form.limit bs.now) }
 {
     let a = match read_list(bs, 5, Shape::InLog(0), LIMIT, key) {
         Listed::Marks(t) => t,
@@ -247,7 +247,7 @@ fn read_split(bs: &[u8], key: usize) -> MarksRead
 }
 
 fn read_marks(bs: &[u8], split: bool, key: usize) -> MarksRead
-    ensures { marksAnswer result ≡ fmap (λ x. markedOf key split x.0) (readMarks split form.limit bs.now) }
+    ensures { marks_answer result ≡ fmap (λ x. marked_of key split x.0) (read_marks split form.limit bs.now) }
 {
     if split {
         return read_split(bs, key);
@@ -260,7 +260,7 @@ fn read_marks(bs: &[u8], split: bool, key: usize) -> MarksRead
 // Whether the totals in a body are those of the marks.
 fn totals_agree(body: &[u8], s: &[u8], lists: Lists) -> bool
     requires { (length body.now ≡ 12) × Held lists s.now }
-    ensures { result ≡ same body.now (totals (marksOf lists s.now)) }
+    ensures { result ≡ same body.now (totals (marks_of lists s.now)) }
 {
     let count = lists.count;
     let mut j: u8 = 0;
@@ -281,7 +281,7 @@ fn totals_agree(body: &[u8], s: &[u8], lists: Lists) -> bool
 
 fn read_total(bs: &[u8], s: &[u8], lists: Lists) -> Counted
     requires { Held lists s.now }
-    ensures { countAnswer result ≡ fmap (λ x. 0) (readTotal 4 (marksOf lists s.now) bs.now) }
+    ensures { count_answer result ≡ fmap (λ x. 0) (read_total 4 (marks_of lists s.now) bs.now) }
 {
     let n = match field_length(bs, 4) {
         Counted::Count(n) => n,
@@ -304,7 +304,7 @@ fn read_total(bs: &[u8], s: &[u8], lists: Lists) -> Counted
 
 fn read_totals(bs: &[u8], s: &[u8], lists: Lists, totals: bool) -> Counted
     requires { Held lists s.now }
-    ensures { countAnswer result ≡ fmap (λ x. 0) (readTotals totals (marksOf lists s.now) bs.now) }
+    ensures { count_answer result ≡ fmap (λ x. 0) (read_totals totals (marks_of lists s.now) bs.now) }
 {
     if totals {
         return read_total(bs, s, lists);
@@ -314,7 +314,7 @@ fn read_totals(bs: &[u8], s: &[u8], lists: Lists, totals: bool) -> Counted
 
 // How long the field of totals is.
 pub fn totals_size(totals: bool) -> usize
-    ensures { (result ≡ totalsSize totals) × (result ≤ 15) }
+    ensures { (result ≡ totals_size totals) × (result ≤ 15) }
 {
     if totals { 15 } else { 0 }
 }
@@ -338,7 +338,7 @@ pub enum SheetViewed {
 
 // A sheet, with a key that is looked for among its marks.
 pub fn view_sheet(s: &[u8], key: usize) -> SheetViewed
-    ensures { viewAnswer result ≡ fmap (view_of key) (readSheet form s.now) }
+    ensures { view_answer result ≡ fmap (view_of key) (read_sheet form s.now) }
 {
     let edition = match read_edition(s) {
         EditionRead::Known(e) => e,

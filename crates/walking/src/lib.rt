@@ -1,9 +1,9 @@
 // The records of a recording, one at each step: a cursor by value stands in a block, and a step reads the record there, or the next block's head and its
 // first record (document 01, "Block, record, item" and "Refusal numbers and their order"). No block is checked as a whole.
 ghost use Rattle.std.specs.Prelude.{◌≡◌, true, ◌≤◌, length};
-ghost use Rattle.quick_items.specs.Item.{soundSteps};
-ghost use Rattle.walking.specs.Walk.{begin, more, Stands, stays, answered, open_at, blockAt, recordAt, nextRecord};
-ghost use Rattle.walking.specs.Answers.{foundOf};
+ghost use Rattle.quick_items.specs.Item.{sound_steps};
+ghost use Rattle.walking.specs.Walk.{begin, more, Stands, stays, answered, open_at, block_at, record_at, next_record};
+ghost use Rattle.walking.specs.Answers.{found_of};
 
 use blocks::{HEAD, HeadRead};
 use quick_items::{Steps, steps};
@@ -102,7 +102,7 @@ pub enum BlockFound {
 // The block that starts at a place.
 fn open_at(recording: &[u8], start: usize) -> BlockFound
     requires { start ≤ length recording.now }
-    ensures { foundOf result ≡ open_at recording.now start }
+    ensures { found_of result ≡ open_at recording.now start }
 {
     let part = &recording[start..];
     let head = blocks::front_head(part);
@@ -129,7 +129,7 @@ fn open_at(recording: &[u8], start: usize) -> BlockFound
 // The block that the next record lies in: the cursor's own, or where that is at its end the one that starts there.
 pub fn block_at(recording: &[u8], cursor: Cursor) -> BlockFound
     requires { cursor.end ≤ length recording.now }
-    ensures { foundOf result ≡ blockAt recording.now cursor }
+    ensures { found_of result ≡ block_at recording.now cursor }
 {
     if cursor.place < cursor.end {
         return BlockFound::At(cursor);
@@ -142,8 +142,8 @@ pub fn block_at(recording: &[u8], cursor: Cursor) -> BlockFound
 // The record that a cursor stands at, in a step from another cursor, by a table that is lent.
 fn record_by(t: &Steps, recording: &[u8], from: Cursor, at: Cursor) -> Walked
     requires stands { Stands (length recording.now) at }
-    requires t_value { soundSteps t.now ≡ true }
-    ensures { result ≡ answered from (recordAt recording.now at) }
+    requires t_value { sound_steps t.now ≡ true }
+    ensures { result ≡ answered from (record_at recording.now at) }
 {
     let block = at.block;
     let place = at.place;
@@ -185,7 +185,7 @@ fn record_by(t: &Steps, recording: &[u8], from: Cursor, at: Cursor) -> Walked
 // The same, with a table of its own.
 fn record_at(recording: &[u8], from: Cursor, at: Cursor) -> Walked
     requires { Stands (length recording.now) at }
-    ensures { result ≡ answered from (recordAt recording.now at) }
+    ensures { result ≡ answered from (record_at recording.now at) }
 {
     let t = steps();
     record_by(&t, recording, from, at)
@@ -195,7 +195,7 @@ fn record_at(recording: &[u8], from: Cursor, at: Cursor) -> Walked
 
 // The next record of a recording: the one at the cursor's place, or the first of the next block where the cursor's block is at its end.
 pub fn next_record(recording: &[u8], cursor: Cursor) -> Walked
-    ensures { result ≡ nextRecord recording.now cursor }
+    ensures { result ≡ next_record recording.now cursor }
 {
     if !cursor.has_more(recording.len()) {
         return stayed(cursor, Met::Finished);

@@ -19,12 +19,12 @@ use mir.Val.{to_z, of_z, SFits}
 use mir.ValLaws.{to_z-of_z}
 use Rattle.rules.specs.Answer.{Answer, ok, refused, ◌>>=◌, need◌or◌then◌}
 use Rattle.rules.specs.Field.{Kind, unsigned, signed, Field, spare, value, half, put}
-use Rattle.tables.specs.Tables.{fieldCount, fieldRow, field_at, minus}
+use Rattle.tables.specs.Tables.{field_count, field_row, field_at, minus}
 use Rattle.tables.specs.declared.tables.FieldRow.{FieldRow}
 use Rattle.layouts.proofs.FieldCodes.{twice}
-use Rattle.writing.specs.Write.{fieldIn, width_of, kind_of, codeFor}
+use Rattle.writing.specs.Write.{field_in, width_of, kind_of, code_for}
 use Rattle.writing.proofs.Sound.{SoundField, width_few}
-use Rattle.writing.proofs.TableLaws.{field_row, field-in-sound}
+use Rattle.writing.proofs.TableLaws.{field_row_lem, field_in_sound}
 
 -- ---- a kind's least and greatest value
 
@@ -36,20 +36,20 @@ abbrev high_of : Kind → ℤ
 high_of (unsigned lo hi) = pos hi
 high_of (signed lo hi) = pos hi
 
-row-width : (f : Field) → (fieldRow f).bits ≡ width_of f
-row-width (spare w) = refl
-row-width (value w (unsigned lo hi)) = refl
-row-width (value w (signed lo hi)) = refl
+row_width : (f : Field) → (field_row f).bits ≡ width_of f
+row_width (spare w) = refl
+row_width (value w (unsigned lo hi)) = refl
+row_width (value w (signed lo hi)) = refl
 
-row_low : (f : Field) → (fieldRow f).least ≡ low_of (kind_of f)
+row_low : (f : Field) → (field_row f).least ≡ low_of (kind_of f)
 row_low (spare w) = refl
 row_low (value w (unsigned lo hi)) = refl
 row_low (value w (signed lo hi)) = refl
 
-row-high : (f : Field) → (fieldRow f).greatest ≡ high_of (kind_of f)
-row-high (spare w) = refl
-row-high (value w (unsigned lo hi)) = refl
-row-high (value w (signed lo hi)) = refl
+row_high : (f : Field) → (field_row f).greatest ≡ high_of (kind_of f)
+row_high (spare w) = refl
+row_high (value w (unsigned lo hi)) = refl
+row_high (value w (signed lo hi)) = refl
 
 -- a kind that its bits hold; in two's complement there is a bit for the sign
 abbrev Held : ℕ → Kind → Type 0
@@ -67,14 +67,14 @@ code_of : ℕ → Kind → ℤ → Answer ℕ
 code_of w k v = put w k v >>= (λ c. need ltb c (2 ^ w) or 11 then ok c)
 
 -- of two tests the first fails, the second fails, or both pass
-first-no : {A B : Type 0} {a : Bool} (x : Answer A) (f : A → Answer B) → a ≡ false → ((need a or 11 then x) >>= f) ≡ refused 11 0
+first_no : {A B : Type 0} {a : Bool} (x : Answer A) (f : A → Answer B) → a ≡ false → ((need a or 11 then x) >>= f) ≡ refused 11 0
 unfolding ◌>>=◌ need◌or◌then◌
-first-no x f e = rw e
+first_no x f e = rw e
 
-second-no : {A B : Type 0} (a : Bool) {b : Bool} (x : Answer A) (f : A → Answer B) → b ≡ false → ((need a or 11 then need b or 11 then x) >>= f) ≡ refused 11 0
+second_no : {A B : Type 0} (a : Bool) {b : Bool} (x : Answer A) (f : A → Answer B) → b ≡ false → ((need a or 11 then need b or 11 then x) >>= f) ≡ refused 11 0
 unfolding ◌>>=◌ need◌or◌then◌
-second-no true x f e = rw e
-second-no false x f e = refl
+second_no true x f e = rw e
+second_no false x f e = refl
 
 both_yes : {A B : Type 0} {a b : Bool} (x : Answer A) (f : A → Answer B) → a ≡ true → b ≡ true → ((need a or 11 then need b or 11 then x) >>= f) ≡ (x >>= f)
 unfolding ◌>>=◌ need◌or◌then◌
@@ -82,40 +82,40 @@ both_yes x f d e = rw (d, e)
 
 code_below : (w : ℕ) (k : Kind) (v : ℤ) → lt_z v (low_of k) ≡ true → code_of w k v ≡ refused 11 0
 unfolding code_of put ◌>>=◌
-code_below w (unsigned lo hi) (pos n) h = first-no _ _ (lt-leb lo n (ltb-true n lo h))
+code_below w (unsigned lo hi) (pos n) h = first_no _ _ (lt-leb lo n (ltb-true n lo h))
 code_below w (unsigned lo hi) (negsuc n) h = refl
 code_below w (signed zero hi) (pos n) h = absurd (not-suc-le-zero (ltb-true n 0 h))
 code_below w (signed (suc lo) hi) (pos n) h = absurd (false≢true h)
-code_below w (signed zero hi) (negsuc n) h = second-no _ _ _ (le-ltb n 0 (omega arith))
-code_below w (signed (suc lo) hi) (negsuc n) h = second-no _ _ _ (le-ltb n (suc lo) (omega (arith, ltb-true lo n h)))
+code_below w (signed zero hi) (negsuc n) h = second_no _ _ _ (le-ltb n 0 (omega arith))
+code_below w (signed (suc lo) hi) (negsuc n) h = second_no _ _ _ (le-ltb n (suc lo) (omega (arith, ltb-true lo n h)))
 
-code-above : (w : ℕ) (k : Kind) (v : ℤ) → lt_z (high_of k) v ≡ true → code_of w k v ≡ refused 11 0
+code_above : (w : ℕ) (k : Kind) (v : ℤ) → lt_z (high_of k) v ≡ true → code_of w k v ≡ refused 11 0
 unfolding code_of put ◌>>=◌
-code-above w (unsigned lo hi) (pos n) h = second-no _ _ _ (lt-leb n hi (ltb-true hi n h))
-code-above w (unsigned lo hi) (negsuc n) h = refl
-code-above w (signed lo hi) (pos n) h = second-no _ _ _ (lt-leb n hi (ltb-true hi n h))
-code-above w (signed lo hi) (negsuc n) h = absurd (false≢true h)
+code_above w (unsigned lo hi) (pos n) h = second_no _ _ _ (lt-leb n hi (ltb-true hi n h))
+code_above w (unsigned lo hi) (negsuc n) h = refl
+code_above w (signed lo hi) (pos n) h = second_no _ _ _ (lt-leb n hi (ltb-true hi n h))
+code_above w (signed lo hi) (negsuc n) h = absurd (false≢true h)
 
-code-plain : (w : ℕ) (k : Kind) (v : ℤ) → Held w k → lt_z v (low_of k) ≡ false → lt_z (high_of k) v ≡ false → lt_z v (pos 0) ≡ false → code_of w k v ≡ ok (mag v)
+code_plain : (w : ℕ) (k : Kind) (v : ℤ) → Held w k → lt_z v (low_of k) ≡ false → lt_z (high_of k) v ≡ false → lt_z v (pos 0) ≡ false → code_of w k v ≡ ok (mag v)
 unfolding code_of put ◌>>=◌ need◌or◌then◌
-code-plain w (unsigned lo hi) (pos n) s l h z =
+code_plain w (unsigned lo hi) (pos n) s l h z =
     let b : n ≤ hi = ltb-false hi n h in
     both_yes (ok n) (λ c. need ltb c (2 ^ w) or 11 then ok c) (le-leb lo n (ltb-false n lo l)) (le-leb n hi b)
     ∙ ap (λ t. need t or 11 then ok n) (lt-ltb n (2 ^ w) (omega arith))
-code-plain w (signed lo hi) (pos n) s l h z =
+code_plain w (signed lo hi) (pos n) s l h z =
     let b : n ≤ hi = ltb-false hi n h in
     let e = twice w s.0 in
     both_yes (ok n) (λ c. need ltb c (2 ^ w) or 11 then ok c) (lt-ltb n (half w) (omega (arith, s.1.1))) (le-leb n hi b)
     ∙ ap (λ t. need t or 11 then ok n) (lt-ltb n (2 ^ w) (omega (arith, s.1.1)))
-code-plain w k (negsuc n) s l h z = absurd (true≢false z)
+code_plain w k (negsuc n) s l h z = absurd (true≢false z)
 
 -- a negative value: its magnitude is within the bits too
-code-minus : (w : ℕ) (k : Kind) (v : ℤ) → Held w k → lt_z v (low_of k) ≡ false → lt_z v (pos 0) ≡ true → (mag v < 2 ^ w) × (code_of w k v ≡ ok (2 ^ w - 1 - mag v))
+code_minus : (w : ℕ) (k : Kind) (v : ℤ) → Held w k → lt_z v (low_of k) ≡ false → lt_z v (pos 0) ≡ true → (mag v < 2 ^ w) × (code_of w k v ≡ ok (2 ^ w - 1 - mag v))
 unfolding code_of put ◌>>=◌ need◌or◌then◌
-code-minus w k (pos n) s l z = absurd (not-suc-le-zero (ltb-true n 0 z))
-code-minus w (unsigned lo hi) (negsuc n) s l z = absurd (true≢false l)
-code-minus w (signed zero hi) (negsuc n) s l z = absurd (true≢false l)
-code-minus w (signed (suc lo) hi) (negsuc n) s l z =
+code_minus w k (pos n) s l z = absurd (not-suc-le-zero (ltb-true n 0 z))
+code_minus w (unsigned lo hi) (negsuc n) s l z = absurd (true≢false l)
+code_minus w (signed zero hi) (negsuc n) s l z = absurd (true≢false l)
+code_minus w (signed (suc lo) hi) (negsuc n) s l z =
     let b : n ≤ lo = ltb-false lo n l in
     let e = twice w s.0 in
     let p : n < half w = omega (arith, s.1.0) in
@@ -133,13 +133,13 @@ code-minus w (signed (suc lo) hi) (negsuc n) s l z =
 abbrev again : ℤ → ℤ
 again z = to_z w64 (of_z w64 z)
 
-lt-again : (a b : ℤ) → SFits w64 a → SFits w64 b → lt_z (again a) (again b) ≡ lt_z a b
-lt-again a b fa fb = ap (λ x. lt_z x (again b)) (to_z-of_z w64 a fa) ∙ ap (lt_z a) (to_z-of_z w64 b fb)
+lt_again : (a b : ℤ) → SFits w64 a → SFits w64 b → lt_z (again a) (again b) ≡ lt_z a b
+lt_again a b fa fb = ap (λ x. lt_z x (again b)) (to_z-of_z w64 a fa) ∙ ap (lt_z a) (to_z-of_z w64 b fb)
 
 -- no value
-pub code-none : (i : ℕ) (vs : List ℤ) (at : ℕ) → length vs ≤ at → refused 11 0 ≡ codeFor (fieldIn i) (drop at vs)
-unfolding codeFor
-code-none i vs at h = sym (ap (codeFor (fieldIn i)) (drop_of_length-le vs h))
+pub code_none : (i : ℕ) (vs : List ℤ) (at : ℕ) → length vs ≤ at → refused 11 0 ≡ code_for (field_in i) (drop at vs)
+unfolding code_for
+code_none i vs at h = sym (ap (code_for (field_in i)) (drop_of_length-le vs h))
 
 -- the value at a place, and the row of the field that it is for
 pub record Taken (i : ℕ) (vs : List ℤ) (at : ℕ) (r : FieldRow) : Type 0 where
@@ -148,56 +148,56 @@ pub record Taken (i : ℕ) (vs : List ℤ) (at : ℕ) (r : FieldRow) : Type 0 wh
   pub fits : SFits w64 (get_or vs at (pos 0))
 
 module _ {i : ℕ} {vs : List ℤ} {at : ℕ} {r : FieldRow} (t : Taken i vs at r) where
-  code_is : codeFor (fieldIn i) (drop at vs) ≡ code_of (width_of (fieldIn i)) (kind_of (fieldIn i)) (get_or vs at (pos 0))
-  unfolding codeFor code_of
-  code_is = ap (codeFor (fieldIn i)) (drop-cons vs at (pos 0) t.there)
+  code_is : code_for (field_in i) (drop at vs) ≡ code_of (width_of (field_in i)) (kind_of (field_in i)) (get_or vs at (pos 0))
+  unfolding code_for code_of
+  code_is = ap (code_for (field_in i)) (drop-cons vs at (pos 0) t.there)
 
-  width_is : r.bits ≡ width_of (fieldIn i)
-  width_is = ap (λ x. x.bits) (t.row ∙ field_row i) ∙ row-width (fieldIn i)
+  width_is : r.bits ≡ width_of (field_in i)
+  width_is = ap (λ x. x.bits) (t.row ∙ field_row_lem i) ∙ row_width (field_in i)
 
-  low-is : r.least ≡ low_of (kind_of (fieldIn i))
-  low-is = ap (λ x. x.least) (t.row ∙ field_row i) ∙ row_low (fieldIn i)
+  low_is : r.least ≡ low_of (kind_of (field_in i))
+  low_is = ap (λ x. x.least) (t.row ∙ field_row_lem i) ∙ row_low (field_in i)
 
-  high_is : r.greatest ≡ high_of (kind_of (fieldIn i))
-  high_is = ap (λ x. x.greatest) (t.row ∙ field_row i) ∙ row-high (fieldIn i)
+  high_is : r.greatest ≡ high_of (kind_of (field_in i))
+  high_is = ap (λ x. x.greatest) (t.row ∙ field_row_lem i) ∙ row_high (field_in i)
 
-  low-test : SFits w64 r.least → lt_z (get_or vs at (pos 0)) (low_of (kind_of (fieldIn i))) ≡ lt_z (again (get_or vs at (pos 0))) (again r.least)
-  low-test fl = ap (lt_z (get_or vs at (pos 0))) (sym low-is) ∙ sym (lt-again (get_or vs at (pos 0)) r.least t.fits fl)
+  low_test : SFits w64 r.least → lt_z (get_or vs at (pos 0)) (low_of (kind_of (field_in i))) ≡ lt_z (again (get_or vs at (pos 0))) (again r.least)
+  low_test fl = ap (lt_z (get_or vs at (pos 0))) (sym low_is) ∙ sym (lt_again (get_or vs at (pos 0)) r.least t.fits fl)
 
-  high-test : SFits w64 r.greatest → lt_z (high_of (kind_of (fieldIn i))) (get_or vs at (pos 0)) ≡ lt_z (again r.greatest) (again (get_or vs at (pos 0)))
-  high-test fh = ap (λ x. lt_z x (get_or vs at (pos 0))) (sym high_is) ∙ sym (lt-again r.greatest (get_or vs at (pos 0)) fh t.fits)
+  high_test : SFits w64 r.greatest → lt_z (high_of (kind_of (field_in i))) (get_or vs at (pos 0)) ≡ lt_z (again r.greatest) (again (get_or vs at (pos 0)))
+  high_test fh = ap (λ x. lt_z x (get_or vs at (pos 0))) (sym high_is) ∙ sym (lt_again r.greatest (get_or vs at (pos 0)) fh t.fits)
 
   zero_test : lt_z (get_or vs at (pos 0)) (pos 0) ≡ lt_z (again (get_or vs at (pos 0))) (pos 0)
   zero_test = ap (λ x. lt_z x (pos 0)) (sym (to_z-of_z w64 (get_or vs at (pos 0)) t.fits))
 
-  pub code-low : SFits w64 r.least → lt_z (again (get_or vs at (pos 0))) (again r.least) ≡ true → refused 11 0 ≡ codeFor (fieldIn i) (drop at vs)
-  code-low fl e = sym (code_is ∙ code_below _ _ _ (low-test fl ∙ e))
+  pub code_low : SFits w64 r.least → lt_z (again (get_or vs at (pos 0))) (again r.least) ≡ true → refused 11 0 ≡ code_for (field_in i) (drop at vs)
+  code_low fl e = sym (code_is ∙ code_below _ _ _ (low_test fl ∙ e))
 
-  pub code-high : SFits w64 r.greatest → lt_z (again r.greatest) (again (get_or vs at (pos 0))) ≡ true → refused 11 0 ≡ codeFor (fieldIn i) (drop at vs)
-  code-high fh e = sym (code_is ∙ code-above _ _ _ (high-test fh ∙ e))
+  pub code_high : SFits w64 r.greatest → lt_z (again r.greatest) (again (get_or vs at (pos 0))) ≡ true → refused 11 0 ≡ code_for (field_in i) (drop at vs)
+  code_high fh e = sym (code_is ∙ code_above _ _ _ (high_test fh ∙ e))
 
-  module _ (s : i < fieldCount) (fl : SFits w64 r.least) (l : lt_z (again (get_or vs at (pos 0))) (again r.least) ≡ false) where
-    pub bits-few : r.bits < 64
-    bits-few = rw width_is (width_few (fieldIn i) (field-in-sound i s))
+  module _ (s : i < field_count) (fl : SFits w64 r.least) (l : lt_z (again (get_or vs at (pos 0))) (again r.least) ≡ false) where
+    pub bits_few : r.bits < 64
+    bits_few = rw width_is (width_few (field_in i) (field_in_sound i s))
 
     -- the power of two that the code makes
     shifted : 1 * 2 ^ r.bits % 2 ^ 64 ≡ 2 ^ r.bits
-    shifted = rw one-mul (mod-eq_of_lt (pow-lt bits-few))
+    shifted = rw one-mul (mod-eq_of_lt (pow-lt bits_few))
 
-    pub shift-some : 1 ≤ 1 * 2 ^ r.bits % 2 ^ 64
-    shift-some = rw shifted (pow_pos r.bits)
+    pub shift_some : 1 ≤ 1 * 2 ^ r.bits % 2 ^ 64
+    shift_some = rw shifted (pow_pos r.bits)
 
-    pub code-neg : {m : ℕ} → lt_z (again (get_or vs at (pos 0))) (pos 0) ≡ true → m ≡ mag (again (get_or vs at (pos 0)))
-        → (m ≤ 1 * 2 ^ r.bits % 2 ^ 64 - 1) × (ok (1 * 2 ^ r.bits % 2 ^ 64 - 1 - m) ≡ codeFor (fieldIn i) (drop at vs))
-    code-neg {m} z em =
+    pub code_neg : {m : ℕ} → lt_z (again (get_or vs at (pos 0))) (pos 0) ≡ true → m ≡ mag (again (get_or vs at (pos 0)))
+        → (m ≤ 1 * 2 ^ r.bits % 2 ^ 64 - 1) × (ok (1 * 2 ^ r.bits % 2 ^ 64 - 1 - m) ≡ code_for (field_in i) (drop at vs))
+    code_neg {m} z em =
         let v = get_or vs at (pos 0) in
-        let (a, b) = code-minus (width_of (fieldIn i)) (kind_of (fieldIn i)) v (held (fieldIn i) (field-in-sound i s)) (low-test fl ∙ l) (zero_test ∙ z) in
+        let (a, b) = code_minus (width_of (field_in i)) (kind_of (field_in i)) v (held (field_in i) (field_in_sound i s)) (low_test fl ∙ l) (zero_test ∙ z) in
         let e : m ≡ mag v = em ∙ ap mag (to_z-of_z w64 v t.fits) in
         rw (shifted, width_is, e) (omega arith, sym (code_is ∙ b))
 
-    pub code-pos : {m : ℕ} → SFits w64 r.greatest → lt_z (again r.greatest) (again (get_or vs at (pos 0))) ≡ false → lt_z (again (get_or vs at (pos 0))) (pos 0) ≡ false → m ≡ mag (again (get_or vs at (pos 0)))
-        → ok m ≡ codeFor (fieldIn i) (drop at vs)
-    code-pos {m} fh u z em =
+    pub code_pos : {m : ℕ} → SFits w64 r.greatest → lt_z (again r.greatest) (again (get_or vs at (pos 0))) ≡ false → lt_z (again (get_or vs at (pos 0))) (pos 0) ≡ false → m ≡ mag (again (get_or vs at (pos 0)))
+        → ok m ≡ code_for (field_in i) (drop at vs)
+    code_pos {m} fh u z em =
         let v = get_or vs at (pos 0) in
         let e : m ≡ mag v = em ∙ ap mag (to_z-of_z w64 v t.fits) in
-        rw e (sym (code_is ∙ code-plain (width_of (fieldIn i)) (kind_of (fieldIn i)) v (held (fieldIn i) (field-in-sound i s)) (low-test fl ∙ l) (high-test fh ∙ u) (zero_test ∙ z)))
+        rw e (sym (code_is ∙ code_plain (width_of (field_in i)) (kind_of (field_in i)) v (held (field_in i) (field_in_sound i s)) (low_test fl ∙ l) (high_test fh ∙ u) (zero_test ∙ z)))

@@ -15,23 +15,23 @@ use lib.Seq.{sets}
 use Rattle.rules.specs.Answer.{Answer, ok, refused, ◌>>=◌, need◌or◌then◌, expect◌or◌}
 use Rattle.rules.specs.Format.{Format}
 use Rattle.rules.specs.Layout.{plain, compound}
-use Rattle.rules.specs.FieldList.{writeFields}
+use Rattle.rules.specs.FieldList.{write_fields}
 use Rattle.rules.specs.Presence.{present}
 use Rattle.rules.specs.Catalogue.{categories}
-use Rattle.rules.specs.Entry.{layout_of, writeOne, leaves}
-use Rattle.rules.proofs.AnswerLaws.{refused-ok, none-some, bind-in, bind-out, need-in, need-out, T_true}
+use Rattle.rules.specs.Entry.{layout_of, write_one, leaves}
+use Rattle.rules.proofs.AnswerLaws.{refused_ok, none_some, bind_in, bind_out, need_in, need_out, T_true}
 use Rattle.tables.specs.declared.tables.LayoutRow.{LayoutRow}
-use Rattle.tables.specs.Tables.{layoutCount, primariesIs, asPlain, layoutAt, formatBy, formatIs, layoutIs}
-use Rattle.tables.proofs.TableLaws.{layout-none, layout-some}
+use Rattle.tables.specs.Tables.{layout_count, primaries_is, as_plain, layout_at, format_by, format_is, layout_is}
+use Rattle.tables.proofs.TableLaws.{layout_none, layout_some}
 use Rattle.layouts.proofs.Stores.{sets_over}
-use Rattle.items.specs.Answers.{rowNamed, count_of}
-use Rattle.writing.specs.Write.{parts_at, Parts, parts, cut_at, size_at, octetsAt}
-use Rattle.writing.specs.Compound.{Rows, all_rows, itemOctets, compoundAt, rowsSize, compoundOctets}
-use Rattle.writing.specs.Item.{FrontAt, toldAt, plainAt, writeAt}
-use Rattle.writing.proofs.RowLaws.{Sized, sized, size-refused}
-use Rattle.writing.proofs.PlainLaws.{plain_at}
+use Rattle.items.specs.Answers.{row_named, count_of}
+use Rattle.writing.specs.Write.{parts_at, Parts, parts, cut_at, size_at, octets_at}
+use Rattle.writing.specs.Compound.{Rows, all_rows, item_octets, compound_at, rows_size, compound_octets}
+use Rattle.writing.specs.Item.{FrontAt, told_at, plain_at, write_at}
+use Rattle.writing.proofs.RowLaws.{Sized, sized, size_refused}
+use Rattle.writing.proofs.PlainLaws.{plain_at_lem}
 use Rattle.writing.proofs.PrimaryTurns.{Whole, whole}
-use Rattle.writing.proofs.CompoundLaws.{compound-at}
+use Rattle.writing.proofs.CompoundLaws.{compound_at_lem}
 
 -- ---- a refusal, and an item
 
@@ -54,143 +54,143 @@ fitted room m = m >>= (λ bs. need leb (length bs) room or 16 then ok bs)
 -- of a rule that the layout is written by
 module _ {m w : Answer (List ℕ)} (out : List ℕ) (e : m ≡ fitted (length out) w) where
   pub no_item : {x y : ℕ} → w ≡ refused x y → Answers (refused x y) out m out
-  no_item {x} {y} h = refusal x y out (e ∙ bind-out _ h)
+  no_item {x} {y} h = refusal x y out (e ∙ bind_out _ h)
 
   module _ {bs : List ℕ} {k : ℕ} (h : w ≡ ok bs) (d : k ≡ length bs) where
     pub no_room : length out < k → Answers (refused 16 0) out m out
-    no_room l = refusal 16 0 out (e ∙ bind-in _ h (need-out 16 _ (lt-leb (length bs) (length out) (omega arith))))
+    no_room l = refusal 16 0 out (e ∙ bind_in _ h (need_out 16 _ (lt-leb (length bs) (length out) (omega arith))))
 
-    pub with-room : {out' : List ℕ} → k ≤ length out → out' ≡ sets out 0 bs → Answers (ok k) out' m out
-    with-room l o = item out (e ∙ bind-in _ h (need-in _ _ (le→leb (length bs) (length out) (omega arith)) refl)) d o
+    pub with_room : {out' : List ℕ} → k ≤ length out → out' ≡ sets out 0 bs → Answers (ok k) out' m out
+    with_room l o = item out (e ∙ bind_in _ h (need_in _ _ (le→leb (length bs) (length out) (omega arith)) refl)) d o
 
 -- ---- an item that is not compound
 
-no-format : (r : LayoutRow) → r.kind ≡ 5 → formatIs r ≡ none
-unfolding formatIs formatBy
-no-format r e = rw e
+no_format : (r : LayoutRow) → r.kind ≡ 5 → format_is r ≡ none
+unfolding format_is format_by
+no_format r e = rw e
 
-row_plain : (r : LayoutRow) (s : Format) → formatIs r ≡ some s → layoutIs r ≡ some (plain s)
-unfolding layoutIs
+row_plain : (r : LayoutRow) (s : Format) → format_is r ≡ some s → layout_is r ≡ some (plain s)
+unfolding layout_is
 row_plain r s e = go (eqb r.kind 5) refl
   where
-    go : (t : Bool) → eqb r.kind 5 ≡ t → cond t (some (compound (primariesIs (r.end - r.first) r.first))) (asPlain (formatIs r)) ≡ some (plain s)
-    go true d = none-some (sym (no-format r (eqb-true r.kind 5 d)) ∙ e)
-    go false d = ap asPlain e
+    go : (t : Bool) → eqb r.kind 5 ≡ t → cond t (some (compound (primaries_is (r.end - r.first) r.first))) (as_plain (format_is r)) ≡ some (plain s)
+    go true d = none_some (sym (no_format r (eqb-true r.kind 5 d)) ∙ e)
+    go false d = ap as_plain e
 
-pub present-elim : {A C : Type 0} (m : Option A) → present m ≡ true → ((a : A) → m ≡ some a → C) → C
-present-elim none e k = absurd (false≢true e)
-present-elim (some a) e k = k a refl
+pub present_elim : {A C : Type 0} (m : Option A) → present m ≡ true → ((a : A) → m ≡ some a → C) → C
+present_elim none e k = absurd (false≢true e)
+present_elim (some a) e k = k a refl
 
 -- the code lends the first n numbers
 first : (n : ℕ) (vs : List ℤ) → take (n - 0) vs ≡ take n vs
 first n vs = let e : n - 0 ≡ n = omega arith in ap (λ x. take x vs) e
 
-module _ (i : ℕ) (vs : List ℤ) (out : List ℕ) (h : present (formatIs (layoutAt i)) ≡ true) (n : ℕ) (f : FrontAt i vs n) where
-  by_row : writeAt i vs (length out) ≡ fitted (length out) (plainAt i vs n)
-  unfolding writeAt expect◌or◌
-  by_row =
-      present-elim (formatIs (layoutAt i)) h λ s e.
-      bind-in _ (ap (λ x. expect x or 21) (row_plain (layoutAt i) s e)) (ap (fitted (length out)) (plain_at i s vs n e f))
+module _ (i : ℕ) (vs : List ℤ) (out : List ℕ) (h : present (format_is (layout_at i)) ≡ true) (n : ℕ) (f : FrontAt i vs n) where
+  by_row_lem : write_at i vs (length out) ≡ fitted (length out) (plain_at i vs n)
+  unfolding write_at expect◌or◌
+  by_row_lem =
+      present_elim (format_is (layout_at i)) h λ s e.
+      bind_in _ (ap (λ x. expect x or 21) (row_plain (layout_at i) s e)) (ap (fitted (length out)) (plain_at_lem i s vs n e f))
 
-  pub plain-no : {x y : ℕ} → refused x y ≡ size_at i (take (n - 0) vs) → Answers (refused x y) out (writeAt i vs (length out)) out
-  unfolding plainAt
-  plain-no e = no_item out by_row (bind-out _ (ap (cut_at i) (sym (first n vs)) ∙ size-refused i (take (n - 0) vs) e))
+  pub plain_no : {x y : ℕ} → refused x y ≡ size_at i (take (n - 0) vs) → Answers (refused x y) out (write_at i vs (length out)) out
+  unfolding plain_at
+  plain_no e = no_item out by_row_lem (bind_out _ (ap (cut_at i) (sym (first n vs)) ∙ size_refused i (take (n - 0) vs) e))
 
   module _ (k s : ℕ) (e : ok (parts k s) ≡ size_at i (take (n - 0) vs)) where
-    sized-as : Sized i (take (n - 0) vs) k × (s ≡ length (octetsAt i (take (n - 0) vs)))
-    sized-as = sized i (take (n - 0) vs) k s (sym e)
+    sized_as : Sized i (take (n - 0) vs) k × (s ≡ length (octets_at i (take (n - 0) vs)))
+    sized_as = sized i (take (n - 0) vs) k s (sym e)
 
-    pub parts-few : k ≤ length (parts_at i)
-    parts-few = sized-as.0.few
+    pub parts_few : k ≤ length (parts_at i)
+    parts_few = sized_as.0.few
 
-    pub plain-lays : size_at i (take (n - 0) vs) ≡ ok (parts k (length (octetsAt i (take (n - 0) vs))))
-    plain-lays = sym e ∙ ap (λ x. ok (parts k x)) sized-as.1
+    pub plain_lays : size_at i (take (n - 0) vs) ≡ ok (parts k (length (octets_at i (take (n - 0) vs))))
+    plain_lays = sym e ∙ ap (λ x. ok (parts k x)) sized_as.1
 
-    pub plain_fits : s ≤ length out → 0 + length (octetsAt i (take (n - 0) vs)) ≤ length out
-    plain_fits l = omega (arith, sized-as.1)
+    pub plain_fits : s ≤ length out → 0 + length (octets_at i (take (n - 0) vs)) ≤ length out
+    plain_fits l = omega (arith, sized_as.1)
 
-    cut-is : cut_at i (take n vs) ≡ ok (record { count = k; octets = octetsAt i (take (n - 0) vs) })
-    cut-is = ap (cut_at i) (sym (first n vs)) ∙ sized-as.0.laid
+    cut_is : cut_at i (take n vs) ≡ ok (record { count = k; octets = octets_at i (take (n - 0) vs) })
+    cut_is = ap (cut_at i) (sym (first n vs)) ∙ sized_as.0.laid
 
-    pub plain-untold : {t : Bool} → t ≡ toldAt i k (length vs - n) → t ≡ false → Answers (refused 11 0) out (writeAt i vs (length out)) out
-    unfolding plainAt
-    plain-untold d t = no_item out by_row (bind-in _ cut-is (need-out 11 _ (sym d ∙ t)))
+    pub plain_untold : {t : Bool} → t ≡ told_at i k (length vs - n) → t ≡ false → Answers (refused 11 0) out (write_at i vs (length out)) out
+    unfolding plain_at
+    plain_untold d t = no_item out by_row_lem (bind_in _ cut_is (need_out 11 _ (sym d ∙ t)))
 
-    module _ {t : Bool} (d : t ≡ toldAt i k (length vs - n)) (y : t ≡ true) where
-      plain-is : plainAt i vs n ≡ ok (octetsAt i (take (n - 0) vs))
-      unfolding plainAt
-      plain-is = bind-in _ cut-is (need-in _ _ (T_true (sym d ∙ y)) refl)
+    module _ {t : Bool} (d : t ≡ told_at i k (length vs - n)) (y : t ≡ true) where
+      plain_is : plain_at i vs n ≡ ok (octets_at i (take (n - 0) vs))
+      unfolding plain_at
+      plain_is = bind_in _ cut_is (need_in _ _ (T_true (sym d ∙ y)) refl)
 
-      pub plain-full : length out < s → Answers (refused 16 0) out (writeAt i vs (length out)) out
-      plain-full l = no_room out by_row plain-is sized-as.1 l
+      pub plain_full : length out < s → Answers (refused 16 0) out (write_at i vs (length out)) out
+      plain_full l = no_room out by_row_lem plain_is sized_as.1 l
 
-      pub plain_done : {out' : List ℕ} → s ≤ length out → out' ≡ sets out 0 (octetsAt i (take (n - 0) vs)) → Answers (ok s) out' (writeAt i vs (length out)) out
-      plain_done l o = with-room out by_row plain-is sized-as.1 l o
+      pub plain_done : {out' : List ℕ} → s ≤ length out → out' ≡ sets out 0 (octets_at i (take (n - 0) vs)) → Answers (ok s) out' (write_at i vs (length out)) out
+      plain_done l o = with_room out by_row_lem plain_is sized_as.1 l o
 
 -- ---- a compound item
 
-module _ (i : ℕ) (vs : List ℤ) (out : List ℕ) (h : (layoutAt i).kind ≡ 5) where
-  row-compound : layoutIs (layoutAt i) ≡ some (compound (primariesIs ((layoutAt i).end - (layoutAt i).first) (layoutAt i).first))
-  unfolding layoutIs
-  row-compound =
-      ap (λ t. cond t (some (compound (primariesIs ((layoutAt i).end - (layoutAt i).first) (layoutAt i).first))) (asPlain (formatIs (layoutAt i)))) (eq-eqb (layoutAt i).kind 5 h)
+module _ (i : ℕ) (vs : List ℤ) (out : List ℕ) (h : (layout_at i).kind ≡ 5) where
+  row_compound : layout_is (layout_at i) ≡ some (compound (primaries_is ((layout_at i).end - (layout_at i).first) (layout_at i).first))
+  unfolding layout_is
+  row_compound =
+      ap (λ t. cond t (some (compound (primaries_is ((layout_at i).end - (layout_at i).first) (layout_at i).first))) (as_plain (format_is (layout_at i)))) (eq-eqb (layout_at i).kind 5 h)
 
-  by_rows : writeAt i vs (length out) ≡ fitted (length out) (compoundAt i vs)
-  unfolding writeAt expect◌or◌
-  by_rows = bind-in _ (ap (λ x. expect x or 21) row-compound) (ap (fitted (length out)) (compound-at i vs))
+  by_rows : write_at i vs (length out) ≡ fitted (length out) (compound_at i vs)
+  unfolding write_at expect◌or◌
+  by_rows = bind_in _ (ap (λ x. expect x or 21) row_compound) (ap (fitted (length out)) (compound_at_lem i vs))
 
-  pub compound-no : refused 11 0 ≡ rowsSize i vs → Answers (refused 11 0) out (writeAt i vs (length out)) out
-  unfolding rowsSize compoundAt ◌>>=◌
-  compound-no e = no_item out by_rows (bind-out _ (go (all_rows i vs) e))
+  pub compound_no : refused 11 0 ≡ rows_size i vs → Answers (refused 11 0) out (write_at i vs (length out)) out
+  unfolding rows_size compound_at ◌>>=◌
+  compound_no e = no_item out by_rows (bind_out _ (go (all_rows i vs) e))
     where
-      go : (m : Answer Rows) → ◌≡◌ {A = Answer Parts} (refused 11 0) (m >>= (λ y. ok (parts (length y.numbers) (length (itemOctets y))))) → m ≡ refused 11 0
-      go (ok y) e = refused-ok e
+      go : (m : Answer Rows) → ◌≡◌ {A = Answer Parts} (refused 11 0) (m >>= (λ y. ok (parts (length y.numbers) (length (item_octets y))))) → m ≡ refused 11 0
+      go (ok y) e = refused_ok e
       go (refused a b) e = cc
 
-  module _ (k s : ℕ) (e : ok (parts k s) ≡ rowsSize i vs) where
-    whole-as : Whole i vs k × (s ≡ length (compoundOctets i vs))
-    whole-as = whole i vs k s (sym e)
+  module _ (k s : ℕ) (e : ok (parts k s) ≡ rows_size i vs) where
+    whole_as : Whole i vs k × (s ≡ length (compound_octets i vs))
+    whole_as = whole i vs k s (sym e)
 
-    pub compound-lays : rowsSize i vs ≡ ok (parts k (length (compoundOctets i vs)))
-    compound-lays = sym e ∙ ap (λ x. ok (parts k x)) whole-as.1
+    pub compound_lays : rows_size i vs ≡ ok (parts k (length (compound_octets i vs)))
+    compound_lays = sym e ∙ ap (λ x. ok (parts k x)) whole_as.1
 
-    pub compound-fits : s ≤ length out → length (compoundOctets i vs) ≤ length out
-    compound-fits l = omega (arith, whole-as.1)
+    pub compound_fits : s ≤ length out → length (compound_octets i vs) ≤ length out
+    compound_fits l = omega (arith, whole_as.1)
 
-    compound-is : compoundAt i vs ≡ ok (compoundOctets i vs)
-    unfolding compoundAt
-    compound-is = bind-in _ whole-as.0.passes (ap ok (sym whole-as.0.octets-are))
+    compound_is : compound_at i vs ≡ ok (compound_octets i vs)
+    unfolding compound_at
+    compound_is = bind_in _ whole_as.0.passes (ap ok (sym whole_as.0.octets_are))
 
-    pub compound-full : length out < s → Answers (refused 16 0) out (writeAt i vs (length out)) out
-    compound-full l = no_room out by_rows compound-is whole-as.1 l
+    pub compound_full : length out < s → Answers (refused 16 0) out (write_at i vs (length out)) out
+    compound_full l = no_room out by_rows compound_is whole_as.1 l
 
-    pub compound-done : {out' : List ℕ} → s ≤ length out → out' ≡ sets out 0 (compoundOctets i vs) → Answers (ok s) out' (writeAt i vs (length out)) out
-    compound-done l o = with-room out by_rows compound-is whole-as.1 l o
+    pub compound_done : {out' : List ℕ} → s ≤ length out → out' ≡ sets out 0 (compound_octets i vs) → Answers (ok s) out' (write_at i vs (length out)) out
+    compound_done l o = with_room out by_rows compound_is whole_as.1 l o
 
 -- ---- the layout of a reference
 
 -- a row that is not compound has a format
-pub has-format : (i : ℕ) {r : LayoutRow} → i < layoutCount → (i ≡ 0 → ⊥) → r ≡ layoutAt i → (r.kind ≡ 5 → ⊥) → present (formatIs (layoutAt i)) ≡ true
-unfolding layoutIs
-has-format zero h z er e = absurd (z refl)
-has-format (suc i) {r} h z er e =
-    go (formatIs (layoutAt (suc i)))
-    (ap (λ t. present (cond t (some (compound (primariesIs ((layoutAt (suc i)).end - (layoutAt (suc i)).first) (layoutAt (suc i)).first))) (asPlain (formatIs (layoutAt (suc i))))))
-    (sym (ne_eqb (layoutAt (suc i)).kind 5 (λ d. e (ap (λ x. x.kind) er ∙ d))))
-    ∙ layout-some i h)
+pub has_format : (i : ℕ) {r : LayoutRow} → i < layout_count → (i ≡ 0 → ⊥) → r ≡ layout_at i → (r.kind ≡ 5 → ⊥) → present (format_is (layout_at i)) ≡ true
+unfolding layout_is
+has_format zero h z er e = absurd (z refl)
+has_format (suc i) {r} h z er e =
+    go (format_is (layout_at (suc i)))
+    (ap (λ t. present (cond t (some (compound (primaries_is ((layout_at (suc i)).end - (layout_at (suc i)).first) (layout_at (suc i)).first))) (as_plain (format_is (layout_at (suc i))))))
+    (sym (ne_eqb (layout_at (suc i)).kind 5 (λ d. e (ap (λ x. x.kind) er ∙ d))))
+    ∙ layout_some i h)
   where
-    go : (o : Option Format) → present (asPlain o) ≡ true → present o ≡ true
+    go : (o : Option Format) → present (as_plain o) ≡ true → present o ≡ true
     go none d = d
     go (some s) d = refl
 
-module _ (cat ref i : ℕ) (vs : List ℤ) (out : List ℕ) (h : (i < layoutCount) × ((expect layoutIs (layoutAt i) or 21) ≡ layout_of categories cat ref) × (i ≡ rowNamed cat ref)) where
-  one-by : writeAt i vs (length out) ≡ writeOne categories cat ref vs (length out)
-  unfolding writeOne writeAt
-  one-by = ap (λ m. m >>= (λ l. writeFields l vs >>= (λ bs. need leb (length bs) (length out) or 16 then ok bs))) h.1
+module _ (cat ref i : ℕ) (vs : List ℤ) (out : List ℕ) (h : (i < layout_count) × ((expect layout_is (layout_at i) or 21) ≡ layout_of categories cat ref) × (i ≡ row_named cat ref)) where
+  one_by : write_at i vs (length out) ≡ write_one categories cat ref vs (length out)
+  unfolding write_one write_at
+  one_by = ap (λ m. m >>= (λ l. write_fields l vs >>= (λ bs. need leb (length bs) (length out) or 16 then ok bs))) h.1
 
-  pub one-layout : {r : Answer ℕ} {out' : List ℕ} → Answers r out' (writeAt i vs (length out)) out → Answers r out' (writeOne categories cat ref vs (length out)) out
-  one-layout {r} {out'} a = subst (λ m. Answers r out' m out) one-by a
+  pub one_layout : {r : Answer ℕ} {out' : List ℕ} → Answers r out' (write_at i vs (length out)) out → Answers r out' (write_one categories cat ref vs (length out)) out
+  one_layout {r} {out'} a = subst (λ m. Answers r out' m out) one_by a
 
-  pub no-layout : i ≡ 0 → Answers (refused 21 0) out (writeOne categories cat ref vs (length out)) out
-  unfolding writeAt expect◌or◌
-  no-layout z = one-layout (refusal 21 0 out (bind-out _ (ap (λ x. expect x or 21) (ap (λ x. layoutIs (layoutAt x)) z ∙ layout-none))))
+  pub no_layout : i ≡ 0 → Answers (refused 21 0) out (write_one categories cat ref vs (length out)) out
+  unfolding write_at expect◌or◌
+  no_layout z = one_layout (refusal 21 0 out (bind_out _ (ap (λ x. expect x or 21) (ap (λ x. layout_is (layout_at x)) z ∙ layout_none))))

@@ -18,52 +18,52 @@ use lib.IntN.{ℤ}
 use Rattle.rules.specs.Answer.{Answer, ok, refused, ◌>>=◌}
 use Rattle.rules.specs.Field.{Kind, unsigned, signed, Field, spare, value, bits, arity, put, pack}
 use Rattle.rules.specs.Chain.{octets}
-use Rattle.rules.proofs.AnswerLaws.{refused-ok, ok-inj, bind-elim, need-elim, bind-cong, bind_assoc, need-bind}
-use Rattle.tables.specs.Tables.{fieldCount, fields, fieldRow, field_at, groupAt}
+use Rattle.rules.proofs.AnswerLaws.{refused_ok, ok_inj, bind_elim, need_elim, bind_cong, bind_assoc, need_bind}
+use Rattle.tables.specs.Tables.{field_count, fields, field_row, field_at, group_at}
 use Rattle.tables.specs.declared.tables.FieldRow.{FieldRow}
 use Rattle.tables.specs.declared.tables.GroupRow.{GroupRow}
-use Rattle.writing.specs.Write.{marked, packFirst, codeFor, width_of, kind_of, fieldIn, groupIn, part, packFrom}
+use Rattle.writing.specs.Write.{marked, pack_first, code_for, width_of, kind_of, field_in, group_in, part, pack_from}
 use Rattle.writing.proofs.Sound.{width_few}
-use Rattle.writing.proofs.TableLaws.{field_row, field-in-sound, group-end, group-in-sound}
-use Rattle.writing.proofs.LaidLaws.{pow-256}
+use Rattle.writing.proofs.TableLaws.{field_row_lem, field_in_sound, group_end, group_in_sound}
+use Rattle.writing.proofs.LaidLaws.{pow_256}
 
 -- ---- the FX bit
 
-pub marked-plain : (c m : Bool) (n : ℕ) → not c ≡ true → n ≡ marked c m n
-marked-plain c m n e = rw (not-true c e)
+pub marked_plain : (c m : Bool) (n : ℕ) → not c ≡ true → n ≡ marked c m n
+marked_plain c m n e = rw (not-true c e)
 
 pub marked_more : (c m : Bool) (n : ℕ) → not c ≡ false → m ≡ true → n * 2 + 1 ≡ marked c m n
 marked_more c m n e d = rw (not-false c e, d)
 
-pub marked-last : (c m : Bool) (n : ℕ) → not c ≡ false → m ≡ false → n * 2 ≡ marked c m n
-marked-last c m n e d = rw (not-false c e, d)
+pub marked_last : (c m : Bool) (n : ℕ) → not c ≡ false → m ≡ false → n * 2 ≡ marked c m n
+marked_last c m n e d = rw (not-false c e, d)
 
 -- ---- the octets of a number
 
 -- what is left of a number, cut to its last octets
-unfoldable pub lastOctets : ℕ → ℕ → List ℕ
-lastOctets k n = octets k (n % 2 ^ (8 * k))
+unfoldable pub last_octets : ℕ → ℕ → List ℕ
+last_octets k n = octets k (n % 2 ^ (8 * k))
 
-last-all : (k n : ℕ) → n < 2 ^ (8 * k) → lastOctets k n ≡ octets k n
-unfolding lastOctets
-last-all k n h = ap (octets k) (mod-eq_of_lt h)
+last_all : (k n : ℕ) → n < 2 ^ (8 * k) → last_octets k n ≡ octets k n
+unfolding last_octets
+last_all k n h = ap (octets k) (mod-eq_of_lt h)
 
-last_cons : (k n : ℕ) → 0 < k → lastOctets k n ≡ n / 2 ^ (8 * (k - 1)) % 256 ∷ lastOctets (k - 1) n
-unfolding lastOctets octets
+last_cons : (k n : ℕ) → 0 < k → last_octets k n ≡ n / 2 ^ (8 * (k - 1)) % 256 ∷ last_octets (k - 1) n
+unfolding last_octets octets
 last_cons zero n h = absurd (not-suc-le-zero h)
 last_cons (suc k) n h =
     let e : suc k - 1 ≡ k = omega arith in
     let d : 8 * suc k ≡ 8 + 8 * k = omega arith in
-    rw (e, d, pow-256 k, field n 8 (8 * k), mod-mod-pow n 8 (8 * k))
+    rw (e, d, pow_256 k, field n 8 (8 * k), mod-mod-pow n 8 (8 * k))
 
 pub record Laying (n size at : ℕ) (out₀ : List ℕ) (k i : ℕ) (out : List ℕ) : Type 0 where
   pub place : i + k ≡ at + size
   pub few : k ≤ size
   pub long : length out ≡ length out₀
-  pub same : sets out i (lastOctets k n) ≡ sets out₀ at (octets size n)
+  pub same : sets out i (last_octets k n) ≡ sets out₀ at (octets size n)
 
 pub laying : (n size at : ℕ) (out : List ℕ) → n < 2 ^ (8 * size) → Laying n size at out size at out
-laying n size at out h = record { place = refl; few = omega arith; long = refl; same = ap (sets out at) (last-all size n h) }
+laying n size at out h = record { place = refl; few = omega arith; long = refl; same = ap (sets out at) (last_all size n h) }
 
 pub laid : (n size at : ℕ) (out₀ : List ℕ) (k i : ℕ) (out : List ℕ) → Laying n size at out₀ k i out → 0 < k
     → Laying n size at out₀ (k - 1) (i + 1) (set out i (n / 2 ^ (8 * (k - 1)) % 256))
@@ -73,108 +73,108 @@ laid n size at out₀ k i out l h =
       few = omega (arith, l.few);
       long = length-set out i _ ∙ l.long;
       same =
-          ap (λ x. sets (set out i (n / 2 ^ (8 * (k - 1)) % 256)) x (lastOctets (k - 1) n)) (add-one i)
+          ap (λ x. sets (set out i (n / 2 ^ (8 * (k - 1)) % 256)) x (last_octets (k - 1) n)) (add-one i)
           ∙ ap (sets out i) (sym (last_cons k n h))
           ∙ l.same;
     }
 
 pub all_laid : (n size at : ℕ) (out₀ : List ℕ) (k i : ℕ) (out : List ℕ) → Laying n size at out₀ k i out → k ≤ 0 → out ≡ sets out₀ at (octets size n)
-unfolding lastOctets octets
+unfolding last_octets octets
 all_laid n size at out₀ k i out l h =
     let z : k ≡ 0 = omega arith in
-    sym (ap (λ x. sets out i (lastOctets x n)) z) ∙ l.same
+    sym (ap (λ x. sets out i (last_octets x n)) z) ∙ l.same
 
 -- ---- the fields of a part
 
 -- what the fields that are left add to a number
-unfoldable pub joinPack : ℕ → List Field → List ℤ → Answer ℕ
-joinPack n fs vs = packFirst fs vs >>= (λ m. ok (n * 2 ^ bits fs + m))
+unfoldable pub join_pack : ℕ → List Field → List ℤ → Answer ℕ
+join_pack n fs vs = pack_first fs vs >>= (λ m. ok (n * 2 ^ bits fs + m))
 
-join-zero : (fs : List Field) (m : Answer ℕ) → (m >>= (λ x. ok (0 * 2 ^ bits fs + x))) ≡ m
+join_zero : (fs : List Field) (m : Answer ℕ) → (m >>= (λ x. ok (0 * 2 ^ bits fs + x))) ≡ m
 unfolding ◌>>=◌
-join-zero fs (ok x) = ap ok (omega arith)
-join-zero fs (refused n p) = refl
+join_zero fs (ok x) = ap ok (omega arith)
+join_zero fs (refused n p) = refl
 
-pack-none : (vs : List ℤ) → packFirst [] vs ≡ ok 0
-unfolding packFirst pack
-pack-none vs = refl
+pack_none : (vs : List ℤ) → pack_first [] vs ≡ ok 0
+unfolding pack_first pack
+pack_none vs = refl
 
 -- a value's code, and then the other fields
-pack-cons : (w : ℕ) (k : Kind) (fs : List Field) (vs : List ℤ)
-    → packFirst (value w k ∷ fs) vs ≡ (codeFor (value w k) vs >>= (λ c. packFirst fs (drop 1 vs) >>= (λ m. ok (c * 2 ^ bits fs + m))))
-unfolding packFirst pack codeFor ◌>>=◌
-pack-cons w k fs [] = refl
-pack-cons w k fs (v ∷ vs) = bind-cong (put w k v) _ _ (λ c. sym (need-bind _ _ _ _)) ∙ sym (bind_assoc (put w k v) _ _)
+pack_cons : (w : ℕ) (k : Kind) (fs : List Field) (vs : List ℤ)
+    → pack_first (value w k ∷ fs) vs ≡ (code_for (value w k) vs >>= (λ c. pack_first fs (drop 1 vs) >>= (λ m. ok (c * 2 ^ bits fs + m))))
+unfolding pack_first pack code_for ◌>>=◌
+pack_cons w k fs [] = refl
+pack_cons w k fs (v ∷ vs) = bind_cong (put w k v) _ _ (λ c. sym (need_bind _ _ _ _)) ∙ sym (bind_assoc (put w k v) _ _)
 
-join-sum : (n w c b m : ℕ) → n * 2 ^ (w + b) + (c * 2 ^ b + m) ≡ (n * 2 ^ w + c) * 2 ^ b + m
-join-sum n w c b m = rw (pow-add 2 w b, add-mul (n * 2 ^ w) c (2 ^ b), mul_assoc n (2 ^ w) (2 ^ b)) (omega arith)
+join_sum : (n w c b m : ℕ) → n * 2 ^ (w + b) + (c * 2 ^ b + m) ≡ (n * 2 ^ w + c) * 2 ^ b + m
+join_sum n w c b m = rw (pow-add 2 w b, add-mul (n * 2 ^ w) c (2 ^ b), mul_assoc n (2 ^ w) (2 ^ b)) (omega arith)
 
-join-cons : (n w : ℕ) (k : Kind) (fs : List Field) (vs : List ℤ) {c : ℕ} → codeFor (value w k) vs ≡ ok c → joinPack n (value w k ∷ fs) vs ≡ joinPack (n * 2 ^ w + c) fs (drop 1 vs)
-unfolding joinPack ◌>>=◌
-join-cons n w k fs vs {c} e = rw (pack-cons w k fs vs, e) (go (packFirst fs (drop 1 vs)))
+join_cons : (n w : ℕ) (k : Kind) (fs : List Field) (vs : List ℤ) {c : ℕ} → code_for (value w k) vs ≡ ok c → join_pack n (value w k ∷ fs) vs ≡ join_pack (n * 2 ^ w + c) fs (drop 1 vs)
+unfolding join_pack ◌>>=◌
+join_cons n w k fs vs {c} e = rw (pack_cons w k fs vs, e) (go (pack_first fs (drop 1 vs)))
   where
     go : (r : Answer ℕ) → ((r >>= (λ m. ok (c * 2 ^ bits fs + m))) >>= (λ m. ok (n * 2 ^ (w + bits fs) + m))) ≡ (r >>= (λ m. ok ((n * 2 ^ w + c) * 2 ^ bits fs + m)))
-    go (ok m) = ap ok (join-sum n w c (bits fs) m)
+    go (ok m) = ap ok (join_sum n w c (bits fs) m)
     go (refused x y) = refl
 
-join-no : (n w : ℕ) (k : Kind) (fs : List Field) (vs : List ℤ) {x y : ℕ} → codeFor (value w k) vs ≡ refused x y → joinPack n (value w k ∷ fs) vs ≡ refused x y
-unfolding joinPack ◌>>=◌
-join-no n w k fs vs e = rw (pack-cons w k fs vs, e)
+join_no : (n w : ℕ) (k : Kind) (fs : List Field) (vs : List ℤ) {x y : ℕ} → code_for (value w k) vs ≡ refused x y → join_pack n (value w k ∷ fs) vs ≡ refused x y
+unfolding join_pack ◌>>=◌
+join_no n w k fs vs e = rw (pack_cons w k fs vs, e)
 
-join-spare : (n w : ℕ) (fs : List Field) (vs : List ℤ) → joinPack n (spare w ∷ fs) vs ≡ joinPack (n * 2 ^ w + 0) fs vs
-unfolding joinPack packFirst pack ◌>>=◌
-join-spare n w fs vs = go (pack fs (take (arity fs) vs))
+join_spare : (n w : ℕ) (fs : List Field) (vs : List ℤ) → join_pack n (spare w ∷ fs) vs ≡ join_pack (n * 2 ^ w + 0) fs vs
+unfolding join_pack pack_first pack ◌>>=◌
+join_spare n w fs vs = go (pack fs (take (arity fs) vs))
   where
     go : (r : Answer ℕ) → (r >>= (λ m. ok (n * 2 ^ (w + bits fs) + m))) ≡ (r >>= (λ m. ok ((n * 2 ^ w + 0) * 2 ^ bits fs + m)))
-    go (ok m) = ap ok (ap (λ x. n * 2 ^ (w + bits fs) + x) (omega arith) ∙ join-sum n w 0 (bits fs) m)
+    go (ok m) = ap ok (ap (λ x. n * 2 ^ (w + bits fs) + x) (omega arith) ∙ join_sum n w 0 (bits fs) m)
     go (refused x y) = refl
 
 -- a code that was made fits its bits, and there was a value
-code_fits : (f : Field) (vs : List ℤ) {c : ℕ} → codeFor f vs ≡ ok c → (0 < length vs) × (c < 2 ^ width_of f)
-unfolding codeFor
-code_fits f [] h = refused-ok h
+code_fits : (f : Field) (vs : List ℤ) {c : ℕ} → code_for f vs ≡ ok c → (0 < length vs) × (c < 2 ^ width_of f)
+unfolding code_for
+code_fits f [] h = refused_ok h
 code_fits f (v ∷ vs) h =
-    bind-elim _ _ h λ d p h₁.
-    need-elim _ _ _ h₁ λ q h₂.
-    (omega arith, subst (λ x. x < 2 ^ width_of f) (ok-inj h₂) (ltb→lt _ _ q))
+    bind_elim _ _ h λ d p h₁.
+    need_elim _ _ _ h₁ λ q h₂.
+    (omega arith, subst (λ x. x < 2 ^ width_of f) (ok_inj h₂) (ltb→lt _ _ q))
 
 -- the loop's invariant: the fields that are left, added to the number so far, make what all fields make
 pub record Packing (fs : List Field) (vs : List ℤ) (at e i n k : ℕ) : Type 0 where
-  pub in_table : e ≤ fieldCount
+  pub in_table : e ≤ field_count
   pub few : bits fs ≤ 64
   pub place : k + arity (slice i e fields) ≡ at + arity fs
   pub used : ℕ
   pub left : used + bits (slice i e fields) ≡ bits fs
   pub small : n < 2 ^ used
-  pub same : joinPack n (slice i e fields) (drop k vs) ≡ packFirst fs (drop at vs)
+  pub same : join_pack n (slice i e fields) (drop k vs) ≡ pack_first fs (drop at vs)
 
-pub packing : (j : ℕ) (vs : List ℤ) (at : ℕ) {r : GroupRow} → r ≡ groupAt j → Packing (groupIn j).fields vs at r.end r.first 0 at
-unfolding groupIn joinPack
+pub packing : (j : ℕ) (vs : List ℤ) (at : ℕ) {r : GroupRow} → r ≡ group_at j → Packing (group_in j).fields vs at r.end r.first 0 at
+unfolding group_in join_pack
 packing j vs at er =
     rw er
     (record {
-      in_table = group-end j;
-      few = omega (arith, (group-in-sound j).fits, (group-in-sound j).short);
+      in_table = group_end j;
+      few = omega (arith, (group_in_sound j).fits, (group_in_sound j).short);
       place = refl;
       used = 0;
       left = omega arith;
       small = pow_pos 0;
-      same = join-zero (groupIn j).fields (packFirst (groupIn j).fields (drop at vs));
+      same = join_zero (group_in j).fields (pack_first (group_in j).fields (drop at vs));
     })
 
-field-cons : (i e : ℕ) → i < e → e ≤ fieldCount → slice i e fields ≡ fieldIn i ∷ slice (i + 1) e fields
-unfolding fieldIn
-field-cons i e h t = rw add-one (slice-cons i e fields (value 0 (unsigned 0 0)) h t)
+field_cons : (i e : ℕ) → i < e → e ≤ field_count → slice i e fields ≡ field_in i ∷ slice (i + 1) e fields
+unfolding field_in
+field_cons i e h t = rw add-one (slice-cons i e fields (value 0 (unsigned 0 0)) h t)
 
-spare-is : (f : Field) → (fieldRow f).holds ≡ 2 → f ≡ spare (fieldRow f).bits
-spare-is (spare w) h = refl
-spare-is (value w (unsigned lo hi)) h = absurd (omega arith)
-spare-is (value w (signed lo hi)) h = absurd (omega arith)
+spare_is : (f : Field) → (field_row f).holds ≡ 2 → f ≡ spare (field_row f).bits
+spare_is (spare w) h = refl
+spare_is (value w (unsigned lo hi)) h = absurd (omega arith)
+spare_is (value w (signed lo hi)) h = absurd (omega arith)
 
-value-is : (f : Field) → ((fieldRow f).holds ≡ 2 → ⊥) → f ≡ value (fieldRow f).bits (kind_of f)
-value-is (spare w) h = absurd (h refl)
-value-is (value w (unsigned lo hi)) h = refl
-value-is (value w (signed lo hi)) h = refl
+value_is : (f : Field) → ((field_row f).holds ≡ 2 → ⊥) → f ≡ value (field_row f).bits (kind_of f)
+value_is (spare w) h = absurd (h refl)
+value_is (value w (unsigned lo hi)) h = refl
+value_is (value w (signed lo hi)) h = refl
 
 grown : (u w n c : ℕ) → n < 2 ^ u → c < 2 ^ w → n * 2 ^ w + c < 2 ^ (u + w)
 grown u w n c h k = rw (pow-add 2 u w) (digits_lt h k)
@@ -185,15 +185,15 @@ pub record Added (fs : List Field) (vs : List ℤ) (at e i n k w c k' : ℕ) : T
   pub next : {m : ℕ} → m ≡ n * 2 ^ w + c → Packing fs vs at e (i + 1) m k'
 
 module _ (fs : List Field) (vs : List ℤ) (at e i n k : ℕ) (p : Packing fs vs at e i n k) (h : i < e) where
-  pub in_place : i < fieldCount
+  pub in_place : i < field_count
   in_place = omega (arith, p.in_table)
 
-  cons : slice i e fields ≡ fieldIn i ∷ slice (i + 1) e fields
-  cons = field-cons i e h p.in_table
+  cons : slice i e fields ≡ field_in i ∷ slice (i + 1) e fields
+  cons = field_cons i e h p.in_table
 
-  added : (f : Field) (c a k' : ℕ) → fieldIn i ≡ f → bits (f ∷ slice (i + 1) e fields) ≡ width_of f + bits (slice (i + 1) e fields)
+  added : (f : Field) (c a k' : ℕ) → field_in i ≡ f → bits (f ∷ slice (i + 1) e fields) ≡ width_of f + bits (slice (i + 1) e fields)
       → arity (f ∷ slice (i + 1) e fields) ≡ a + arity (slice (i + 1) e fields) → k' ≡ k + a → c < 2 ^ width_of f
-      → joinPack n (f ∷ slice (i + 1) e fields) (drop k vs) ≡ joinPack (n * 2 ^ width_of f + c) (slice (i + 1) e fields) (drop k' vs)
+      → join_pack n (f ∷ slice (i + 1) e fields) (drop k vs) ≡ join_pack (n * 2 ^ width_of f + c) (slice (i + 1) e fields) (drop k' vs)
       → Added fs vs at e i n k (width_of f) c k'
   added f c a k' ef eb ea ek l ej =
       let w = width_of f in
@@ -204,7 +204,7 @@ module _ (fs : List Field) (vs : List ℤ) (at e i n k : ℕ) (p : Packing fs vs
       let r : arity (slice i e fields) ≡ a + arity rest = ap arity q ∙ ea in
       let t : p.used + w ≤ 64 = omega (arith, p.left, p.few) in
       record {
-        fits = (subst (λ x. width_of x < 64) ef (width_few (fieldIn i) (field-in-sound i in_place)), lt_of_lt_of_le g (pow_mono t));
+        fits = (subst (λ x. width_of x < 64) ef (width_few (field_in i) (field_in_sound i in_place)), lt_of_lt_of_le g (pow_mono t));
         next = λ em. rw em (record {
           in_table = p.in_table;
           few = p.few;
@@ -212,61 +212,61 @@ module _ (fs : List Field) (vs : List ℤ) (at e i n k : ℕ) (p : Packing fs vs
           used = p.used + w;
           left = omega (arith, p.left);
           small = g;
-          same = sym ej ∙ sym (ap (λ x. joinPack n x (drop k vs)) q) ∙ p.same;
+          same = sym ej ∙ sym (ap (λ x. join_pack n x (drop k vs)) q) ∙ p.same;
         });
       }
 
   -- a spare field
-  add-spare : (fieldRow (fieldIn i)).holds ≡ 2 → Added fs vs at e i n k (fieldRow (fieldIn i)).bits 0 k
-  add-spare y =
-      let w = (fieldRow (fieldIn i)).bits in
-      added (spare w) 0 0 k (spare-is (fieldIn i) y) refl (omega arith) (omega arith) (pow_pos w) (join-spare n w (slice (i + 1) e fields) (drop k vs))
+  add_spare : (field_row (field_in i)).holds ≡ 2 → Added fs vs at e i n k (field_row (field_in i)).bits 0 k
+  add_spare y =
+      let w = (field_row (field_in i)).bits in
+      added (spare w) 0 0 k (spare_is (field_in i) y) refl (omega arith) (omega arith) (pow_pos w) (join_spare n w (slice (i + 1) e fields) (drop k vs))
 
   -- a value, whose code is c
-  add-value : {c : ℕ} → ((fieldRow (fieldIn i)).holds ≡ 2 → ⊥) → codeFor (fieldIn i) (drop k vs) ≡ ok c → (k < length vs) × Added fs vs at e i n k (fieldRow (fieldIn i)).bits c (k + 1)
-  add-value {c} y ec =
-      let w = (fieldRow (fieldIn i)).bits in
-      let v = value-is (fieldIn i) y in
-      let ec' : codeFor (value w (kind_of (fieldIn i))) (drop k vs) ≡ ok c = ap (λ f. codeFor f (drop k vs)) (sym v) ∙ ec in
-      let (some, l) = code_fits (value w (kind_of (fieldIn i))) (drop k vs) ec' in (
+  add_value : {c : ℕ} → ((field_row (field_in i)).holds ≡ 2 → ⊥) → code_for (field_in i) (drop k vs) ≡ ok c → (k < length vs) × Added fs vs at e i n k (field_row (field_in i)).bits c (k + 1)
+  add_value {c} y ec =
+      let w = (field_row (field_in i)).bits in
+      let v = value_is (field_in i) y in
+      let ec' : code_for (value w (kind_of (field_in i))) (drop k vs) ≡ ok c = ap (λ f. code_for f (drop k vs)) (sym v) ∙ ec in
+      let (some, l) = code_fits (value w (kind_of (field_in i))) (drop k vs) ec' in (
         omega (arith, length-drop k vs),
-        added (value w (kind_of (fieldIn i))) c 1 (k + 1) v refl (omega arith) refl l
-            (join-cons n w (kind_of (fieldIn i)) (slice (i + 1) e fields) (drop k vs) ec' ∙ ap (joinPack (n * 2 ^ w + c) (slice (i + 1) e fields)) (drop-drop 1 k vs)),
+        added (value w (kind_of (field_in i))) c 1 (k + 1) v refl (omega arith) refl l
+            (join_cons n w (kind_of (field_in i)) (slice (i + 1) e fields) (drop k vs) ec' ∙ ap (join_pack (n * 2 ^ w + c) (slice (i + 1) e fields)) (drop-drop 1 k vs)),
       )
 
   -- no value, or one outside its range
-  pack-no : {x q : ℕ} → ((fieldRow (fieldIn i)).holds ≡ 2 → ⊥) → codeFor (fieldIn i) (drop k vs) ≡ refused x q → packFrom fs vs at ≡ refused x q
-  unfolding packFrom ◌>>=◌
-  pack-no {x} {q} y ec =
-      let w = (fieldRow (fieldIn i)).bits in
-      let v = value-is (fieldIn i) y in
+  pack_no : {x q : ℕ} → ((field_row (field_in i)).holds ≡ 2 → ⊥) → code_for (field_in i) (drop k vs) ≡ refused x q → pack_from fs vs at ≡ refused x q
+  unfolding pack_from ◌>>=◌
+  pack_no {x} {q} y ec =
+      let w = (field_row (field_in i)).bits in
+      let v = value_is (field_in i) y in
       let rest = slice (i + 1) e fields in
-      let d : packFirst fs (drop at vs) ≡ refused x q =
-      sym p.same ∙ ap (λ x. joinPack n x (drop k vs)) (cons ∙ ap (λ x. x ∷ rest) v) ∙ join-no n w (kind_of (fieldIn i)) rest (drop k vs) (ap (λ f. codeFor f (drop k vs)) (sym v) ∙ ec) in
+      let d : pack_first fs (drop at vs) ≡ refused x q =
+      sym p.same ∙ ap (λ x. join_pack n x (drop k vs)) (cons ∙ ap (λ x. x ∷ rest) v) ∙ join_no n w (kind_of (field_in i)) rest (drop k vs) (ap (λ f. code_for f (drop k vs)) (sym v) ∙ ec) in
       ap (λ m. m >>= (λ n. ok (part n (at + arity fs)))) d
 
   -- the same by the row
   module _ {r : FieldRow} (er : r ≡ field_at i) where
-    row_is : fieldRow (fieldIn i) ≡ r
-    row_is = sym (er ∙ field_row i)
+    row_is : field_row (field_in i) ≡ r
+    row_is = sym (er ∙ field_row_lem i)
 
-    pub turn-spare : r.holds ≡ 2 → Added fs vs at e i n k r.bits 0 k
-    turn-spare y = subst (λ x. Added fs vs at e i n k x.bits 0 k) row_is (add-spare (ap (λ x. x.holds) row_is ∙ y))
+    pub turn_spare : r.holds ≡ 2 → Added fs vs at e i n k r.bits 0 k
+    turn_spare y = subst (λ x. Added fs vs at e i n k x.bits 0 k) row_is (add_spare (ap (λ x. x.holds) row_is ∙ y))
 
-    pub turn-value : {c : ℕ} → (r.holds ≡ 2 → ⊥) → ok c ≡ codeFor (fieldIn i) (drop k vs) → (k < length vs) × Added fs vs at e i n k r.bits c (k + 1)
-    turn-value {c} y ec = subst (λ x. (k < length vs) × Added fs vs at e i n k x.bits c (k + 1)) row_is (add-value (λ z. y (sym (ap (λ x. x.holds) row_is) ∙ z)) (sym ec))
+    pub turn_value : {c : ℕ} → (r.holds ≡ 2 → ⊥) → ok c ≡ code_for (field_in i) (drop k vs) → (k < length vs) × Added fs vs at e i n k r.bits c (k + 1)
+    turn_value {c} y ec = subst (λ x. (k < length vs) × Added fs vs at e i n k x.bits c (k + 1)) row_is (add_value (λ z. y (sym (ap (λ x. x.holds) row_is) ∙ z)) (sym ec))
 
-    pub turn-no : {x q : ℕ} → (r.holds ≡ 2 → ⊥) → refused x q ≡ codeFor (fieldIn i) (drop k vs) → refused x q ≡ packFrom fs vs at
-    turn-no y ec = sym (pack-no (λ z. y (sym (ap (λ x. x.holds) row_is) ∙ z)) (sym ec))
+    pub turn_no : {x q : ℕ} → (r.holds ≡ 2 → ⊥) → refused x q ≡ code_for (field_in i) (drop k vs) → refused x q ≡ pack_from fs vs at
+    turn_no y ec = sym (pack_no (λ z. y (sym (ap (λ x. x.holds) row_is) ∙ z)) (sym ec))
 
-field-nil : (i e : ℕ) → e ≤ i → e ≤ fieldCount → slice i e fields ≡ []
-field-nil i e h t = drop_of_length-le (take e fields) (subst (λ x. x ≤ i) (sym (length-take-le e fields t)) h)
+field_nil : (i e : ℕ) → e ≤ i → e ≤ field_count → slice i e fields ≡ []
+field_nil i e h t = drop_of_length-le (take e fields) (subst (λ x. x ≤ i) (sym (length-take-le e fields t)) h)
 
 -- all fields are packed
-pub packed_all : (fs : List Field) (vs : List ℤ) (at e i n k : ℕ) → Packing fs vs at e i n k → e ≤ i → ok (part n k) ≡ packFrom fs vs at
-unfolding packFrom joinPack ◌>>=◌
+pub packed_all : (fs : List Field) (vs : List ℤ) (at e i n k : ℕ) → Packing fs vs at e i n k → e ≤ i → ok (part n k) ≡ pack_from fs vs at
+unfolding pack_from join_pack ◌>>=◌
 packed_all fs vs at e i n k p h =
-    let z : slice i e fields ≡ [] = field-nil i e h p.in_table in
-    let q : packFirst fs (drop at vs) ≡ ok n = sym p.same ∙ ap (λ x. joinPack n x (drop k vs)) z ∙ ap (λ m. m >>= (λ m. ok (n * 2 ^ 0 + m))) (pack-none (drop k vs)) ∙ ap ok (omega arith) in
+    let z : slice i e fields ≡ [] = field_nil i e h p.in_table in
+    let q : pack_first fs (drop at vs) ≡ ok n = sym p.same ∙ ap (λ x. join_pack n x (drop k vs)) z ∙ ap (λ m. m >>= (λ m. ok (n * 2 ^ 0 + m))) (pack_none (drop k vs)) ∙ ap ok (omega arith) in
     let a : k ≡ at + arity fs = omega (arith, p.place, ap arity z) in
     ap (λ x. ok (part n x)) a ∙ sym (ap (λ m. m >>= (λ n. ok (part n (at + arity fs)))) q)

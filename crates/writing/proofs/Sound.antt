@@ -31,12 +31,12 @@ width_few (spare w) s = s
 width_few (value w k) s = s.0.1
 
 -- the bit that says whether another part follows
-abbrev pub markBits : Bool → ℕ
-markBits true = 1
-markBits false = 0
+abbrev pub mark_bits : Bool → ℕ
+mark_bits true = 1
+mark_bits false = 0
 
 pub record SoundGroup (fx : Bool) (g : Group) : Type 0 where
-  pub fits : bits g.fields + markBits fx ≤ 8 * g.size
+  pub fits : bits g.fields + mark_bits fx ≤ 8 * g.size
   pub short : g.size ≤ 8
   pub each : All SoundField g.fields
 
@@ -60,51 +60,51 @@ pub both : (a b : Bool) → T (a && b) → T a × T b
 both true b h = (tt, h)
 both false b h = absurd h
 
-every-all : {A : Type 0} {P : A → Type 0} (t : A → Bool) → ((a : A) → T (t a) → P a) → (l : List A) → T (every t l) → All P l
-every-all t f [] h = tt
-every-all t f (a ∷ l) h = let (p, q) = both (t a) (every t l) h in (f a p, every-all t f l q)
+every_all : {A : Type 0} {P : A → Type 0} (t : A → Bool) → ((a : A) → T (t a) → P a) → (l : List A) → T (every t l) → All P l
+every_all t f [] h = tt
+every_all t f (a ∷ l) h = let (p, q) = both (t a) (every t l) h in (f a p, every_all t f l q)
 
-abbrev kindTest : ℕ → Kind → Bool
-kindTest w (unsigned lo hi) = ltb hi (2 ^ w)
-kindTest w (signed lo hi) = leb lo (half w) && ltb hi (half w)
+abbrev kind_test : ℕ → Kind → Bool
+kind_test w (unsigned lo hi) = ltb hi (2 ^ w)
+kind_test w (signed lo hi) = leb lo (half w) && ltb hi (half w)
 
-abbrev pub fieldTest : Field → Bool
-fieldTest (spare w) = ltb w 64
-fieldTest (value w k) = (leb 1 w && ltb w 64) && kindTest w k
+abbrev pub field_test : Field → Bool
+field_test (spare w) = ltb w 64
+field_test (value w k) = (leb 1 w && ltb w 64) && kind_test w k
 
-abbrev pub groupTest : Bool → Group → Bool
-groupTest fx g = leb (bits g.fields + markBits fx) (8 * g.size) && (leb g.size 8 && every fieldTest g.fields)
+abbrev pub group_test : Bool → Group → Bool
+group_test fx g = leb (bits g.fields + mark_bits fx) (8 * g.size) && (leb g.size 8 && every field_test g.fields)
 
-abbrev pub partsTest : Bool → List Group → Bool
-partsTest fx gs = leb (length gs) 255 && every (groupTest fx) gs
+abbrev pub parts_test : Bool → List Group → Bool
+parts_test fx gs = leb (length gs) 255 && every (group_test fx) gs
 
-kind-sound : (w : ℕ) (k : Kind) → T (kindTest w k) → SoundKind w k
-kind-sound w (unsigned lo hi) h = ltb→lt _ _ h
-kind-sound w (signed lo hi) h = let (p, q) = both (leb lo (half w)) (ltb hi (half w)) h in (leb→le _ _ p, ltb→lt _ _ q)
+kind_sound : (w : ℕ) (k : Kind) → T (kind_test w k) → SoundKind w k
+kind_sound w (unsigned lo hi) h = ltb→lt _ _ h
+kind_sound w (signed lo hi) h = let (p, q) = both (leb lo (half w)) (ltb hi (half w)) h in (leb→le _ _ p, ltb→lt _ _ q)
 
-pub field-sound : (f : Field) → T (fieldTest f) → SoundField f
-field-sound (spare w) h = ltb→lt _ _ h
-field-sound (value w k) h =
-    let (a, b) = both (leb 1 w && ltb w 64) (kindTest w k) h in
+pub field_sound : (f : Field) → T (field_test f) → SoundField f
+field_sound (spare w) h = ltb→lt _ _ h
+field_sound (value w k) h =
+    let (a, b) = both (leb 1 w && ltb w 64) (kind_test w k) h in
     let (c, d) = both (leb 1 w) (ltb w 64) a in
-    ((leb→le _ _ c, ltb→lt _ _ d), kind-sound w k b)
+    ((leb→le _ _ c, ltb→lt _ _ d), kind_sound w k b)
 
-pub group-sound : (fx : Bool) (g : Group) → T (groupTest fx g) → SoundGroup fx g
-group-sound fx g h =
-    let (a, b) = both (leb (bits g.fields + markBits fx) (8 * g.size)) (leb g.size 8 && every fieldTest g.fields) h in
-    let (c, d) = both (leb g.size 8) (every fieldTest g.fields) b in
-    record { fits = leb→le _ _ a; short = leb→le _ _ c; each = every-all fieldTest field-sound g.fields d }
+pub group_sound : (fx : Bool) (g : Group) → T (group_test fx g) → SoundGroup fx g
+group_sound fx g h =
+    let (a, b) = both (leb (bits g.fields + mark_bits fx) (8 * g.size)) (leb g.size 8 && every field_test g.fields) h in
+    let (c, d) = both (leb g.size 8) (every field_test g.fields) b in
+    record { fits = leb→le _ _ a; short = leb→le _ _ c; each = every_all field_test field_sound g.fields d }
 
-pub parts-sound : (fx : Bool) (gs : List Group) → T (partsTest fx gs) → Sound fx gs
-parts-sound fx gs h =
-    let (a, b) = both (leb (length gs) 255) (every (groupTest fx) gs) h in
-    record { few = leb→le _ _ a; each = every-all (groupTest fx) (group-sound fx) gs b }
+pub parts_sound_lem : (fx : Bool) (gs : List Group) → T (parts_test fx gs) → Sound fx gs
+parts_sound_lem fx gs h =
+    let (a, b) = both (leb (length gs) 255) (every (group_test fx) gs) h in
+    record { few = leb→le _ _ a; each = every_all (group_test fx) (group_sound fx) gs b }
 
 -- what holds of a whole table holds of each row
-pub every-at : {A : Type 0} (t : A → Bool) (l : List A) (d : A) → T (every t l) → T (t d) → (i : ℕ) → T (t (get_or l i d))
-every-at t [] d h k i = k
-every-at t (a ∷ l) d h k zero = (both (t a) (every t l) h).0
-every-at t (a ∷ l) d h k (suc i) = every-at t l d (both (t a) (every t l) h).1 k i
+pub every_at : {A : Type 0} (t : A → Bool) (l : List A) (d : A) → T (every t l) → T (t d) → (i : ℕ) → T (t (get_or l i d))
+every_at t [] d h k i = k
+every_at t (a ∷ l) d h k zero = (both (t a) (every t l) h).0
+every_at t (a ∷ l) d h k (suc i) = every_at t l d (both (t a) (every t l) h).1 k i
 
 pub every_in : {A : Type 0} (t : A → Bool) (l : List A) (d : A) → T (every t l) → (i : ℕ) → i < length l → T (t (get_or l i d))
 every_in t [] d h i k = absurd (not-suc-le-zero k)

@@ -11,16 +11,16 @@ use lib.ListN.{length, take, drop}
 use lib.Seq.{take_at, drop_at}
 use Rattle.rules.specs.Answer.{Answer, ok, refused, ◌>>=◌}
 use Rattle.rules.specs.Catalogue.{categories}
-use Rattle.rules.specs.Entry.{readOne, writeOne, over, leaves}
-use Rattle.rules.proofs.AnswerLaws.{Octets, refused-ok, ok-inj, bind-elim, bind-in}
-use Rattle.rules.proofs.EntryLaws.{over-is}
-use Rattle.rules.proofs.Tables.{tables-hold}
-use Rattle.rules.proofs.Demands.{demand-2, demand-2-output}
+use Rattle.rules.specs.Entry.{read_one, write_one, over, leaves}
+use Rattle.rules.proofs.AnswerLaws.{Octets, refused_ok, ok_inj, bind_elim, bind_in}
+use Rattle.rules.proofs.EntryLaws.{over_is}
+use Rattle.rules.proofs.Tables.{tables_hold}
+use Rattle.rules.proofs.Demands.{demand_2, demand_2_output}
 use Rattle.items.specs.Answers.{read_of, count_of}
-use Rattle.writing.specs.Item.{writtenAs}
+use Rattle.writing.specs.Item.{written_as}
 use Rattle.items.specs.declared.ItemRead.{ItemRead}
 use Rattle.items.specs.declared.ItemRead.TheVariants as read
-use Rattle.writing.proofs.Unique.{same-written}
+use Rattle.writing.proofs.Unique.{same_written}
 use Rattle.writing.specs.declared.write.ItemWritten.{ItemWritten}
 use Rattle.writing.specs.declared.write.ItemWritten.TheVariants.{Length, Refused}
 
@@ -28,18 +28,18 @@ use Rattle.writing.specs.declared.write.ItemWritten.TheVariants.{Length, Refused
 
 -- of the category, the reference, the fields and the output lent: the answer, and what the output then holds
 pub record Wrote (cat ref : ℕ) (fs : List ℤ) (out : List ℕ) (r : ItemWritten) (out' : List ℕ) : Type 0 where
-  pub answer : writtenAs r ≡ count_of (writeOne categories cat ref fs (length out))
-  pub left : out' ≡ leaves (writeOne categories cat ref fs (length out)) out
+  pub answer : written_as r ≡ count_of (write_one categories cat ref fs (length out))
+  pub left : out' ≡ leaves (write_one categories cat ref fs (length out)) out
 
 pub record WasRead (cat ref : ℕ) (bs : List ℕ) (old : List ℤ) (r : ItemRead) (new : List ℤ) : Type 0 where
-  pub answer : read_of r ≡ count_of (readOne categories cat ref bs)
-  pub left : new ≡ leaves (readOne categories cat ref bs) old
+  pub answer : read_of r ≡ count_of (read_one categories cat ref bs)
+  pub left : new ≡ leaves (read_one categories cat ref bs) old
 
 -- ---- no two results
 
-pub write-unique : (cat ref : ℕ) (fs : List ℤ) (out : List ℕ) (r s : ItemWritten) (out₁ out₂ : List ℕ)
+pub write_unique : (cat ref : ℕ) (fs : List ℤ) (out : List ℕ) (r s : ItemWritten) (out₁ out₂ : List ℕ)
     → Wrote cat ref fs out r out₁ → Wrote cat ref fs out s out₂ → (r ≡ s) × (out₁ ≡ out₂)
-write-unique cat ref fs out r s out₁ out₂ a b = (same-written r s (a.answer ∙ sym b.answer), a.left ∙ sym b.left)
+write_unique cat ref fs out r s out₁ out₂ a b = (same_written r s (a.answer ∙ sym b.answer), a.left ∙ sym b.left)
 
 -- ---- reading what was written
 
@@ -47,64 +47,64 @@ write-unique cat ref fs out r s out₁ out₂ a b = (same-written r s (a.answer 
 pub record WroteItem (cat ref : ℕ) (fs : List ℤ) (out : List ℕ) (n : ℕ) (out' : List ℕ) : Type 0 where
   pub room : n ≤ length out
   pub octets : Octets (take n out')
-  pub read : readOne categories cat ref (take n out') ≡ ok fs
+  pub read : read_one categories cat ref (take n out') ≡ ok fs
   pub kept : drop n out' ≡ drop n out
 
-pub read-write : (cat ref : ℕ) (fs : List ℤ) (out : List ℕ) (n : ℕ) (out' : List ℕ) → Wrote cat ref fs out (Length n) out' → WroteItem cat ref fs out n out'
+pub read_write : (cat ref : ℕ) (fs : List ℤ) (out : List ℕ) (n : ℕ) (out' : List ℕ) → Wrote cat ref fs out (Length n) out' → WroteItem cat ref fs out n out'
 unfolding count_of
-read-write cat ref fs out n out' w =
-    bind-elim _ _ (sym w.answer) λ bs p h.
-    let e : length bs ≡ n = ok-inj h in
-    let o : out' ≡ bs ++ drop (length bs) out = w.left ∙ demand-2-output categories tables-hold cat ref bs fs out p in
+read_write cat ref fs out n out' w =
+    bind_elim _ _ (sym w.answer) λ bs p h.
+    let e : length bs ≡ n = ok_inj h in
+    let o : out' ≡ bs ++ drop (length bs) out = w.left ∙ demand_2_output categories tables_hold cat ref bs fs out p in
     let t : take n out' ≡ bs = ap (take n) o ∙ take_at bs (drop (length bs) out) n e in
-    let d = (demand-2 categories tables-hold cat ref bs fs out).1 p in
+    let d = (demand_2 categories tables_hold cat ref bs fs out).1 p in
     record {
       room = omega (arith, d.2);
       octets = subst Octets (sym t) d.0;
-      read = ap (readOne categories cat ref) t ∙ d.1;
+      read = ap (read_one categories cat ref) t ∙ d.1;
       kept = ap (drop n) o ∙ drop_at bs (drop (length bs) out) n e ∙ ap (λ x. drop x out) e;
     }
 
-read-inj : (r s : ItemRead) → read_of r ≡ read_of s → r ≡ s
-read-inj (read.Fields m) (read.Fields n) e = cc
-read-inj (read.Fields m) (read.Refused n p) e = let z : ◌≡◌ {A = ℕ} 0 1 = cc in absurd (omega arith)
-read-inj (read.Refused n p) (read.Fields m) e = let z : ◌≡◌ {A = ℕ} 0 1 = cc in absurd (omega arith)
-read-inj (read.Refused n p) (read.Refused m q) e = cc
+read_inj : (r s : ItemRead) → read_of r ≡ read_of s → r ≡ s
+read_inj (read.Fields m) (read.Fields n) e = cc
+read_inj (read.Fields m) (read.Refused n p) e = let z : ◌≡◌ {A = ℕ} 0 1 = cc in absurd (omega arith)
+read_inj (read.Refused n p) (read.Fields m) e = let z : ◌≡◌ {A = ℕ} 0 1 = cc in absurd (omega arith)
+read_inj (read.Refused n p) (read.Refused m q) e = cc
 
 -- so `read_item`, lent the octets that `write_item` wrote, answers how many fields there were, and they stand at the start of its output
-pub read-written : (cat ref : ℕ) (fs : List ℤ) (out : List ℕ) (n : ℕ) (out' : List ℕ) (old : List ℤ) (r : ItemRead) (new : List ℤ)
+pub read_written : (cat ref : ℕ) (fs : List ℤ) (out : List ℕ) (n : ℕ) (out' : List ℕ) (old : List ℤ) (r : ItemRead) (new : List ℤ)
     → Wrote cat ref fs out (Length n) out' → WasRead cat ref (take n out') old r new → (r ≡ read.Fields (length fs)) × (new ≡ over fs old)
 unfolding count_of
-read-written cat ref fs out n out' old r new w d =
-    let e = (read-write cat ref fs out n out' w).read in
-    (read-inj r (read.Fields (length fs)) (d.answer ∙ bind-in _ e refl), d.left ∙ ap (λ m. leaves m old) e)
+read_written cat ref fs out n out' old r new w d =
+    let e = (read_write cat ref fs out n out' w).read in
+    (read_inj r (read.Fields (length fs)) (d.answer ∙ bind_in _ e refl), d.left ∙ ap (λ m. leaves m old) e)
 
 -- a refusal changes nothing
-pub write-refused : (cat ref : ℕ) (fs : List ℤ) (out : List ℕ) (n p : ℕ) (out' : List ℕ) → Wrote cat ref fs out (Refused n p) out' → out' ≡ out
+pub write_refused : (cat ref : ℕ) (fs : List ℤ) (out : List ℕ) (n p : ℕ) (out' : List ℕ) → Wrote cat ref fs out (Refused n p) out' → out' ≡ out
 unfolding count_of ◌>>=◌
-write-refused cat ref fs out n p out' w = w.left ∙ go (writeOne categories cat ref fs (length out)) w.answer
+write_refused cat ref fs out n p out' w = w.left ∙ go (write_one categories cat ref fs (length out)) w.answer
   where
     go : (m : Answer (List ℕ)) → refused n p ≡ count_of m → leaves m out ≡ out
-    go (ok bs) e = refused-ok e
+    go (ok bs) e = refused_ok e
     go (refused m q) e = refl
 
 -- ---- writing what was read
 
 pub write_read : (cat ref : ℕ) (bs : List ℕ) (fs : List ℤ) (out : List ℕ) (r : ItemWritten) (out' : List ℕ)
-    → Octets bs → readOne categories cat ref bs ≡ ok fs → length bs ≤ length out → Wrote cat ref fs out r out' → (r ≡ Length (length bs)) × (out' ≡ bs ++ drop (length bs) out)
+    → Octets bs → read_one categories cat ref bs ≡ ok fs → length bs ≤ length out → Wrote cat ref fs out r out' → (r ≡ Length (length bs)) × (out' ≡ bs ++ drop (length bs) out)
 unfolding count_of
 write_read cat ref bs fs out r out' o h room w =
-    let p : writeOne categories cat ref fs (length out) ≡ ok bs = (demand-2 categories tables-hold cat ref bs fs out).0 (o, h, room) in
-    (same-written r (Length (length bs)) (w.answer ∙ bind-in _ p refl), w.left ∙ demand-2-output categories tables-hold cat ref bs fs out p)
+    let p : write_one categories cat ref fs (length out) ≡ ok bs = (demand_2 categories tables_hold cat ref bs fs out).0 (o, h, room) in
+    (same_written r (Length (length bs)) (w.answer ∙ bind_in _ p refl), w.left ∙ demand_2_output categories tables_hold cat ref bs fs out p)
 
 -- so `write_item`, lent the fields that `read_item` gave, writes the octets that it was lent
-pub write-was-read : (cat ref : ℕ) (bs : List ℕ) (old new : List ℤ) (n : ℕ) (out : List ℕ) (r : ItemWritten) (out' : List ℕ)
+pub write_was_read : (cat ref : ℕ) (bs : List ℕ) (old new : List ℤ) (n : ℕ) (out : List ℕ) (r : ItemWritten) (out' : List ℕ)
     → Octets bs → WasRead cat ref bs old (read.Fields n) new → n ≤ length old → length bs ≤ length out → Wrote cat ref (take n new) out r out'
     → (r ≡ Length (length bs)) × (out' ≡ bs ++ drop (length bs) out)
 unfolding count_of
-write-was-read cat ref bs old new n out r out' o d few room w =
-    bind-elim _ _ (sym d.answer) λ fs p h.
-    let e : length fs ≡ n = ok-inj h in
-    let v : new ≡ fs ++ drop (length fs) old = d.left ∙ ap (λ m. leaves m old) p ∙ over-is fs old (omega arith) in
+write_was_read cat ref bs old new n out r out' o d few room w =
+    bind_elim _ _ (sym d.answer) λ fs p h.
+    let e : length fs ≡ n = ok_inj h in
+    let v : new ≡ fs ++ drop (length fs) old = d.left ∙ ap (λ m. leaves m old) p ∙ over_is fs old (omega arith) in
     let t : take n new ≡ fs = ap (take n) v ∙ take_at fs (drop (length fs) old) n e in
     write_read cat ref bs fs out r out' o p room (subst (λ x. Wrote cat ref x out r out') t w)

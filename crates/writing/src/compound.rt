@@ -4,9 +4,9 @@ ghost use Rattle.std.specs.Prelude.{◌≡◌, cond, ◌+◌, ◌<◌, ◌≤◌
 ghost use Rattle.std.proofs.lemmas.List.Edits.{sets};
 ghost use Rattle.rules.specs.Answer.{ok};
 ghost use Rattle.rules.specs.Presence.{number};
-ghost use Rattle.tables.specs.Tables.{layoutCount, subfieldCount, layoutAt, formatIs};
+ghost use Rattle.tables.specs.Tables.{layout_count, subfield_count, layout_at, format_is};
 ghost use Rattle.writing.specs.Write.{parts};
-ghost use Rattle.writing.specs.Compound.{spanTo, spanFrom, placeFrom, rowFrom, compoundOctets, spanAs, placeSize, placeAs, rowSize, rowAs, rowsSize, rowsAs, place_of, rowOf};
+ghost use Rattle.writing.specs.Compound.{span_to, span_from, place_from, row_from, compound_octets, span_as, place_size, place_as, row_size, row_as, rows_size, rows_as, place_of, row_of};
 
 use super::formats::{Counted, lay, lay_number, mark, size_of};
 use super::write::is_absent;
@@ -35,7 +35,7 @@ pub enum Span {
 // So many parts, with so many values each, of a list of so many numbers.
 fn span_to(have: usize, first: usize, count: usize, values: usize) -> Span
     requires { (first ≤ have) × ((count ≤ 255) × (values < 100)) }
-    ensures { spanAs result ≡ spanTo have first count values }
+    ensures { span_as result ≡ span_to have first count values }
 {
     let used = count * values;
     if have - first < used {
@@ -50,8 +50,8 @@ fn span_to(have: usize, first: usize, count: usize, values: usize) -> Span
 
 // The values of a subfield from a place on, by its layout: a fixed one has so many, a list says how many parts it has.
 fn span_of(layout: usize, values: &[i64], at: usize) -> Span
-    requires { (layout < layoutCount) × ((layoutAt layout).kind ≤ 2) }
-    ensures { spanAs result ≡ spanFrom (formatIs (layoutAt layout)) values.now at }
+    requires { (layout < layout_count) × ((layout_at layout).kind ≤ 2) }
+    ensures { span_as result ≡ span_from (format_is (layout_at layout)) values.now at }
 {
     let l = layout_at(layout);
     if l.kind == NONE {
@@ -92,8 +92,8 @@ pub enum PlaceSize {
 
 // The subfield of a bit, by its layout, from a place of the numbers on.
 fn size_place(layout: usize, values: &[i64], at: usize) -> PlaceSize
-    requires { (layout < layoutCount) × ((layoutAt layout).kind ≤ 2) }
-    ensures { placeAs result ≡ placeSize layout values.now at }
+    requires { (layout < layout_count) × ((layout_at layout).kind ≤ 2) }
+    ensures { place_as result ≡ place_size layout values.now at }
 {
     match span_of(layout, values, at) {
         Span::Refused => PlaceSize::Refused,
@@ -130,11 +130,11 @@ pub struct PlaceLaid {
 
 // Its octets, at a place of the output.
 fn lay_place(layout: usize, values: &[i64], at: usize, out: &mut [u8], start: usize) -> PlaceLaid
-    requires layout_lt_layout_count { (layout < layoutCount) × (((layoutAt layout).kind ≤ 2) × (placeFrom layout values.now at ≡ ok (place_of (placeFrom layout values.now at)))) }
-    requires at_in_bounds { start + length (place_of (placeFrom layout values.now at)).octets ≤ length out.old }
-    ensures laid { out.new ≡ sets out.old start (place_of (placeFrom layout values.now at)).octets }
-    ensures told { (result.there ≡ (place_of (placeFrom layout values.now at)).there)
-        × ((result.next ≡ (place_of (placeFrom layout values.now at)).next) × (result.end ≡ start + length (place_of (placeFrom layout values.now at)).octets)) }
+    requires layout_lt_layout_count { (layout < layout_count) × (((layout_at layout).kind ≤ 2) × (place_from layout values.now at ≡ ok (place_of (place_from layout values.now at)))) }
+    requires at_in_bounds { start + length (place_of (place_from layout values.now at)).octets ≤ length out.old }
+    ensures laid { out.new ≡ sets out.old start (place_of (place_from layout values.now at)).octets }
+    ensures told { (result.there ≡ (place_of (place_from layout values.now at)).there)
+        × ((result.next ≡ (place_of (place_from layout values.now at)).next) × (result.end ≡ start + length (place_of (place_from layout values.now at)).octets)) }
 {
     match span_of(layout, values, at) {
         Span::Refused => PlaceLaid {
@@ -167,8 +167,8 @@ pub enum RowSize {
 
 // The subfields of a primary octet, the first of its bits at a place of the table, from a place of the numbers on.
 fn size_row(first: usize, values: &[i64], at: usize) -> RowSize
-    requires { first + 7 ≤ subfieldCount }
-    ensures { rowAs result ≡ rowSize first values.now at }
+    requires { first + 7 ≤ subfield_count }
+    ensures { row_as result ≡ row_size first values.now at }
 {
     let end = first + 7;
     let mut i = first;
@@ -209,11 +209,11 @@ pub struct RowLaid {
 
 // Their octets, at a place of the output.
 fn lay_row(first: usize, values: &[i64], at: usize, out: &mut [u8], start: usize) -> RowLaid
-    requires first_bound { (first + 7 ≤ subfieldCount) × (rowFrom 7 first values.now at ≡ ok (rowOf (rowFrom 7 first values.now at))) }
-    requires at_in_bounds { start + length (rowOf (rowFrom 7 first values.now at)).octets ≤ length out.old }
-    ensures laid { out.new ≡ sets out.old start (rowOf (rowFrom 7 first values.now at)).octets }
-    ensures told { (result.bits ≡ number (rowOf (rowFrom 7 first values.now at)).flags)
-        × ((result.next ≡ (rowOf (rowFrom 7 first values.now at)).next) × (result.end ≡ start + length (rowOf (rowFrom 7 first values.now at)).octets)) }
+    requires first_bound { (first + 7 ≤ subfield_count) × (row_from 7 first values.now at ≡ ok (row_of (row_from 7 first values.now at))) }
+    requires at_in_bounds { start + length (row_of (row_from 7 first values.now at)).octets ≤ length out.old }
+    ensures laid { out.new ≡ sets out.old start (row_of (row_from 7 first values.now at)).octets }
+    ensures told { (result.bits ≡ number (row_of (row_from 7 first values.now at)).flags)
+        × ((result.next ≡ (row_of (row_from 7 first values.now at)).next) × (result.end ≡ start + length (row_of (row_from 7 first values.now at)).octets)) }
 {
     let end = first + 7;
     let mut i = first;
@@ -257,8 +257,8 @@ fn rows_to(bits: u64, row: usize, before: usize) -> usize
 
 // The primary octets and the subfields that a list of numbers makes, by the layout at a place of the table.
 pub fn size_rows(layout: usize, values: &[i64]) -> RowsSize
-    requires { (layout < layoutCount) × ((layoutAt layout).kind ≡ 5) }
-    ensures { rowsAs result ≡ rowsSize layout values.now }
+    requires { (layout < layout_count) × ((layout_at layout).kind ≡ 5) }
+    ensures { rows_as result ≡ rows_size layout values.now }
 {
     let l = layout_at(layout);
     let rows = l.end - l.first;
@@ -298,9 +298,9 @@ pub fn size_rows(layout: usize, values: &[i64]) -> RowsSize
 
 // Their octets, at the start of the output: so many primary octets, and the subfields after them.
 pub fn lay_rows(layout: usize, values: &[i64], count: usize, out: &mut [u8])
-    requires layout_lt_layout_count { (layout < layoutCount) × (((layoutAt layout).kind ≡ 5) × (rowsSize layout values.now ≡ ok (parts count (length (compoundOctets layout values.now))))) }
-    requires values_in_bounds { length (compoundOctets layout values.now) ≤ length out.old }
-    ensures { out.new ≡ sets out.old 0 (compoundOctets layout values.now) }
+    requires layout_lt_layout_count { (layout < layout_count) × (((layout_at layout).kind ≡ 5) × (rows_size layout values.now ≡ ok (parts count (length (compound_octets layout values.now))))) }
+    requires values_in_bounds { length (compound_octets layout values.now) ≤ length out.old }
+    ensures { out.new ≡ sets out.old 0 (compound_octets layout values.now) }
 {
     let l = layout_at(layout);
     let first = l.first;

@@ -2,10 +2,10 @@
 // by the groups of the layout.
 ghost use Rattle.std.specs.Prelude.{◌≡◌, ℕ, ◌+◌, ◌*◌, ◌^◌, ◌<◌, ◌≤◌, length, drop, get_or};
 ghost use Rattle.std.proofs.lemmas.List.Edits.{sets};
-ghost use Rattle.rules.specs.Answer.{ok, octetsOf};
+ghost use Rattle.rules.specs.Answer.{ok, octets_of};
 ghost use Rattle.rules.specs.Chain.{octets};
-ghost use Rattle.tables.specs.Tables.{fieldCount, groupCount, layoutCount};
-ghost use Rattle.writing.specs.Write.{fieldIn, groupIn, noGroup, parts_at, chainedAt, codeFor, packFrom, countParts, parts, layParts, headAt, marked, size_at, octetsAt, codedAs, packedAs, countedAs};
+ghost use Rattle.tables.specs.Tables.{field_count, group_count, layout_count};
+ghost use Rattle.writing.specs.Write.{field_in, group_in, no_group, parts_at, chained_at, code_for, pack_from, count_parts, parts, lay_parts, head_at, marked, size_at, octets_at, coded_as, packed_as, counted_as};
 
 use numbers::magnitude;
 use tables::{EXTENDED, LED, REPEATED, SPARE, field_at, group_at, layout_at};
@@ -30,8 +30,8 @@ pub enum Coded {
 
 // The bits of the value at a place of a list, in the field at a place of the table.
 fn code_at(field: usize, values: &[i64], at: usize) -> Coded
-    requires { field < fieldCount }
-    ensures { codedAs result ≡ codeFor (fieldIn field) (drop at values.now) }
+    requires { field < field_count }
+    ensures { coded_as result ≡ code_for (field_in field) (drop at values.now) }
 {
     let f = field_at(field);
     if values.len() <= at {
@@ -73,8 +73,8 @@ pub enum Packed {
 
 // The number of the part whose values start at a place of a list, by the group at a place of the table.
 fn pack_part(group: usize, values: &[i64], at: usize) -> Packed
-    requires { group < groupCount }
-    ensures { packedAs result ≡ packFrom (groupIn group).fields values.now at }
+    requires { group < group_count }
+    ensures { packed_as result ≡ pack_from (group_in group).fields values.now at }
 {
     let g = group_at(group);
     let end = g.end;
@@ -135,8 +135,8 @@ pub fn lay_number(n: u64, size: usize, out: &mut [u8], at: usize)
 
 // The group of a part, counted from 0, of the layout at a place of the table.
 fn part_group(layout: usize, part: usize) -> usize
-    requires { (layout < layoutCount) × (part < length (parts_at layout)) }
-    ensures { (result < groupCount) × (groupIn result ≡ get_or (parts_at layout) part noGroup) }
+    requires { (layout < layout_count) × (part < length (parts_at layout)) }
+    ensures { (result < group_count) × (group_in result ≡ get_or (parts_at layout) part no_group) }
 {
     let l = layout_at(layout);
     if l.kind == EXTENDED {
@@ -156,8 +156,8 @@ pub enum Counted {
 
 // The parts that a list of values makes, by the layout at a place of the table.
 fn count_parts(layout: usize, values: &[i64]) -> Counted
-    requires { layout < layoutCount }
-    ensures { countedAs result ≡ countParts (chainedAt layout) (parts_at layout) values.now }
+    requires { layout < layout_count }
+    ensures { counted_as result ≡ count_parts (chained_at layout) (parts_at layout) values.now }
 {
     let l = layout_at(layout);
     let most = l.most;
@@ -192,11 +192,11 @@ fn count_parts(layout: usize, values: &[i64]) -> Counted
 
 // The octets of the parts, at a place of the output, and the place after them.
 fn lay_parts(layout: usize, values: &[i64], count: usize, out: &mut [u8], start: usize) -> usize
-    requires layout_lt_layout_count { layout < layoutCount }
-    requires values_value { countParts (chainedAt layout) (parts_at layout) values.now ≡ ok (parts count (length (octetsOf (layParts (chainedAt layout) (parts_at layout) values.now)))) }
-    requires values_in_bounds { start + length (octetsOf (layParts (chainedAt layout) (parts_at layout) values.now)) ≤ length out.old }
-    ensures { (out.new ≡ sets out.old start (octetsOf (layParts (chainedAt layout) (parts_at layout) values.now)))
-        × (result ≡ start + length (octetsOf (layParts (chainedAt layout) (parts_at layout) values.now))) }
+    requires layout_lt_layout_count { layout < layout_count }
+    requires values_value { count_parts (chained_at layout) (parts_at layout) values.now ≡ ok (parts count (length (octets_of (lay_parts (chained_at layout) (parts_at layout) values.now)))) }
+    requires values_in_bounds { start + length (octets_of (lay_parts (chained_at layout) (parts_at layout) values.now)) ≤ length out.old }
+    ensures { (out.new ≡ sets out.old start (octets_of (lay_parts (chained_at layout) (parts_at layout) values.now)))
+        × (result ≡ start + length (octets_of (lay_parts (chained_at layout) (parts_at layout) values.now))) }
 {
     let l = layout_at(layout);
     let chained = l.kind == EXTENDED;
@@ -221,8 +221,8 @@ fn lay_parts(layout: usize, values: &[i64], count: usize, out: &mut [u8], start:
 
 // How many octets stand before the parts.
 fn head_size(layout: usize) -> usize
-    requires { layout < layoutCount }
-    ensures { (result ≤ 1) × ((k : ℕ) → length (headAt layout k) ≡ result) }
+    requires { layout < layout_count }
+    ensures { (result ≤ 1) × ((k : ℕ) → length (head_at layout k) ≡ result) }
 {
     let l = layout_at(layout);
     if l.kind == REPEATED {
@@ -244,9 +244,9 @@ fn count_octet(parts: usize, own: usize) -> u8
 
 // The count or length octet before so many parts, at a place of the output.
 fn lay_head(layout: usize, count: usize, out: &mut [u8], start: usize)
-    requires layout_lt_layout_count { (layout < layoutCount) × (count ≤ length (parts_at layout)) }
-    requires count_in_bounds { start + length (headAt layout count) ≤ length out.old }
-    ensures { out.new ≡ sets out.old start (headAt layout count) }
+    requires layout_lt_layout_count { (layout < layout_count) × (count ≤ length (parts_at layout)) }
+    requires count_in_bounds { start + length (head_at layout count) ≤ length out.old }
+    ensures { out.new ≡ sets out.old start (head_at layout count) }
 {
     let l = layout_at(layout);
     if l.kind == REPEATED {
@@ -260,8 +260,8 @@ fn lay_head(layout: usize, count: usize, out: &mut [u8], start: usize)
 
 // The parts that a list of values makes, by the layout at a place of the table, and the octets that they take with what stands before them.
 pub fn size_of(layout: usize, values: &[i64]) -> Counted
-    requires { layout < layoutCount }
-    ensures { countedAs result ≡ size_at layout values.now }
+    requires { layout < layout_count }
+    ensures { counted_as result ≡ size_at layout values.now }
 {
     match count_parts(layout, values) {
         Counted::Refused { number, place } => Counted::Refused { number, place },
@@ -283,10 +283,10 @@ pub fn size_of(layout: usize, values: &[i64]) -> Counted
 
 // Their octets, at a place of the output, and the place after them. The values make so many parts.
 pub fn lay(layout: usize, values: &[i64], count: usize, out: &mut [u8], start: usize) -> usize
-    requires layout_lt_layout_count { (layout < layoutCount) × (size_at layout values.now ≡ ok (parts count (length (octetsAt layout values.now)))) }
-    requires values_in_bounds { start + length (octetsAt layout values.now) ≤ length out.old }
-    ensures { (out.new ≡ sets out.old start (octetsAt layout values.now))
-        × (result ≡ start + length (octetsAt layout values.now)) }
+    requires layout_lt_layout_count { (layout < layout_count) × (size_at layout values.now ≡ ok (parts count (length (octets_at layout values.now)))) }
+    requires values_in_bounds { start + length (octets_at layout values.now) ≤ length out.old }
+    ensures { (out.new ≡ sets out.old start (octets_at layout values.now))
+        × (result ≡ start + length (octets_at layout values.now)) }
 {
     lay_head(layout, count, out, start);
     lay_parts(layout, values, count, out, start + head_size(layout))

@@ -1,13 +1,13 @@
 // One item: a plain one from the values of its parts, an extended one with ABSENT for each part that is not there.
 ghost use Rattle.std.specs.Prelude.{◌≡◌, true, ◌<◌, ◌≤◌, length};
 ghost use Rattle.rules.specs.Presence.{present};
-ghost use Rattle.rules.specs.FieldList.{isAbsent};
+ghost use Rattle.rules.specs.FieldList.{is_absent};
 ghost use Rattle.rules.specs.Catalogue.{categories};
-ghost use Rattle.rules.specs.Entry.{writeOne, leaves};
-ghost use Rattle.tables.specs.Tables.{layoutCount, layoutAt, formatIs};
+ghost use Rattle.rules.specs.Entry.{write_one, leaves};
+ghost use Rattle.tables.specs.Tables.{layout_count, layout_at, format_is};
 ghost use Rattle.items.specs.Answers.{count_of};
 ghost use Rattle.writing.specs.Write.{parts_at};
-ghost use Rattle.writing.specs.Item.{Front, FrontAt, toldAt, writeAt, writtenAs};
+ghost use Rattle.writing.specs.Item.{Front, FrontAt, told_at, write_at, written_as};
 
 use super::compound::{RowsSize, lay_rows, size_rows};
 use super::formats::{Counted, lay, size_of};
@@ -19,7 +19,7 @@ use tables::{COMPOUND, EXTENDED, layout_at};
 
 // Whether a number says that the part or the subfield that would begin with it is absent.
 pub fn is_absent(value: i64) -> bool
-    ensures { result ≡ isAbsent value }
+    ensures { result ≡ is_absent value }
 {
     value == ABSENT
 }
@@ -41,7 +41,7 @@ fn front_of(fields: &[i64]) -> usize
 
 // How many values of a list are those of parts: only the parts of an extended item can be absent.
 fn values_of(layout: usize, fields: &[i64]) -> usize
-    requires { layout < layoutCount }
+    requires { layout < layout_count }
     ensures { FrontAt layout fields.now result }
 {
     let l = layout_at(layout);
@@ -53,8 +53,8 @@ fn values_of(layout: usize, fields: &[i64]) -> usize
 
 // Whether each printed part of an extended item is there, or said to be absent.
 fn are_told(layout: usize, count: usize, absent: usize) -> bool
-    requires { (layout < layoutCount) × (count ≤ length (parts_at layout)) }
-    ensures { result ≡ toldAt layout count absent }
+    requires { (layout < layout_count) × (count ≤ length (parts_at layout)) }
+    ensures { result ≡ told_at layout count absent }
 {
     let l = layout_at(layout);
     if l.kind == EXTENDED {
@@ -76,9 +76,9 @@ pub enum ItemWritten {
 
 // An item that is not compound, by its layout.
 fn write_plain(layout: usize, fields: &[i64], out: &mut [u8]) -> ItemWritten
-    requires { (layout < layoutCount) × (present (formatIs (layoutAt layout)) ≡ true) }
-    ensures answer { writtenAs result ≡ count_of (writeAt layout fields.now (length out.old)) }
-    ensures left { out.new ≡ leaves (writeAt layout fields.now (length out.old)) out.old }
+    requires { (layout < layout_count) × (present (format_is (layout_at layout)) ≡ true) }
+    ensures answer { written_as result ≡ count_of (write_at layout fields.now (length out.old)) }
+    ensures left { out.new ≡ leaves (write_at layout fields.now (length out.old)) out.old }
 {
     let n = values_of(layout, fields);
     match size_of(layout, &fields[0..n]) {
@@ -104,9 +104,9 @@ fn write_plain(layout: usize, fields: &[i64], out: &mut [u8]) -> ItemWritten
 
 // A compound item, by its layout.
 fn write_compound(layout: usize, fields: &[i64], out: &mut [u8]) -> ItemWritten
-    requires { (layout < layoutCount) × ((layoutAt layout).kind ≡ 5) }
-    ensures answer { writtenAs result ≡ count_of (writeAt layout fields.now (length out.old)) }
-    ensures left { out.new ≡ leaves (writeAt layout fields.now (length out.old)) out.old }
+    requires { (layout < layout_count) × ((layout_at layout).kind ≡ 5) }
+    ensures answer { written_as result ≡ count_of (write_at layout fields.now (length out.old)) }
+    ensures left { out.new ≡ leaves (write_at layout fields.now (length out.old)) out.old }
 {
     match size_rows(layout, fields) {
         RowsSize::Refused => ItemWritten::Refused {
@@ -128,8 +128,8 @@ fn write_compound(layout: usize, fields: &[i64], out: &mut [u8]) -> ItemWritten
 
 // An item from its fields: 21 where the category has no such item, 11 where they are not the fields of one, 16 where the output has no room.
 pub fn write_item(category: u8, reference: u16, fields: &[i64], out: &mut [u8]) -> ItemWritten
-    ensures answer { writtenAs result ≡ count_of (writeOne categories category reference fields.now (length out.old)) }
-    ensures left { out.new ≡ leaves (writeOne categories category reference fields.now (length out.old)) out.old }
+    ensures answer { written_as result ≡ count_of (write_one categories category reference fields.now (length out.old)) }
+    ensures left { out.new ≡ leaves (write_one categories category reference fields.now (length out.old)) out.old }
 {
     let layout = layout_of(category, reference);
     if layout == 0 {

@@ -2,8 +2,8 @@
 use mathlib.Core.Path.{ap, ◌∙◌}
 use mir.Syntax.{w64}
 use mir.ValLaws.{to_z-of_z}
-use Rattle.merging.specs.Run.{beginOf}
-use Rattle.asterix.proofs.MergeLaws.{begun-ready, begun-closed, begun-barred}
+use Rattle.merging.specs.Run.{begin_of}
+use Rattle.asterix.proofs.MergeLaws.{begun_ready, begun_closed, begun_barred}
 use borrow.Author.Rules.{rules}
 use Rattle.asterix.proofs.asterix_begin_merge.Statement.{statement}
 use Rattle.asterix.proofs.asterix_begin_merge.Tie as tie
@@ -33,13 +33,13 @@ none-begun-requires-2 : tie.Need-none-begun-requires-2
 none-begun-requires-2 c κs = search rules
 
 returns : tie.Need-returns
-returns c = begun-ready _ _ (c.before.before.before.before.begin-merge.ensures ∙ ap (beginOf c.before.before.before.before.before.before.before.args.log-a.now c.before.before.before.before.before.before.before.args.log-b.now) (to_z-of_z w64 c.before.before.before.before.before.before.before.args.offset c.before.before.before.before.before.before.before.ranges.offset)) _ _ c.merge-out.ensures c.before.before.begun.given.1
+returns c = begun_ready _ _ (c.before.before.before.before.begin-merge.ensures ∙ ap (begin_of c.before.before.before.before.before.before.before.args.log-a.now c.before.before.before.before.before.before.before.args.log-b.now) (to_z-of_z w64 c.before.before.before.before.before.before.before.args.offset c.before.before.before.before.before.before.before.ranges.offset)) _ _ c.merge-out.ensures c.before.before.begun.given.1
 
 returns-2 : tie.Need-returns-2
-returns-2 c = begun-closed _ _ (c.before.before.before.before.before.begin-merge.ensures ∙ ap (beginOf c.before.before.before.before.before.before.before.before.args.log-a.now c.before.before.before.before.before.before.before.before.args.log-b.now) (to_z-of_z w64 c.before.before.before.before.before.before.before.before.args.offset c.before.before.before.before.before.before.before.before.ranges.offset)) _ _ _ _ _ c.before.log-number.ensures c.none-begun.ensures c.before.before.before.begun2.given.1
+returns-2 c = begun_closed _ _ (c.before.before.before.before.before.begin-merge.ensures ∙ ap (begin_of c.before.before.before.before.before.before.before.before.args.log-a.now c.before.before.before.before.before.before.before.before.args.log-b.now) (to_z-of_z w64 c.before.before.before.before.before.before.before.before.args.offset c.before.before.before.before.before.before.before.before.ranges.offset)) _ _ _ _ _ c.before.log-number.ensures c.none-begun.ensures c.before.before.before.begun2.given.1
 
 returns-3 : tie.Need-returns-3
-returns-3 c = begun-barred _ _ (c.before.before.before.before.begin-merge.ensures ∙ ap (beginOf c.before.before.before.before.before.before.before.args.log-a.now c.before.before.before.before.before.before.before.args.log-b.now) (to_z-of_z w64 c.before.before.before.before.before.before.before.args.offset c.before.before.before.before.before.before.before.ranges.offset)) _ _ c.none-begun2.ensures c.before.before.begun3.given.1
+returns-3 c = begun_barred _ _ (c.before.before.before.before.begin-merge.ensures ∙ ap (begin_of c.before.before.before.before.before.before.before.args.log-a.now c.before.before.before.before.before.before.before.args.log-b.now) (to_z-of_z w64 c.before.before.before.before.before.before.before.args.offset c.before.before.before.before.before.before.before.ranges.offset)) _ _ c.none-begun2.ensures c.before.before.begun3.given.1
 
 pub asterix-begin-merge-spec : {M : Type 1} → statement M
 asterix-begin-merge-spec =

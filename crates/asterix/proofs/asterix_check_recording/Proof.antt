@@ -1,7 +1,7 @@
 -- `asterix_check_recording` meets its contract: in each case of `check_recording`'s answer the struct is that of the rules' answer. Assumes nothing.
 use borrow.Author.Rules.{rules}
-use Rattle.asterix.specs.Answers.{recordingChecked}
-use Rattle.asterix.proofs.StructLaws.{recording-checked}
+use Rattle.asterix.specs.Answers.{recording_checked}
+use Rattle.asterix.proofs.StructLaws.{recording_checked_lem}
 use Rattle.asterix.proofs.asterix_check_recording.Statement.{statement}
 use Rattle.asterix.proofs.asterix_check_recording.Tie as tie
 
@@ -15,12 +15,12 @@ enum-known-number : tie.Need-enum-known-number
 enum-known-number c = search rules
 
 returns : tie.Need-returns
-unfolding recordingChecked
-returns c = recording-checked _ c.before.before.before.check-recording.ensures c.before.blocks2.given.1
+unfolding recording_checked
+returns c = recording_checked_lem _ c.before.before.before.check-recording.ensures c.before.blocks2.given.1
 
 returns-2 : tie.Need-returns-2
-unfolding recordingChecked
-returns-2 c = recording-checked _ c.before.before.before.check-recording.ensures c.before.number.given.1
+unfolding recording_checked
+returns-2 c = recording_checked_lem _ c.before.before.before.check-recording.ensures c.before.number.given.1
 
 pub asterix-check-recording-spec : {M : Type 1} → statement M
 asterix-check-recording-spec =

@@ -1,7 +1,7 @@
 -- `asterix_next_record` meets its contract: in each case of what `next_record` meets the struct is that of the rule's step. Assumes nothing.
 use mathlib.Core.Path.{◌∙◌}
 use borrow.Author.Rules.{rules}
-use Rattle.asterix.proofs.WalkLaws.{record-met}
+use Rattle.asterix.proofs.WalkLaws.{record_met_lem}
 use Rattle.asterix.proofs.asterix_next_record.Statement.{statement}
 use Rattle.asterix.proofs.asterix_next_record.Tie as tie
 
@@ -24,13 +24,13 @@ unmet-requires-2 : tie.Need-unmet-requires-2
 unmet-requires-2 c κs = search rules
 
 returns : tie.Need-returns
-returns c = record-met c.before.before.before.before.before.before.next-record.result _ c.before.before.before.before.before.before.next-record.ensures c.before.before.before.met.given.1
+returns c = record_met_lem c.before.before.before.before.before.before.next-record.result _ c.before.before.before.before.before.before.next-record.ensures c.before.before.before.met.given.1
 
 returns-2 : tie.Need-returns-2
-returns-2 c = c.unmet.ensures ∙ record-met c.before.before.before.before.next-record.result _ c.before.before.before.before.next-record.ensures c.before.enum_told.given.1
+returns-2 c = c.unmet.ensures ∙ record_met_lem c.before.before.before.before.next-record.result _ c.before.before.before.before.next-record.ensures c.before.enum_told.given.1
 
 returns-3 : tie.Need-returns-3
-returns-3 c = c.unmet2.ensures ∙ record-met c.before.before.before.before.before.next-record.result _ c.before.before.before.before.before.next-record.ensures c.before.before.met2.given.1
+returns-3 c = c.unmet2.ensures ∙ record_met_lem c.before.before.before.before.before.next-record.result _ c.before.before.before.before.before.next-record.ensures c.before.before.met2.given.1
 
 pub asterix-next-record-spec : {M : Type 1} → statement M
 asterix-next-record-spec =

@@ -2,8 +2,8 @@
 use Prim.Native.Nat.{◌≤◌, ◌-◌}
 use mathlib.Core.Path.{sym, ◌∙◌}
 use native.Mathlib.Omega.{arith}
-use Rattle.asterix_check.proofs.WholeLaws.{whole-few}
-use Rattle.asterix_check.proofs.TurnLaws.{end_fits, more-fits, turn-failed, turn_end, turn-stop, turn_on}
+use Rattle.asterix_check.proofs.WholeLaws.{whole_few}
+use Rattle.asterix_check.proofs.TurnLaws.{end_fits, more_fits, turn_failed, turn_end, turn_stop, turn_on}
 use borrow.Author.Rules.{rules}
 use Rattle.asterix_check.proofs.advance.Statement.{statement}
 use Rattle.asterix_check.proofs.advance.Tie as tie
@@ -39,7 +39,7 @@ part-whole-blocks-start : tie.Need-slice-bounds-whole-blocks-start
 part-whole-blocks-start c = search rules
 
 part-whole-blocks-end : tie.Need-slice-bounds-whole-blocks-end
-part-whole-blocks-end c = omega (arith, more-fits _ _ _ c.before.before.before.before.requires c.before.filled2.given.1)
+part-whole-blocks-end c = omega (arith, more_fits _ _ _ c.before.before.before.before.requires c.before.filled2.given.1)
 
 whole-blocks-requires : tie.Need-whole-blocks-requires
 whole-blocks-requires c κs = search rules
@@ -52,10 +52,10 @@ part-feed-start-2 c = search rules
 
 -- the whole blocks lie in what came, and that in the buffer
 few : (c : tie.After-whole-blocks) → c.whole-blocks.result ≤ c.before.before.before.filled2.given.0.0
-few c = let h : c.whole-blocks.result ≤ c.before.before.before.filled2.given.0.0 - 0 = whole-few _ _ _ c.whole-blocks.ensures in omega arith
+few c = let h : c.whole-blocks.result ≤ c.before.before.before.filled2.given.0.0 - 0 = whole_few _ _ _ c.whole-blocks.ensures in omega arith
 
 part-feed-end-2 : tie.Need-slice-bounds-feed-end-2
-part-feed-end-2 c = omega (arith, few c, more-fits _ _ _ c.before.before.before.before.before.before.requires c.before.before.before.filled2.given.1)
+part-feed-end-2 c = omega (arith, few c, more_fits _ _ _ c.before.before.before.before.before.before.requires c.before.before.before.filled2.given.1)
 
 feed-requires-2 : tie.Need-feed-requires-2
 feed-requires-2 c κs = search rules
@@ -67,16 +67,16 @@ finish-requires-2 : tie.Need-finish-requires-2
 finish-requires-2 c κs = search rules
 
 returns : tie.Need-returns
-returns c = (turn-stop _ _ _ _ _ _ c.before.before.before.before.before.before.before.before.filled2.given.1 c.before.before.before.before.before.whole-blocks.ensures c.before.before.before.feed2.ensures _ (sym c.before.before.is-refused.ensures ∙ c.before.if1.true) c.finish2.ensures, tt)
+returns c = (turn_stop _ _ _ _ _ _ c.before.before.before.before.before.before.before.before.filled2.given.1 c.before.before.before.before.before.whole-blocks.ensures c.before.before.before.feed2.ensures _ (sym c.before.before.is-refused.ensures ∙ c.before.if1.true) c.finish2.ensures, tt)
 
 returns-2 : tie.Need-returns-2
-returns-2 c = (turn-failed _ _ _ c.enum_told.given.1, tt)
+returns-2 c = (turn_failed _ _ _ c.enum_told.given.1, tt)
 
 returns-3 : tie.Need-returns-3
 returns-3 c = (turn_end _ _ _ _ _ _ c.before.before.before.before.filled.given.1 c.before.feed.ensures c.finish.ensures, tt)
 
 returns-4 : tie.Need-returns-4
-returns-4 c = (turn_on _ _ _ _ _ _ c.before.before.before.before.before.before.before.filled2.given.1 c.before.before.before.before.whole-blocks.ensures c.before.before.feed2.ensures (sym c.before.is-refused.ensures ∙ c.if1.false), (few c.before.before.before.before, more-fits _ _ _ c.before.before.before.before.before.before.before.before.before.before.requires c.before.before.before.before.before.before.before.filled2.given.1))
+returns-4 c = (turn_on _ _ _ _ _ _ c.before.before.before.before.before.before.before.filled2.given.1 c.before.before.before.before.whole-blocks.ensures c.before.before.feed2.ensures (sym c.before.is-refused.ensures ∙ c.if1.false), (few c.before.before.before.before, more_fits _ _ _ c.before.before.before.before.before.before.before.before.before.before.requires c.before.before.before.before.before.before.before.filled2.given.1))
 
 pub advance-spec : {M : Type 1} → statement M
 advance-spec =

@@ -4,7 +4,7 @@ use mathlib.Core.Path.{◌≡◌, ◌∙◌}
 use native.Mathlib.Omega.{arith}
 use borrow.Author.Rules.{rules}
 use lib.ListN.{length}
-use Rattle.asterix_check.proofs.TurnLaws.{came, wanted-on}
+use Rattle.asterix_check.proofs.TurnLaws.{came, wanted_on}
 use Rattle.asterix_check.proofs.main.Statement.{statement}
 use Rattle.asterix_check.proofs.main.Tie as tie
 
@@ -77,7 +77,7 @@ loop-less c = search rules
 loop-again : tie.Need-loop-preserved invariant-loop decreases-loop
 loop-again c =
     let size : length c.before.before.before.before.before.before.refill.new.0 ≡ 131072 = c.before.before.before.before.before.before.refill.ensures.1.size ∙ c.before.before.before.before.before.before.before.before.before.loop.invariant.0 in
-    let (low, high) = wanted-on _ _ _ _ _ _ c.before.before.before.advance.ensures.1 size c.before.turn2.given.1 in
+    let (low, high) = wanted_on _ _ _ _ _ _ c.before.before.before.advance.ensures.1 size c.before.turn2.given.1 in
     (size, low, high)
 
 returns-3 : tie.Need-returns-3 invariant-loop decreases-loop

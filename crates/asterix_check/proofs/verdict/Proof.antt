@@ -1,8 +1,8 @@
 -- `verdict` meets its contract: the line has room, so that it stands whole at the start. Assumes nothing.
 use mathlib.Core.Path.{ap}
-use Rattle.recordings.specs.Answers.{countsOf}
-use Rattle.asterix_check.specs.Verdict.{verdictText}
-use Rattle.asterix_check.proofs.VerdictLaws.{accepted-few, refused-few, said}
+use Rattle.recordings.specs.Answers.{counts_of}
+use Rattle.asterix_check.specs.Verdict.{verdict_text}
+use Rattle.asterix_check.proofs.VerdictLaws.{accepted_few, refused_few, said}
 use borrow.Author.Rules.{rules}
 use Rattle.asterix_check.proofs.verdict.Statement.{statement}
 use Rattle.asterix_check.proofs.verdict.Tie as tie
@@ -41,12 +41,12 @@ put-sentence-requires-2 : tie.Need-put-sentence-requires-2
 put-sentence-requires-2 c κs = search rules
 
 returns : tie.Need-returns
-unfolding verdictText
-returns c = said _ _ _ _ _ c.before.before.before.before.put-sentence-arg.given.0.1 (ap countsOf c.before.before.before.before.before.before.checked.given.1) (accepted-few _ _ (search rules) (search rules)) c.put-sentence.ensures
+unfolding verdict_text
+returns c = said _ _ _ _ _ c.before.before.before.before.put-sentence-arg.given.0.1 (ap counts_of c.before.before.before.before.before.before.checked.given.1) (accepted_few _ _ (search rules) (search rules)) c.put-sentence.ensures
 
 returns-2 : tie.Need-returns-2
-unfolding verdictText
-returns-2 c = said _ _ _ _ _ c.before.before.before.before.put-sentence-arg5.given.0.1 (ap countsOf c.before.before.before.before.before.before.checked2.given.1) (refused-few _ _ (search rules) (search rules)) c.put-sentence2.ensures
+unfolding verdict_text
+returns-2 c = said _ _ _ _ _ c.before.before.before.before.put-sentence-arg5.given.0.1 (ap counts_of c.before.before.before.before.before.before.checked2.given.1) (refused_few _ _ (search rules) (search rules)) c.put-sentence2.ensures
 
 pub verdict-spec : {M : Type 1} → statement M
 verdict-spec =

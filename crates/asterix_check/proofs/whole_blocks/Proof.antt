@@ -3,7 +3,7 @@
 use borrow.Author.Rules.{rules}
 use native.Mathlib.Omega.{arith}
 use lib.ListN.{length}
-use Rattle.asterix_check.proofs.WholeLaws.{Cutting, cut-start, cut_again, cut-less, cut-end}
+use Rattle.asterix_check.proofs.WholeLaws.{Cutting, cut_start, cut_again, cut_less, cut_end}
 use Rattle.asterix_check.proofs.whole_blocks.Statement.{statement}
 use Rattle.asterix_check.proofs.whole_blocks.Tie as tie
 use Rattle.rules.proofs.AnswerLaws.{to_end}
@@ -18,7 +18,7 @@ block-length-requires : tie.Need-block-length-requires invariant-loop decreases-
 block-length-requires c κs = search rules
 
 loop-holds : tie.Need-loop-init invariant-loop decreases-loop
-loop-holds c = cut-start _ _ c.block-length.ensures
+loop-holds c = cut_start _ _ c.block-length.ensures
 
 sub-rest : tie.Need-overflow-sub-rest invariant-loop decreases-loop
 sub-rest c = search rules
@@ -37,7 +37,7 @@ block-length-requires-2 c κs = search rules
 
 loop-less : tie.Need-loop-smaller invariant-loop decreases-loop
 loop-less c =
-    cut-less _ c.before.before.before.loop.rest.now _ _ _ c.before.before.before.loop.invariant c.before.before.loop-test.true
+    cut_less _ c.before.before.before.loop.rest.now _ _ _ c.before.before.before.loop.invariant c.before.before.loop-test.true
     (to_end c.before.before.before.loop.rest.now c.before.before.before.loop.n)
 
 loop-again : tie.Need-loop-preserved invariant-loop decreases-loop
@@ -46,7 +46,7 @@ loop-again c =
     (to_end c.before.before.before.loop.rest.now c.before.before.before.loop.n) c.block-length2.ensures
 
 returns : tie.Need-returns invariant-loop decreases-loop
-returns c = cut-end _ _ _ _ c.before.loop.invariant c.loop-test.false
+returns c = cut_end _ _ _ _ c.before.loop.invariant c.loop-test.false
 
 pub whole-blocks-spec : {M : Type 1} → statement M
 whole-blocks-spec =

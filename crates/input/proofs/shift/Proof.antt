@@ -4,7 +4,7 @@ use mathlib.Core.Path.{◌≡◌, subst}
 -- `input::shift` meets its contract: the octets before a place have moved, and those from there on are as they were. Assumes nothing.
 use native.Mathlib.Omega.{arith}
 use Prim.Native.Nat.{◌-◌, ◌≤◌}
-use Rattle.input.proofs.ShiftLaws.{Shifting, shifting-first, shifting-next}
+use Rattle.input.proofs.ShiftLaws.{Shifting, shifting_first, shifting_next}
 use Rattle.input.proofs.shift.Statement.{statement}
 use Rattle.input.proofs.shift.Tie as tie
 use Rattle.input.proofs.shift.Reads as reads
@@ -18,7 +18,7 @@ decreases-loop buffer₀ from count i₀ buffer i = count - i
 
 -- src/lib.rt:41:5
 loop-holds : tie.Need-loop-init invariant-loop decreases-loop
-loop-holds c = (omega arith, shifting-first _ _)
+loop-holds c = (omega arith, shifting_first _ _)
 
 -- src/lib.rt:42:28
 add-buffer : tie.Need-overflow-add-buffer invariant-loop decreases-loop
@@ -42,7 +42,7 @@ loop-less c = omega arith
 
 -- src/lib.rt:41:5
 loop-again : tie.Need-loop-preserved invariant-loop decreases-loop
-loop-again c = (omega arith, shifting-next _ _ _ _ c.before.before.loop.invariant.1 (omega arith))
+loop-again c = (omega arith, shifting_next _ _ _ _ c.before.before.loop.invariant.1 (omega arith))
 
 -- src/lib.rt:36:1
 same_length : tie.Need-same-length invariant-loop decreases-loop

@@ -2,14 +2,14 @@
 use Prim.Native.Nat.{◌-◌}
 use native.Mathlib.Omega.{arith}
 use borrow.Author.Rules.{rules}
-use Rattle.laying.proofs.PutLaws.{Laid, laid-all, laid_more, laid_none, laid-room}
-use Rattle.marks.specs.Lists.{newAt}
+use Rattle.laying.proofs.PutLaws.{Laid, laid_all, laid_more, laid_none, laid_room}
+use Rattle.marks.specs.Lists.{new_at}
 use Rattle.rules.specs.Mark.{size}
 use Rattle.laying.proofs.put_marks.Statement.{statement}
 use Rattle.laying.proofs.put_marks.Tie as tie
 
 abbrev invariant-loop : tie.invariant-loop
-invariant-loop s lists change a b shape out₀ at size j₀ p₀ out j p = Laid (newAt change lists s) shape a b at out₀ out j p
+invariant-loop s lists change a b shape out₀ at size j₀ p₀ out j p = Laid (new_at change lists s) shape a b at out₀ out j p
 
 abbrev decreases-loop : tie.decreases-loop
 decreases-loop s lists change a b shape out₀ at size j₀ p₀ out j p = b - j
@@ -28,11 +28,11 @@ new-mark-requires c κs =
 
 put-mark-requires : tie.Need-put-mark-requires invariant-loop decreases-loop
 put-mark-requires c κs =
-    laid-room _ c.before.before.before.before.before.before.before.args.shape _ _ _ _ _ _ _ c.before.before.before.loop.invariant c.before.before.loop-test.true c.before.before.before.before.before.before.before.requires.1
+    laid_room _ c.before.before.before.before.before.before.before.args.shape _ _ _ _ _ _ _ c.before.before.before.loop.invariant c.before.before.loop-test.true c.before.before.before.before.before.before.before.requires.1
 
 add-p : tie.Need-overflow-add-p invariant-loop decreases-loop
 add-p c =
-    omega (arith, laid-room _ c.before.before.before.before.before.before.before.before.before.before.args.shape _ _ _ _ _ _ _ c.before.before.before.before.before.before.loop.invariant c.before.before.before.before.before.loop-test.true c.before.before.before.before.before.before.before.before.before.before.requires.1, c.before.before.before.before.before.before.loop.invariant.long, c.before.before.before.before.before.before.before.size_of.ensures.0, c.before.before.before.before.before.before.before.before.before.before.well-formed.0)
+    omega (arith, laid_room _ c.before.before.before.before.before.before.before.before.before.before.args.shape _ _ _ _ _ _ _ c.before.before.before.before.before.before.loop.invariant c.before.before.before.before.before.loop-test.true c.before.before.before.before.before.before.before.before.before.before.requires.1, c.before.before.before.before.before.before.loop.invariant.long, c.before.before.before.before.before.before.before.size_of.ensures.0, c.before.before.before.before.before.before.before.before.before.before.well-formed.0)
 
 add-j : tie.Need-overflow-add-j invariant-loop decreases-loop
 add-j c =
@@ -52,7 +52,7 @@ same_length c =
 
 returns : tie.Need-returns invariant-loop decreases-loop
 returns c =
-    laid-all _ _ _ _ _ _ _ _ _ c.before.loop.invariant c.loop-test.false
+    laid_all _ _ _ _ _ _ _ _ _ c.before.loop.invariant c.loop-test.false
 
 pub put-marks-spec : {M : Type 1} → statement M
 put-marks-spec =

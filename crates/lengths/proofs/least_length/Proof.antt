@@ -2,17 +2,17 @@
 use mathlib.Core.Path.{◌∙◌}
 use borrow.Author.Rules.{rules}
 use Rattle.rules.specs.Catalogue.{categories}
-use Rattle.lengths.proofs.LeastLaws.{no-profile, far-octet, sum-of}
+use Rattle.lengths.proofs.LeastLaws.{no_profile, far_octet, sum_of_lem}
 use Rattle.lengths.proofs.least_length.Statement.{statement}
 use Rattle.lengths.proofs.least_length.Tie as tie
 
 returns : tie.Need-returns
 unfolding categories
-returns c = no-profile _ _ _ c.if1.true
+returns c = no_profile _ _ _ c.if1.true
 
 returns-2 : tie.Need-returns-2
 unfolding categories
-returns-2 c = far-octet _ _ _ c.before.if1.false c.if2.true
+returns-2 c = far_octet _ _ _ c.before.if1.false c.if2.true
 
 mul-sum-at : tie.Need-overflow-mul-sum-at
 mul-sum-at c = search rules
@@ -30,7 +30,7 @@ returns-3 : tie.Need-returns-3
 returns-3 c =
     c.octet.ensures.0
     ∙ c.before.sum-at.ensures
-    ∙ sum-of c.before.before.before.before.args.profile c.before.before.before.before.args.place _ c.before.before.if2.false
+    ∙ sum_of_lem c.before.before.before.before.args.profile c.before.before.before.before.args.place _ c.before.before.if2.false
 
 pub least-length-spec : {M : Type 1} → statement M
 least-length-spec = tie.close (tie.spec returns returns-2 mul-sum-at add-sum-at sum-at-requires octet-requires returns-3)

@@ -1,6 +1,6 @@
 -- `marks::number_4` meets its contract. Assumes nothing.
 use borrow.Author.Rules.{rules}
-use Rattle.marks.proofs.MarkSteps.{four-number}
+use Rattle.marks.proofs.MarkSteps.{four_number}
 use Rattle.marks.proofs.number_4.Statement.{statement}
 use Rattle.marks.proofs.number_4.Tie as tie
 
@@ -48,7 +48,7 @@ add-result-3 c = search rules
 
 returns : tie.Need-returns
 returns c =
-    four-number _ _ _ _ _ c.before.before.before.before.before.before.octet.ensures c.before.before.before.before.octet2.ensures c.before.before.octet3.ensures c.octet4.ensures
+    four_number _ _ _ _ _ c.before.before.before.before.before.before.octet.ensures c.before.before.before.before.octet2.ensures c.before.before.octet3.ensures c.octet4.ensures
 
 pub number-4-spec : {M : Type 1} → statement M
 number-4-spec =

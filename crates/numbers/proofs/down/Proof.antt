@@ -1,5 +1,5 @@
 -- `numbers::down` meets its contract. Assumes nothing.
-use Rattle.numbers.proofs.Signs.{down_fits, down-back}
+use Rattle.numbers.proofs.Signs.{down_fits, down_back}
 use borrow.Author.Rules.{rules}
 use Rattle.numbers.proofs.down.Statement.{statement}
 use Rattle.numbers.proofs.down.Tie as tie
@@ -11,7 +11,7 @@ sub-result : tie.Need-overflow-sub-result
 sub-result c = down_fits c.args.n c.requires
 
 returns : tie.Need-returns
-returns c = down-back c.args.n c.requires
+returns c = down_back c.args.n c.requires
 
 pub down-spec : {M : Type 1} → statement M
 down-spec = tie.close (tie.spec cast-result sub-result returns)

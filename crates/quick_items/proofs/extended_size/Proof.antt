@@ -6,29 +6,29 @@ use native.Mathlib.Omega.{arith}
 use borrow.Author.Tests.{not-false}
 use lib.ListN.{drop}
 use Rattle.rules.proofs.AnswerLaws.{Octets}
-use Rattle.quick_items.specs.Item.{firstThree, asked, soundExtended}
-use Rattle.tables.specs.Tables.{layoutAt, placeRowAt}
-use Rattle.layouts.proofs.OctetLaws.{octets-known}
-use Rattle.quick_items.proofs.ItemLaws.{three-on, asked-first, extended-one, extended-two}
-use Rattle.layouts.proofs.SoundLaws.{layout-sound}
-use Rattle.tables.proofs.TableLaws.{place-row}
+use Rattle.quick_items.specs.Item.{first_three, asked, sound_extended}
+use Rattle.tables.specs.Tables.{layout_at, place_row_at}
+use Rattle.layouts.proofs.OctetLaws.{octets_known}
+use Rattle.quick_items.proofs.ItemLaws.{three_on, asked_first, extended_one, extended_two}
+use Rattle.layouts.proofs.SoundLaws.{layout_sound}
+use Rattle.tables.proofs.TableLaws.{place_row_lem}
 use borrow.Author.Rules.{rules}
 use Rattle.quick_items.proofs.extended_size.Statement.{statement}
 use Rattle.quick_items.proofs.extended_size.Tie as tie
 
-octets-at : (c : tie.After-shared-slice-known) → Octets c.before.args.part.now
-octets-at c = octets-known c.before.args.part.now (λ i. omega (arith, c.shared-slice-known.given i))
+octets_at_lem : (c : tie.After-shared-slice-known) → Octets c.before.args.part.now
+octets_at_lem c = octets_known c.before.args.part.now (λ i. omega (arith, c.shared-slice-known.given i))
 
 -- the word is sound
-sound-at : (c : tie.After-word-at) → soundExtended c.before.before.args.t.now c.word_at.result (layoutAt (placeRowAt c.before.before.args.place).layout) ≡ true
+sound-at : (c : tie.After-word-at) → sound_extended c.before.before.args.t.now c.word_at.result (layout_at (place_row_at c.before.before.args.place).layout) ≡ true
 sound-at c = rw c.word_at.ensures c.before.before.requires.2
 
 -- each part obeys its rule
-first-asked : (c : tie.Else1) → asked c.before.before.before.before.before.args.t.now (c.before.before.before.word_at.result / 4096 % 16) (firstThree c.before.before.before.before.before.args.part.now) ≡ true
-first-asked c = asked-first _ _ _ c.before.before.first_three.ensures.0 c.before.is-asked.ensures (not-false _ c.if1.false)
+first-asked : (c : tie.Else1) → asked c.before.before.before.before.before.args.t.now (c.before.before.before.word_at.result / 4096 % 16) (first_three c.before.before.before.before.before.args.part.now) ≡ true
+first-asked c = asked_first _ _ _ c.before.before.first_three.ensures.0 c.before.is-asked.ensures (not-false _ c.if1.false)
 
-second-asked : (c : tie.Then5) → asked c.before.before.before.before.before.before.before.before.before.before.before.before.before.before.args.t.now ((c.before.before.before.before.before.before.before.before.before.before.before.before.word_at.result / 4096 + 1) % 16) (firstThree (drop 1 c.before.before.before.before.before.before.before.before.before.before.before.before.before.before.args.part.now)) ≡ true
-second-asked c = asked-first _ _ _ (three-on c.before.before.before.before.before.before.before.before.before.before.before.before.before.before.args.part.now c.before.before.first-three2.ensures.0) c.before.is-asked2.ensures c.if5.true
+second-asked : (c : tie.Then5) → asked c.before.before.before.before.before.before.before.before.before.before.before.before.before.before.args.t.now ((c.before.before.before.before.before.before.before.before.before.before.before.before.word_at.result / 4096 + 1) % 16) (first_three (drop 1 c.before.before.before.before.before.before.before.before.before.before.before.before.before.before.args.part.now)) ≡ true
+second-asked c = asked_first _ _ _ (three_on c.before.before.before.before.before.before.before.before.before.before.before.before.before.before.args.part.now c.before.before.first-three2.ensures.0) c.before.is-asked2.ensures c.if5.true
 
 word-at-requires : tie.Need-word-at-requires
 word-at-requires c κs = search rules
@@ -46,7 +46,7 @@ shared-slice-read-if2 : tie.Need-shared-slice-read-if2
 shared-slice-read-if2 c = search rules
 
 returns-2 : tie.Need-returns-2
-returns-2 c = extended-one c.before.before.before.before.before.before.before.args.t.now _ _ _ (layout-sound _ (place-row _)) (octets-at c.before.before.before.before.before.before) c.before.before.before.before.before.before.before.requires.1 (sound-at c.before.before.before.before.before) (first-asked c.before.before) c.if2.true
+returns-2 c = extended_one c.before.before.before.before.before.before.before.args.t.now _ _ _ (layout_sound _ (place_row_lem _)) (octets_at_lem c.before.before.before.before.before.before) c.before.before.before.before.before.before.before.requires.1 (sound-at c.before.before.before.before.before) (first-asked c.before.before) c.if2.true
 
 returns-3 : tie.Need-returns-3
 returns-3 c = search rules
@@ -76,7 +76,7 @@ is-asked-requires-2 : tie.Need-is-asked-requires-2
 is-asked-requires-2 c κs = search rules
 
 returns-5 : tie.Need-returns-5
-returns-5 c = extended-two c.before.before.before.before.before.before.before.before.before.before.before.before.before.before.args.t.now _ _ _ (layout-sound _ (place-row _)) (octets-at c.before.before.before.before.before.before.before.before.before.before.before.before.before) c.before.before.before.before.before.before.before.before.before.before.before.before.before.before.requires.1 (sound-at c.before.before.before.before.before.before.before.before.before.before.before.before) (first-asked c.before.before.before.before.before.before.before.before.before) c.before.before.before.before.before.before.before.if2.false c.before.before.before.before.before.before.if3.false (second-asked c) c.before.before.before.before.if4.false
+returns-5 c = extended_two c.before.before.before.before.before.before.before.before.before.before.before.before.before.before.args.t.now _ _ _ (layout_sound _ (place_row_lem _)) (octets_at_lem c.before.before.before.before.before.before.before.before.before.before.before.before.before) c.before.before.before.before.before.before.before.before.before.before.before.before.before.before.requires.1 (sound-at c.before.before.before.before.before.before.before.before.before.before.before.before) (first-asked c.before.before.before.before.before.before.before.before.before) c.before.before.before.before.before.before.before.if2.false c.before.before.before.before.before.before.if3.false (second-asked c) c.before.before.before.before.if4.false
 
 returns-6 : tie.Need-returns-6
 returns-6 c = search rules

@@ -1,4 +1,4 @@
--- `quick_items::first_three` meets its contract: an octet that is missing counts as 0. Assumes nothing.
+-- `quick_items::first_three_lem` meets its contract: an octet that is missing counts as 0. Assumes nothing.
 use Rattle.quick_items.proofs.ItemLaws.{only_one, only_two, all_three}
 use borrow.Author.Rules.{rules}
 use Rattle.quick_items.proofs.first_three.Statement.{statement}

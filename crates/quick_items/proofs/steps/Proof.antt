@@ -2,14 +2,14 @@
 use mathlib.Core.Path.{refl}
 use Rattle.rules.specs.Answer.{if◌then◌else◌}
 use Rattle.rules.specs.Catalogue.{categories}
-use Rattle.tables.specs.FieldRules.{rules, firstRule}
-use Rattle.quick_items.specs.Item.{downOf, addedOf, upOf, limitOf, soundRule, soundSingle, soundCounted, soundExtended, soundTwice, soundWord, soundWords, soundSteps, wordOctets, exactSteps}
-use Rattle.tables.specs.Tables.{groups, layouts, groupAt, layoutAt, placeRowAt}
+use Rattle.tables.specs.FieldRules.{rules, first_rule}
+use Rattle.quick_items.specs.Item.{down_of, added_of, up_of, limit_of, sound_rule, sound_single, sound_counted, sound_extended, sound_twice, sound_word, sound_words, sound_steps, word_octets, exact_steps}
+use Rattle.tables.specs.Tables.{groups, layouts, group_at, layout_at, place_row_at}
 use Rattle.quick_items.proofs.steps.Statement.{statement}
 use Rattle.quick_items.proofs.steps.Tie as tie
 
 returns : tie.Need-returns
-unfolding downOf addedOf upOf limitOf soundRule soundSingle soundCounted soundExtended soundTwice soundWord soundWords soundSteps wordOctets exactSteps if◌then◌else◌ firstRule rules groupAt layoutAt placeRowAt groups layouts categories
+unfolding down_of added_of up_of limit_of sound_rule sound_single sound_counted sound_extended sound_twice sound_word sound_words sound_steps word_octets exact_steps if◌then◌else◌ first_rule rules group_at layout_at place_row_at groups layouts categories
 returns c = (refl, refl)
 
 pub steps-spec : {M : Type 1} → statement M

@@ -1,4 +1,4 @@
--- `quick_items::told_at` meets its contract: the word of the place is sound, and says how the item is told. Assumes nothing.
+-- `quick_items::told_at_lem` meets its contract: the word of the place is sound, and says how the item is told. Assumes nothing.
 use native.Mathlib.Omega.{arith}
 use Rattle.quick_items.proofs.ItemLaws.{word_sound}
 use borrow.Author.Rules.{rules}

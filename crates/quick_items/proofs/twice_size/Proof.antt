@@ -2,10 +2,10 @@
 use native.Mathlib.Omega.{arith}
 use borrow.Author.Rules.{rules}
 use borrow.Author.Tests.{not-false}
-use Rattle.layouts.proofs.SoundLaws.{layout-sound}
-use Rattle.tables.proofs.TableLaws.{place-row}
-use Rattle.layouts.proofs.OctetLaws.{octets-known}
-use Rattle.quick_items.proofs.ItemLaws.{asked-first, twice-told}
+use Rattle.layouts.proofs.SoundLaws.{layout_sound}
+use Rattle.tables.proofs.TableLaws.{place_row_lem}
+use Rattle.layouts.proofs.OctetLaws.{octets_known}
+use Rattle.quick_items.proofs.ItemLaws.{asked_first, twice_told}
 use Rattle.quick_items.proofs.twice_size.Statement.{statement}
 use Rattle.quick_items.proofs.twice_size.Tie as tie
 
@@ -32,9 +32,9 @@ is-asked-requires-2 c κs = search rules
 
 returns-3 : tie.Need-returns-3
 returns-3 c =
-    twice-told _ _ _ (layout-sound _ (place-row _)) (octets-known c.before.before.before.before.before.before.before.before.args.part.now (λ i. omega (arith, c.before.before.before.before.before.before.before.shared-slice-known.given i))) c.before.before.before.before.before.if1.false
-    c.before.before.before.before.before.before.before.before.args.t.now (rw c.before.before.before.before.before.before.word_at.ensures c.before.before.before.before.before.before.before.before.requires.2) (asked-first _ _ _ c.before.before.before.before.first_three.ensures.0 c.before.before.before.is-asked.ensures (not-false _ c.before.before.if2.false))
-    (asked-first _ _ _ c.before.before.before.before.first_three.ensures.0 c.before.is-asked2.ensures c.if3.true)
+    twice_told _ _ _ (layout_sound _ (place_row_lem _)) (octets_known c.before.before.before.before.before.before.before.before.args.part.now (λ i. omega (arith, c.before.before.before.before.before.before.before.shared-slice-known.given i))) c.before.before.before.before.before.if1.false
+    c.before.before.before.before.before.before.before.before.args.t.now (rw c.before.before.before.before.before.before.word_at.ensures c.before.before.before.before.before.before.before.before.requires.2) (asked_first _ _ _ c.before.before.before.before.first_three.ensures.0 c.before.before.before.is-asked.ensures (not-false _ c.before.before.if2.false))
+    (asked_first _ _ _ c.before.before.before.before.first_three.ensures.0 c.before.is-asked2.ensures c.if3.true)
 
 returns-4 : tie.Need-returns-4
 returns-4 c = search rules

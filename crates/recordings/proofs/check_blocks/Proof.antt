@@ -6,12 +6,12 @@ use native.Mathlib.Omega.{arith}
 use lib.ListN.{length}
 use Rattle.rules.specs.Answer.{refused}
 use Rattle.rules.proofs.AnswerLaws.{to_end}
-use Rattle.blocks.specs.Read.{Front, checkFront}
-use Rattle.blocks.specs.Answers.{frontOf}
-use Rattle.blocks.proofs.LoopLaws.{octets-each}
-use Rattle.blocks.proofs.InsideLaws.{front-inside}
-use Rattle.recordings.specs.Answers.{frontNumber, frontPlace}
-use Rattle.recordings.proofs.CountLaws.{FrontTaken, front-taken, counts_end, counts-stop, Checking, check-start, check-again}
+use Rattle.blocks.specs.Read.{Front, check_front}
+use Rattle.blocks.specs.Answers.{front_of}
+use Rattle.blocks.proofs.LoopLaws.{octets_each}
+use Rattle.blocks.proofs.InsideLaws.{front_inside}
+use Rattle.recordings.specs.Answers.{front_number, front_place}
+use Rattle.recordings.proofs.CountLaws.{FrontTaken, front_taken, counts_end, counts_stop, Checking, check_start, check_again}
 use Rattle.recordings.proofs.check_blocks.Statement.{statement}
 use Rattle.recordings.proofs.check_blocks.Tie as tie
 
@@ -22,22 +22,22 @@ abbrev decreases-loop : tie.decreases-loop
 decreases-loop steps types sets recording rest₀ place₀ count₀ total₀ rest place count total = length rest
 
 -- the block of this turn
-abbrev front_of : tie.After-known-told invariant-loop decreases-loop → Front
-front_of c = record { len = c.before.front.given.0.0; records = c.before.front.given.0.1.0 }
+abbrev front_of_lem : tie.After-known-told invariant-loop decreases-loop → Front
+front_of_lem c = record { len = c.before.front.given.0.0; records = c.before.front.given.0.1.0 }
 
-accepted : (c : tie.After-known-told invariant-loop decreases-loop) → FrontTaken c.before.before.before.before.before.loop.rest.now (front_of c)
+accepted : (c : tie.After-known-told invariant-loop decreases-loop) → FrontTaken c.before.before.before.before.before.loop.rest.now (front_of_lem c)
 accepted c =
-    front-taken c.before.before.before.before.before.loop.rest.now (front_of c) c.before.before.before.before.before.loop.invariant.octets (sym c.before.before.before.check-front.ensures ∙ ap frontOf c.before.front.given.1)
+    front_taken c.before.before.before.before.before.loop.rest.now (front_of_lem c) c.before.before.before.before.before.loop.invariant.octets (sym c.before.before.before.check-front.ensures ∙ ap front_of c.before.front.given.1)
 
 -- the refusal that ends the loop
-barred : (c : tie.After-front-place invariant-loop decreases-loop) → checkFront c.before.before.before.before.before.before.loop.rest.now ≡ refused c.before.front-number.result c.front-place.result
+barred : (c : tie.After-front-place invariant-loop decreases-loop) → check_front c.before.before.before.before.before.before.loop.rest.now ≡ refused c.before.front-number.result c.front-place.result
 barred c =
     sym c.before.before.before.before.check-front.ensures
-    ∙ ap frontOf c.before.before.enum_told.given.1
-    ∙ ap₂ refused (sym (c.before.front-number.ensures ∙ ap frontNumber c.before.before.enum_told.given.1)) (sym (c.front-place.ensures ∙ ap frontPlace c.before.before.enum_told.given.1))
+    ∙ ap front_of c.before.before.enum_told.given.1
+    ∙ ap₂ refused (sym (c.before.front-number.ensures ∙ ap front_number c.before.before.enum_told.given.1)) (sym (c.front-place.ensures ∙ ap front_place c.before.before.enum_told.given.1))
 
 loop-holds : tie.Need-loop-init invariant-loop decreases-loop
-loop-holds c = check-start _ (octets-each c.before.args.recording.now c.shared-slice-known.given)
+loop-holds c = check_start _ (octets_each c.before.args.recording.now c.shared-slice-known.given)
 
 check-front-requires : tie.Need-check-front-requires invariant-loop decreases-loop
 check-front-requires c κs = c.before.before.before.requires
@@ -55,10 +55,10 @@ front-place-requires : tie.Need-front-place-requires invariant-loop decreases-lo
 front-place-requires c κs = search rules
 
 add-t16 : tie.Need-overflow-add-t16 invariant-loop decreases-loop
-add-t16 c = omega (arith, front-inside c.before.before.before.before.before.before.loop.rest.now c.before.before.before.before.before.before.loop.invariant.octets _ _ (barred c))
+add-t16 c = omega (arith, front_inside c.before.before.before.before.before.before.loop.rest.now c.before.before.before.before.before.before.loop.invariant.octets _ _ (barred c))
 
 returns : tie.Need-returns invariant-loop decreases-loop
-returns c = sym (counts-stop _ _ _ _ _ _ c.before.before.before.before.before.loop-test.true (barred c)) ∙ c.before.before.before.before.before.before.loop.invariant.same
+returns c = sym (counts_stop _ _ _ _ _ _ c.before.before.before.before.before.loop-test.true (barred c)) ∙ c.before.before.before.before.before.before.loop.invariant.same
 
 sub-rest : tie.Need-overflow-sub-rest invariant-loop decreases-loop
 sub-rest c = omega (arith, (accepted c).within)
@@ -82,7 +82,7 @@ loop-less : tie.Need-loop-smaller invariant-loop decreases-loop
 loop-less c = omega (arith, (accepted c.before).within, (accepted c.before).some, c.rest.given.2)
 
 loop-again : tie.Need-loop-preserved invariant-loop decreases-loop
-loop-again c = check-again _ c.before.before.before.before.before.before.loop.rest.now _ _ _ _ (front_of c.before) c.before.before.before.before.before.before.loop.invariant (accepted c.before) (to_end c.before.before.before.before.before.before.loop.rest.now (front_of c.before).len)
+loop-again c = check_again _ c.before.before.before.before.before.before.loop.rest.now _ _ _ _ (front_of_lem c.before) c.before.before.before.before.before.before.loop.invariant (accepted c.before) (to_end c.before.before.before.before.before.before.loop.rest.now (front_of_lem c.before).len)
 
 returns-2 : tie.Need-returns-2 invariant-loop decreases-loop
 returns-2 c = sym (counts_end _ _ _ _ (omega arith)) ∙ c.before.loop.invariant.same

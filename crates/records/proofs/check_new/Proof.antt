@@ -1,14 +1,14 @@
 -- `records::check_new` meets its contract: at each `return` the functions called say which step of the rules ended the work. Assumes nothing.
 use native.Mathlib.Omega.{arith}
 use borrow.Author.Rules.{rules}
-use Rattle.sets.proofs.FspecLaws.{set-low, set-within}
-use Rattle.records.proofs.NewLaws.{new-empty, new-barred, new-stop, new-more, new-judged, new-whole}
+use Rattle.sets.proofs.FspecLaws.{set_low, set_within}
+use Rattle.records.proofs.NewLaws.{new_empty, new_barred, new_stop, new_more, new_judged, new_whole}
 use Rattle.records.proofs.check_new.Statement.{statement}
 use Rattle.records.proofs.check_new.Tie as tie
 
 -- the set is empty
 returns : tie.Need-returns
-returns c = new-empty _ _ _ c.before.shared-slice-known.given (search rules) c.if1.true
+returns c = new_empty _ _ _ c.before.shared-slice-known.given (search rules) c.if1.true
 
 usable-requires : tie.Need-usable-requires
 usable-requires c κs = search rules
@@ -19,10 +19,10 @@ is-within-requires c κs = search rules
 -- the profile lacks an FRN
 returns-2 : tie.Need-returns-2
 returns-2 c =
-    new-barred _ _ _ c.before.before.before.before.shared-slice-known.given (search rules) c.before.before.before.if1.false c.before.before.usable.ensures c.before.is_Within.ensures c.if2.true
+    new_barred _ _ _ c.before.before.before.before.shared-slice-known.given (search rules) c.before.before.before.if1.false c.before.before.usable.ensures c.before.is_Within.ensures c.if2.true
 
 walk-items-requires : tie.Need-walk-items-requires
-walk-items-requires c κs = (set-low _ _ (search rules) (set-within _ _ c.before.before.usable.ensures c.before.is_Within.ensures c.if2.false), omega arith, search rules)
+walk-items-requires c κs = (set_low _ _ (search rules) (set_within _ _ c.before.before.usable.ensures c.before.is_Within.ensures c.if2.false), omega arith, search rules)
 
 enum-known-c : tie.Need-enum-known-c
 enum-known-c c = search rules
@@ -39,7 +39,7 @@ checked-place-requires c κs = search rules
 -- an item is refused
 returns-3 : tie.Need-returns-3
 returns-3 c =
-    new-stop _ _ _ c.before.before.before.before.before.before.before.before.before.shared-slice-known.given (search rules)
+    new_stop _ _ _ c.before.before.before.before.before.before.before.before.before.shared-slice-known.given (search rules)
     c.before.before.before.before.before.before.before.before.if1.false c.before.before.before.before.before.before.before.usable.ensures
     c.before.before.before.before.before.before.is_Within.ensures c.before.before.before.before.before.if2.false
     _ c.before.before.before.before.walk-items.ensures _ _ _ _ c.before.before.enum_told.given.1 c.before.checked-number.ensures c.checked-place.ensures
@@ -47,7 +47,7 @@ returns-3 c =
 -- octets after the last item
 returns-4 : tie.Need-returns-4
 returns-4 c =
-    new-more _ _ _ c.before.before.before.before.before.before.before.before.before.shared-slice-known.given (search rules)
+    new_more _ _ _ c.before.before.before.before.before.before.before.before.before.shared-slice-known.given (search rules)
     c.before.before.before.before.before.before.before.before.if1.false c.before.before.before.before.before.before.before.usable.ensures
     c.before.before.before.before.before.before.is_Within.ensures c.before.before.before.before.before.if2.false
     _ c.before.before.before.before.walk-items.ensures _ c.before.before.c.given.1 c.if3.true
@@ -67,7 +67,7 @@ judged-number-requires c κs = search rules
 -- the message type is not content
 returns-5 : tie.Need-returns-5
 returns-5 c =
-    new-judged _ _ _ c.before.before.before.before.before.before.before.before.before.before.before.before.before.shared-slice-known.given (search rules)
+    new_judged _ _ _ c.before.before.before.before.before.before.before.before.before.before.before.before.before.shared-slice-known.given (search rules)
     c.before.before.before.before.before.before.before.before.before.before.before.before.if1.false
     c.before.before.before.before.before.before.before.before.before.before.before.usable.ensures
     c.before.before.before.before.before.before.before.before.before.before.is_Within.ensures
@@ -77,8 +77,8 @@ returns-5 c =
 
 octets-of-requires : tie.Need-octets-of-requires
 octets-of-requires c κs =
-    set-low _ _ (search rules)
-    (set-within _ _ c.before.before.before.before.before.before.before.before.before.before.usable.ensures
+    set_low _ _ (search rules)
+    (set_within _ _ c.before.before.before.before.before.before.before.before.before.before.usable.ensures
     c.before.before.before.before.before.before.before.before.before.is_Within.ensures
     c.before.before.before.before.before.before.before.before.if2.false)
 
@@ -88,7 +88,7 @@ add-t18 c = omega (arith, c.octets-of.ensures.1)
 -- it is whole
 returns-6 : tie.Need-returns-6
 returns-6 c =
-    new-whole _ _ _ c.before.before.before.before.before.before.before.before.before.before.before.before.before.shared-slice-known.given (search rules)
+    new_whole _ _ _ c.before.before.before.before.before.before.before.before.before.before.before.before.before.shared-slice-known.given (search rules)
     c.before.before.before.before.before.before.before.before.before.before.before.before.if1.false
     c.before.before.before.before.before.before.before.before.before.before.before.usable.ensures
     c.before.before.before.before.before.before.before.before.before.before.is_Within.ensures

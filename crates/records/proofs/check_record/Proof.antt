@@ -6,9 +6,9 @@ use lib.ListN.{length}
 use borrow.Author.Rules.{rules}
 use Rattle.rules.specs.Answer.{ok}
 use Rattle.sets.specs.Sets.{set_at}
-use Rattle.sets.specs.Answers.{setOf}
-use Rattle.sets.proofs.UsableLaws.{set-bounds}
-use Rattle.records.proofs.RecordLaws.{step_set, step-walk, step-judge, step-whole}
+use Rattle.sets.specs.Answers.{set_of}
+use Rattle.sets.proofs.UsableLaws.{set_bounds}
+use Rattle.records.proofs.RecordLaws.{step_set, step_walk, step_judge, step_whole}
 use Rattle.records.proofs.check_record.Statement.{statement}
 use Rattle.records.proofs.check_record.Tie as tie
 
@@ -36,10 +36,10 @@ returns c =
 -- the set and its octets, in the rules' terms
 found : (c : tie.After-known-told)
     → set_at c.before.before.before.before.before.args.profile c.before.before.before.before.before.args.part.now ≡ ok (c.before.s.given.0.0.bits, c.before.s.given.0.1.0)
-found c = sym c.before.before.before.from-octets.ensures ∙ ap setOf c.before.s.given.1
+found c = sym c.before.before.before.from-octets.ensures ∙ ap set_of c.before.s.given.1
 
 bounds : (c : tie.After-known-told) → (c.before.s.given.0.0.bits < 2 ^ 63) × (c.before.s.given.0.1.0 ≤ length c.before.before.before.before.before.args.part.now)
-bounds c = set-bounds _ _ _ _ (found c)
+bounds c = set_bounds _ _ _ _ (found c)
 
 sub-walk-items : tie.Need-overflow-sub-walk-items
 sub-walk-items c = (bounds c).1
@@ -74,7 +74,7 @@ refused-requires-2 c κs = search rules
 -- an item is refused
 returns-2 : tie.Need-returns-2
 returns-2 c =
-    step-walk _ _ _ c.before.before.before.before.before.before.before.before.before.before.before.shared-slice-known.given
+    step_walk _ _ _ c.before.before.before.before.before.before.before.before.before.before.before.shared-slice-known.given
     c.before.before.before.before.before.before.before.before.before.before.before.before.requires.1 _ _ _
     c.before.before.before.before.before.before.before.before.before.before.from-octets.ensures c.before.before.before.before.before.before.before.before.s.given.1
     _ c.before.before.before.before.before.walk-items.ensures _ _ _ _ _
@@ -98,7 +98,7 @@ refused-requires-3 c κs = search rules
 -- the message type is not content
 returns-3 : tie.Need-returns-3
 returns-3 c =
-    step-judge _ _ _ c.before.before.before.before.before.before.before.before.before.before.before.before.before.before.shared-slice-known.given
+    step_judge _ _ _ c.before.before.before.before.before.before.before.before.before.before.before.before.before.before.shared-slice-known.given
     c.before.before.before.before.before.before.before.before.before.before.before.before.before.before.before.requires.1 _ _ _
     c.before.before.before.before.before.before.before.before.before.before.before.before.before.from-octets.ensures
     c.before.before.before.before.before.before.before.before.before.before.before.s.given.1
@@ -108,7 +108,7 @@ returns-3 c =
 -- it is whole
 returns-4 : tie.Need-returns-4
 returns-4 c =
-    step-whole _ _ _ c.before.before.before.before.before.before.before.before.before.before.before.before.before.shared-slice-known.given
+    step_whole _ _ _ c.before.before.before.before.before.before.before.before.before.before.before.before.before.shared-slice-known.given
     c.before.before.before.before.before.before.before.before.before.before.before.before.before.before.requires.1 _ _ _
     c.before.before.before.before.before.before.before.before.before.before.before.before.from-octets.ensures
     c.before.before.before.before.before.before.before.before.before.before.s.given.1

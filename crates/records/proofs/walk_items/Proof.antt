@@ -7,10 +7,10 @@ use lib.Pow.{pow_pos}
 use lib.ListN.{length}
 use borrow.Author.Rules.{rules}
 use Rattle.rules.specs.Answer.{ok, refused}
-use Rattle.items.specs.Answers.{checkAt, checkedOf}
-use Rattle.records.proofs.PlaceLaws.{check-near, check-within, check-few}
+use Rattle.items.specs.Answers.{check_at, checked_of}
+use Rattle.records.proofs.PlaceLaws.{check_near, check_within, check_few}
 use Rattle.sets.proofs.FlagLaws.{First}
-use Rattle.records.proofs.WalkLaws.{check-refused, Standing, stand-first, stand-end, stand-next, stand-stop, stand-item}
+use Rattle.records.proofs.WalkLaws.{check_refused, Standing, stand_first, stand_end, stand_next, stand_stop, stand_item}
 use Rattle.records.proofs.walk_items.Statement.{statement}
 use Rattle.records.proofs.walk_items.Tie as tie
 
@@ -24,11 +24,11 @@ type-frn-requires : tie.Need-type-frn-requires invariant-loop decreases-loop
 type-frn-requires c κs = search rules
 
 loop-holds : tie.Need-loop-init invariant-loop decreases-loop
-loop-holds c = stand-first _ _ _ _ c.before.before.requires.0 c.before.before.requires.1
+loop-holds c = stand_first _ _ _ _ c.before.before.requires.0 c.before.before.requires.1
 
 -- the FRN at this turn
 turn : (c : tie.In-loop invariant-loop decreases-loop) → First c.before.loop.left (count_leading_zeros 64 c.before.loop.left)
-turn c = stand-next _ _ _ _ _ _ _ _ _ _ c.before.loop.invariant c.loop-test.true
+turn c = stand_next _ _ _ _ _ _ _ _ _ _ c.before.loop.invariant c.loop-test.true
 
 cast-frn : tie.Need-overflow-cast-frn invariant-loop decreases-loop
 cast-frn c = record { fits = omega (arith, (turn c).few) }
@@ -50,12 +50,12 @@ item-place-requires c κs = search rules
 
 -- the item that is refused at this turn, in the rules' terms
 barred : (c : tie.After-item-place invariant-loop decreases-loop)
-    → checkAt c.before.before.before.before.before.before.before.before.before.args.profile (count_leading_zeros 64 c.before.before.before.before.before.before.loop.left)
+    → check_at c.before.before.before.before.before.before.before.before.before.args.profile (count_leading_zeros 64 c.before.before.before.before.before.before.loop.left)
     c.before.before.before.before.before.before.loop.rest.now ≡ refused c.before.item-number.result c.item-place.result
-barred c = check-refused _ _ _ _ _ _ c.before.before.before.before.item-check.ensures c.before.before.enum_told.given.1 c.before.item-number.ensures c.item-place.ensures
+barred c = check_refused _ _ _ _ _ _ c.before.before.before.before.item-check.ensures c.before.before.enum_told.given.1 c.before.item-number.ensures c.item-place.ensures
 
 add-stopped : tie.Need-overflow-add-stopped invariant-loop decreases-loop
-add-stopped c = omega (arith, check-near _ _ _ _ _ (barred c), c.before.before.before.before.before.before.loop.invariant.room)
+add-stopped c = omega (arith, check_near _ _ _ _ _ (barred c), c.before.before.before.before.before.before.loop.invariant.room)
 
 stopped-requires : tie.Need-stopped-requires invariant-loop decreases-loop
 stopped-requires c κs = search rules
@@ -63,29 +63,29 @@ stopped-requires c κs = search rules
 returns : tie.Need-returns invariant-loop decreases-loop
 returns c =
     rw c.stopped.ensures
-    (stand-stop _ _ _ _ _ _ _ _ _ _ c.before.before.before.before.before.before.before.loop.invariant c.before.before.before.before.before.before.loop-test.true _ _
+    (stand_stop _ _ _ _ _ _ _ _ _ _ c.before.before.before.before.before.before.before.loop.invariant c.before.before.before.before.before.before.loop-test.true _ _
     (barred c.before))
 
 -- the item at this turn, in the rules' terms
 item : (c : tie.After-known-told invariant-loop decreases-loop)
-    → checkAt c.before.before.before.before.before.before.before.before.args.profile (count_leading_zeros 64 c.before.before.before.before.before.loop.left)
+    → check_at c.before.before.before.before.before.before.before.before.args.profile (count_leading_zeros 64 c.before.before.before.before.before.loop.left)
     c.before.before.before.before.before.loop.rest.now ≡ ok c.before.c.given.0.0
-item c = sym c.before.before.before.item-check.ensures ∙ ap checkedOf c.before.c.given.1
+item c = sym c.before.before.before.item-check.ensures ∙ ap checked_of c.before.c.given.1
 
 within : (c : tie.After-known-told invariant-loop decreases-loop) → c.before.c.given.0.0 ≤ length c.before.before.before.before.before.loop.rest.now
-within c = check-within _ _ _ _ (item c)
+within c = check_within _ _ _ _ (item c)
 
 cast-starts : tie.Need-overflow-cast-starts invariant-loop decreases-loop
 cast-starts c = omega arith
 
 sub-starts : tie.Need-overflow-sub-starts invariant-loop decreases-loop
-sub-starts c = omega (arith, check-few _ _ _ _ (item c))
+sub-starts c = omega (arith, check_few _ _ _ _ (item c))
 
 mul-starts : tie.Need-overflow-mul-starts invariant-loop decreases-loop
-mul-starts c = omega (arith, check-few _ _ _ _ (item c))
+mul-starts c = omega (arith, check_few _ _ _ _ (item c))
 
 array-write-starts : tie.Need-array-write-starts invariant-loop decreases-loop
-array-write-starts c = omega (arith, check-few _ _ _ _ (item c))
+array-write-starts c = omega (arith, check_few _ _ _ _ (item c))
 
 sub-type-octet : tie.Need-overflow-sub-type-octet invariant-loop decreases-loop
 sub-type-octet c = omega (arith, within c)
@@ -129,11 +129,11 @@ loop-less c = omega (arith, there c, c.weight.ensures, pow_pos (63 - count_leadi
 loop-again : tie.Need-loop-preserved invariant-loop decreases-loop
 loop-again c =
     rw c.weight.ensures
-    (stand-item _ _ _ _ _ _ _ _ _ _ c.before.before.before.before.before.before.before.before.before.loop.invariant c.before.before.before.before.before.before.before.before.loop-test.true _ _ _
+    (stand_item _ _ _ _ _ _ _ _ _ _ c.before.before.before.before.before.before.before.before.before.loop.invariant c.before.before.before.before.before.before.before.before.loop-test.true _ _ _
     (item c.before.before.before.before) c.before.before.before.before.before.before.before.before.before.before.type-frn.ensures c.before.before.type-octet.ensures)
 
 returns-2 : tie.Need-returns-2 invariant-loop decreases-loop
-returns-2 c = stand-end _ _ _ _ _ _ _ _ _ _ c.before.loop.invariant c.loop-test.false
+returns-2 c = stand_end _ _ _ _ _ _ _ _ _ _ c.before.loop.invariant c.loop-test.false
 
 pub walk-items-spec : {M : Type 1} → statement M
 walk-items-spec =

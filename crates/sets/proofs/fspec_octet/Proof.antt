@@ -2,7 +2,7 @@
 use Prim.Native.Nat.{◌≤◌}
 use native.Mathlib.Omega.{arith}
 use borrow.Author.Rules.{rules}
-use Rattle.sets.proofs.FspecLaws.{octet-none, octet-few, octet-before, octet-at-end}
+use Rattle.sets.proofs.FspecLaws.{octet_none, octet_few, octet_before, octet_at_end}
 use Rattle.sets.proofs.fspec_octet.Statement.{statement}
 use Rattle.sets.proofs.fspec_octet.Tie as tie
 
@@ -10,11 +10,11 @@ fspec-octets-requires : tie.Need-fspec-octets-requires
 fspec-octets-requires c κs = search rules
 
 returns : tie.Need-returns
-returns c = octet-none _ _ _ (search rules) c.before.fspec-octets.ensures c.if1.true
+returns c = octet_none _ _ _ (search rules) c.before.fspec-octets.ensures c.if1.true
 
 -- an FSPEC has few octets
 few : (c : tie.Else1) → c.before.before.args.place ≤ 8
-few c = octet-few _ _ _ (search rules) c.before.fspec-octets.ensures c.if1.false
+few c = octet_few _ _ _ (search rules) c.before.fspec-octets.ensures c.if1.false
 
 mul-row : tie.Need-overflow-mul-row
 mul-row c = omega (arith, few c)
@@ -44,10 +44,10 @@ cast-result-2 : tie.Need-overflow-cast-result-2
 cast-result-2 c = search rules
 
 returns-2 : tie.Need-returns-2
-returns-2 c = octet-before _ _ _ (search rules) c.before.before.fspec-octets.ensures c.before.if1.false c.if2.true
+returns-2 c = octet_before _ _ _ (search rules) c.before.before.fspec-octets.ensures c.before.if1.false c.if2.true
 
 returns-3 : tie.Need-returns-3
-returns-3 c = octet-at-end _ _ _ (search rules) c.before.before.fspec-octets.ensures c.before.if1.false c.if2.false
+returns-3 c = octet_at_end _ _ _ (search rules) c.before.before.fspec-octets.ensures c.before.if1.false c.if2.false
 
 pub fspec-octet-spec : {M : Type 1} → statement M
 fspec-octet-spec =

@@ -2,7 +2,7 @@
 use Prim.Native.Nat.{◌-◌}
 use native.Mathlib.Omega.{arith}
 use lib.Pow.{pow_pos}
-use Rattle.sets.proofs.FspecLaws.{Counting, count-first, count_less, count_next, count-end}
+use Rattle.sets.proofs.FspecLaws.{Counting, count_first, count_less, count_next, count_end}
 use Rattle.sets.proofs.octets_of.Statement.{statement}
 use Rattle.sets.proofs.octets_of.Tie as tie
 
@@ -13,7 +13,7 @@ abbrev decreases-loop : tie.decreases-loop
 decreases-loop bits left₀ n₀ left n = 9 - n
 
 loop-holds : tie.Need-loop-init invariant-loop decreases-loop
-loop-holds c = count-first _ c.requires
+loop-holds c = count_first _ c.requires
 
 add-n : tie.Need-overflow-add-n invariant-loop decreases-loop
 add-n c = omega (arith, c.before.loop.invariant.few)
@@ -34,7 +34,7 @@ loop-again : tie.Need-loop-preserved invariant-loop decreases-loop
 loop-again c = count_next _ _ _ c.before.before.loop.invariant _ c.before.loop-test.true c.weight.ensures
 
 returns : tie.Need-returns invariant-loop decreases-loop
-returns c = count-end _ _ _ c.before.loop.invariant c.loop-test.false
+returns c = count_end _ _ _ c.before.loop.invariant c.loop-test.false
 
 pub octets-of-spec : {M : Type 1} → statement M
 octets-of-spec =

@@ -1,8 +1,8 @@
 -- `sets::type_frn` meets its contract: the table of profiles has the FRN of the message type item. Assumes nothing.
 use mathlib.Core.Path.{ap, ◌∙◌}
 use borrow.Author.Rules.{rules}
-use Rattle.tables.proofs.ProfileLaws.{row-kind}
-use Rattle.sets.specs.Steps.{typeFrn}
+use Rattle.tables.proofs.ProfileLaws.{row_kind}
+use Rattle.sets.specs.Steps.{type_frn}
 use Rattle.sets.proofs.type_frn.Statement.{statement}
 use Rattle.sets.proofs.type_frn.Tie as tie
 
@@ -13,8 +13,8 @@ cast-result : tie.Need-overflow-cast-result
 cast-result c = search rules
 
 returns : tie.Need-returns
-unfolding typeFrn
-returns c = ap (λ r. r.kind) c.before.profile-row.ensures ∙ row-kind _
+unfolding type_frn
+returns c = ap (λ r. r.kind) c.before.profile-row.ensures ∙ row_kind _
 
 pub type-frn-spec : {M : Type 1} → statement M
 type-frn-spec = tie.close (tie.spec profile-row-requires cast-result returns)

@@ -2,16 +2,16 @@
 use mathlib.Core.Path.{◌∙◌, ap, refl, sym}
 use native.Mathlib.Omega.{arith}
 use borrow.Author.Rules.{rules}
-use Rattle.sheets.proofs.ChangeSteps.{Seen, empty-done, empty-stops, seen}
-use Rattle.viewing.proofs.ListLaws.{are-bytes}
-use Rattle.viewing.specs.Read.{viewAnswer}
+use Rattle.sheets.proofs.ChangeSteps.{Seen, empty_done, empty_stops, seen}
+use Rattle.viewing.proofs.ListLaws.{are_bytes}
+use Rattle.viewing.specs.Read.{view_answer}
 use Rattle.sheets.proofs.empty_sheet.Statement.{statement}
 use Rattle.sheets.proofs.empty_sheet.Tie as tie
 
 -- what is known of the sheet that was read
 seen_at : (c : tie.After-known-told) → Seen c.before.before.before.before.before.before.args.sheet.now 0 c.before.v.given.0.0
 seen_at c =
-    seen c.before.before.before.before.before.before.args.sheet.now _ _ (are-bytes c.before.before.before.before.before.before.args.sheet.now (λ i. omega (arith, (c.before.before.before.before.before.shared-slice-known.given i)))) (ap viewAnswer (sym c.before.v.given.1) ∙ c.before.before.before.view-sheet.ensures)
+    seen c.before.before.before.before.before.before.args.sheet.now _ _ (are_bytes c.before.before.before.before.before.before.args.sheet.now (λ i. omega (arith, (c.before.before.before.before.before.shared-slice-known.given i)))) (ap view_answer (sym c.before.v.given.1) ∙ c.before.before.before.view-sheet.ensures)
 
 view-sheet-requires : tie.Need-view-sheet-requires
 view-sheet-requires c κs = search rules
@@ -24,7 +24,7 @@ enum-known-number c = search rules
 
 returns : tie.Need-returns
 returns c =
-    empty-stops _ _ _ _ _ (ap viewAnswer (sym c.before.number.given.1) ∙ c.before.before.before.view-sheet.ensures)
+    empty_stops _ _ _ _ _ (ap view_answer (sym c.before.number.given.1) ∙ c.before.before.before.view-sheet.ensures)
 
 back-of-requires : tie.Need-back-of-requires
 back-of-requires c κs = search rules
@@ -51,7 +51,7 @@ same_length c = search rules
 
 returns-2 : tie.Need-returns-2
 returns-2 c =
-    empty-done _ _ _ (seen_at c.before.before.before.before.before.before.before.before) c.before.before.before.before.before.before.before.before.before.before.before.before.before.before.args.out.now _ _ _ _ c.before.before.before.before.before.before.back-of.ensures c.before.before.before.before.place_in.ensures c.before.before.lay-sheet.ensures
+    empty_done _ _ _ (seen_at c.before.before.before.before.before.before.before.before) c.before.before.before.before.before.before.before.before.before.before.before.before.before.before.args.out.now _ _ _ _ c.before.before.before.before.before.before.back-of.ensures c.before.before.before.before.place_in.ensures c.before.before.lay-sheet.ensures
 
 pub empty-sheet-spec : {M : Type 1} → statement M
 empty-sheet-spec =

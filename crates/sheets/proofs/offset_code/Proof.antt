@@ -6,7 +6,7 @@ use borrow.Author.Rules.{rules}
 use mir.Syntax.{w64}
 use mir.Val.{of_z, to_z}
 use mir.ValLaws.{to_z-of_z}
-use Rattle.sheets.proofs.WriteSteps.{high-barred, high-code, low-barred, low-code}
+use Rattle.sheets.proofs.WriteSteps.{high_barred, high_code, low_barred, low_code}
 use Rattle.sheets.proofs.offset_code.Statement.{statement}
 use Rattle.sheets.proofs.offset_code.Tie as tie
 
@@ -19,7 +19,7 @@ magnitude-requires c κs = search rules
 
 returns : tie.Need-returns
 returns c =
-    low-barred c.before.before.before.args.offset _ (c.before.before.magnitude.ensures ∙ ap mag (same c.before.before)) (ap (λ z. lt_z z (pos 0)) (sym (same c.before.before)) ∙ c.before.if1.true) c.if2.true
+    low_barred c.before.before.before.args.offset _ (c.before.before.magnitude.ensures ∙ ap mag (same c.before.before)) (ap (λ z. lt_z z (pos 0)) (sym (same c.before.before)) ∙ c.before.if1.true) c.if2.true
 
 cast-t5 : tie.Need-overflow-cast-t5
 cast-t5 c = search rules
@@ -29,18 +29,18 @@ sub-t6 c = search rules
 
 returns-2 : tie.Need-returns-2
 returns-2 c =
-    low-code c.before.before.before.args.offset _ (c.before.before.magnitude.ensures ∙ ap mag (same c.before.before)) (ap (λ z. lt_z z (pos 0)) (sym (same c.before.before)) ∙ c.before.if1.true) c.if2.false
+    low_code c.before.before.before.args.offset _ (c.before.before.magnitude.ensures ∙ ap mag (same c.before.before)) (ap (λ z. lt_z z (pos 0)) (sym (same c.before.before)) ∙ c.before.if1.true) c.if2.false
 
 returns-3 : tie.Need-returns-3
 returns-3 c =
-    high-barred c.before.before.before.args.offset _ (c.before.before.magnitude.ensures ∙ ap mag (same c.before.before)) (ap (λ z. lt_z z (pos 0)) (sym (same c.before.before)) ∙ c.before.if1.false) c.if3.true
+    high_barred c.before.before.before.args.offset _ (c.before.before.magnitude.ensures ∙ ap mag (same c.before.before)) (ap (λ z. lt_z z (pos 0)) (sym (same c.before.before)) ∙ c.before.if1.false) c.if3.true
 
 cast-t7 : tie.Need-overflow-cast-t7
 cast-t7 c = search rules
 
 returns-4 : tie.Need-returns-4
 returns-4 c =
-    high-code c.before.before.before.args.offset _ (c.before.before.magnitude.ensures ∙ ap mag (same c.before.before)) (ap (λ z. lt_z z (pos 0)) (sym (same c.before.before)) ∙ c.before.if1.false) c.if3.false
+    high_code c.before.before.before.args.offset _ (c.before.before.magnitude.ensures ∙ ap mag (same c.before.before)) (ap (λ z. lt_z z (pos 0)) (sym (same c.before.before)) ∙ c.before.if1.false) c.if3.false
 
 pub offset-code-spec : {M : Type 1} → statement M
 offset-code-spec =

@@ -4,16 +4,16 @@ use Prim.Native.Nat.{◌<◌}
 use native.Mathlib.Omega.{arith}
 use borrow.Author.Rules.{rules}
 use borrow.Author.Tests.{not-false, not-true}
-use Rattle.sheets.proofs.ChangeSteps.{Found, Seen, found, refused-by, remove-done, remove-none, remove-stops, seen}
-use Rattle.viewing.proofs.ListLaws.{are-bytes}
-use Rattle.viewing.specs.Read.{viewAnswer}
+use Rattle.sheets.proofs.ChangeSteps.{Found, Seen, found, refused_by_lem, remove_done, remove_none, remove_stops, seen}
+use Rattle.viewing.proofs.ListLaws.{are_bytes}
+use Rattle.viewing.specs.Read.{view_answer}
 use Rattle.sheets.proofs.remove_mark.Statement.{statement}
 use Rattle.sheets.proofs.remove_mark.Tie as tie
 
 -- what is known of the sheet that was read
 seen_at : (c : tie.After-known-told) → Seen c.before.before.before.before.before.before.before.args.sheet.now c.before.before.before.before.key_of.result c.before.v.given.0.0
 seen_at c =
-    seen c.before.before.before.before.before.before.before.args.sheet.now _ _ (are-bytes c.before.before.before.before.before.before.before.args.sheet.now (λ i. omega (arith, (c.before.before.before.before.before.before.shared-slice-known.given i)))) (ap viewAnswer (sym c.before.v.given.1) ∙ c.before.before.before.view-sheet.ensures)
+    seen c.before.before.before.before.before.before.before.args.sheet.now _ _ (are_bytes c.before.before.before.before.before.before.before.args.sheet.now (λ i. omega (arith, (c.before.before.before.before.before.before.shared-slice-known.given i)))) (ap view_answer (sym c.before.v.given.1) ∙ c.before.before.before.view-sheet.ensures)
 
 place_at : (c : tie.After-known-told) → c.before.before.before.before.before.before.before.args.place < 4294967296
 place_at c = search rules
@@ -37,11 +37,11 @@ enum-known-number c = search rules
 
 returns : tie.Need-returns
 returns c =
-    remove-stops _ _ _ _ _ _ _ (ap viewAnswer (sym c.before.number.given.1) ∙ c.before.before.before.view-sheet.ensures)
+    remove_stops _ _ _ _ _ _ _ (ap view_answer (sym c.before.number.given.1) ∙ c.before.before.before.view-sheet.ensures)
 
 returns-2 : tie.Need-returns-2
 returns-2 c =
-    refused-by 36 0 _ _ (remove-none _ _ _ (seen_at c.before.before.before.before) c.before.before.before.before.before.before.before.before.before.before.before.args.log c.before.before.before.before.before.before.before.before.before.before.before.args.place (place_at c.before.before.before.before) c.before.before.before.before.before.before.before.before.key_of.ensures.0 (not-true _ c.if1.true))
+    refused_by_lem 36 0 _ _ (remove_none _ _ _ (seen_at c.before.before.before.before) c.before.before.before.before.before.before.before.before.before.before.before.args.log c.before.before.before.before.before.before.before.before.before.before.before.args.place (place_at c.before.before.before.before) c.before.before.before.before.before.before.before.before.key_of.ensures.0 (not-true _ c.if1.true))
 
 one-if-requires : tie.Need-one-if-requires
 one-if-requires c κs = search rules
@@ -79,7 +79,7 @@ same_length c = search rules
 
 returns-3 : tie.Need-returns-3
 returns-3 c =
-    remove-done _ _ _ (seen_at c.before.before.before.before.before.before.before.before.before.before.before.before.before) c.before.before.before.before.before.before.before.before.before.before.before.before.before.before.before.before.before.before.before.before.args.log c.before.before.before.before.before.before.before.before.before.before.before.before.before.before.before.before.before.before.before.before.args.place (place_at c.before.before.before.before.before.before.before.before.before.before.before.before.before) c.before.before.before.before.before.before.before.before.before.before.before.before.before.before.before.before.before.key_of.ensures.0 c.before.before.before.before.before.before.before.before.before.before.before.before.before.before.before.before.before.before.before.before.args.out.now _ _ _ _ _ (not-false _ c.before.before.before.before.before.before.before.before.before.if1.false) c.before.before.before.before.before.before.back-of.ensures c.before.before.before.before.place_in.ensures
+    remove_done _ _ _ (seen_at c.before.before.before.before.before.before.before.before.before.before.before.before.before) c.before.before.before.before.before.before.before.before.before.before.before.before.before.before.before.before.before.before.before.before.args.log c.before.before.before.before.before.before.before.before.before.before.before.before.before.before.before.before.before.before.before.before.args.place (place_at c.before.before.before.before.before.before.before.before.before.before.before.before.before) c.before.before.before.before.before.before.before.before.before.before.before.before.before.before.before.before.before.key_of.ensures.0 c.before.before.before.before.before.before.before.before.before.before.before.before.before.before.before.before.before.before.before.before.args.out.now _ _ _ _ _ (not-false _ c.before.before.before.before.before.before.before.before.before.if1.false) c.before.before.before.before.before.before.back-of.ensures c.before.before.before.before.place_in.ensures
     (found_at c.before.before.before.before.before.before.before) c.before.before.lay-sheet.ensures
 
 pub remove-mark-spec : {M : Type 1} → statement M

@@ -9,11 +9,11 @@ use mir.Syntax.{w64}
 use mir.Val.{of_z, to_z}
 use mir.ValLaws.{to_z-of_z}
 use Rattle.rules.specs.SheetForm.{form}
-use Rattle.viewing.proofs.ListLaws.{are-bytes}
-use Rattle.viewing.specs.Read.{editionAnswer}
-use Rattle.sheets.specs.Answers.{codedAs}
-use Rattle.sheets.proofs.ChangeSteps.{refused-by}
-use Rattle.sheets.proofs.WriteSteps.{Coding, Lent, lent, write_done, write-edition, write-fault, write-many, write-offset, write-part}
+use Rattle.viewing.proofs.ListLaws.{are_bytes}
+use Rattle.viewing.specs.Read.{edition_answer}
+use Rattle.sheets.specs.Answers.{coded_as}
+use Rattle.sheets.proofs.ChangeSteps.{refused_by_lem}
+use Rattle.sheets.proofs.WriteSteps.{Coding, Lent, lent, write_done, write_edition, write_fault, write_many_lem, write_offset, write_part}
 use Rattle.sheets.proofs.write_sheet.Statement.{statement}
 use Rattle.sheets.proofs.write_sheet.Tie as tie
 
@@ -24,22 +24,22 @@ same c = to_z-of_z w64 c.before.before.before.before.before.before.before.before
 -- what is known of the marks that were lent
 lent_at : (c : tie.Else3) → Lent form.least c.before.before.before.before.before.before.before.args.offset c.before.before.before.before.before.before.before.args.marks.now (record { split = false; base = 0; first = length c.before.before.before.before.before.before.before.args.marks.now / 8; count = length c.before.before.before.before.before.before.before.args.marks.now / 8 }) c.before.before.pass-marks.result
 lent_at c =
-    lent _ _ c.before.before.before.before.before.before.before.args.marks.now _ (are-bytes c.before.before.before.before.before.before.before.args.marks.now (λ i. omega (arith, (c.before.before.before.before.before.before.shared-slice-known.given i)))) c.before.before.before.before.if1.false c.before.before.before.if2.false c.before.before.pass-marks.ensures c.if3.false
+    lent _ _ c.before.before.before.before.before.before.before.args.marks.now _ (are_bytes c.before.before.before.before.before.before.before.args.marks.now (λ i. omega (arith, (c.before.before.before.before.before.before.shared-slice-known.given i)))) c.before.before.before.before.if1.false c.before.before.before.if2.false c.before.before.pass-marks.ensures c.if3.false
 
 returns : tie.Need-returns
 returns c =
-    refused-by 34 0 _ _ (write-many _ _ _ c.if1.true)
+    refused_by_lem 34 0 _ _ (write_many_lem _ _ _ c.if1.true)
 
 returns-2 : tie.Need-returns-2
 returns-2 c =
-    refused-by 33 0 _ _ (write-part _ _ _ c.before.if1.false c.if2.true)
+    refused_by_lem 33 0 _ _ (write_part _ _ _ c.before.if1.false c.if2.true)
 
 pass-marks-requires : tie.Need-pass-marks-requires
 pass-marks-requires c κs = search rules
 
 returns-3 : tie.Need-returns-3
 returns-3 c =
-    refused-by 33 0 _ _ (write-fault _ _ _ _ c.before.before.before.before.if1.false c.before.before.before.if2.false c.before.before.pass-marks.ensures c.if3.true)
+    refused_by_lem 33 0 _ _ (write_fault _ _ _ _ c.before.before.before.before.if1.false c.before.before.before.if2.false c.before.before.pass-marks.ensures c.if3.true)
 
 told-edition-requires : tie.Need-told-edition-requires
 told-edition-requires c κs = search rules
@@ -52,7 +52,7 @@ enum-known-number c = search rules
 
 returns-4 : tie.Need-returns-4
 returns-4 c =
-    refused-by _ _ _ _ (write-edition _ _ _ _ _ (lent_at c.before.before.before.before) _ _ (ap editionAnswer (sym c.before.number.given.1) ∙ c.before.before.before.told-edition.ensures))
+    refused_by_lem _ _ _ _ (write_edition _ _ _ _ _ (lent_at c.before.before.before.before) _ _ (ap edition_answer (sym c.before.number.given.1) ∙ c.before.before.before.told-edition.ensures))
 
 offset-code-requires : tie.Need-offset-code-requires
 offset-code-requires c κs = search rules
@@ -65,20 +65,20 @@ enum_told c = search rules
 
 returns-5 : tie.Need-returns-5
 returns-5 c =
-    refused-by 33 0 _ _ (write-offset _ _ _ _ _ (lent_at c.before.before.before.before.before.before.before) _ 33 0 (ap editionAnswer (sym c.before.before.before.before.e.given.1) ∙ c.before.before.before.before.before.before.told-edition.ensures)
-    (ap codedAs (sym c.enum_told.given.1) ∙ c.before.before.offset-code.ensures ∙ ap Coding (same c.before.before.before)))
+    refused_by_lem 33 0 _ _ (write_offset _ _ _ _ _ (lent_at c.before.before.before.before.before.before.before) _ 33 0 (ap edition_answer (sym c.before.before.before.before.e.given.1) ∙ c.before.before.before.before.before.before.told-edition.ensures)
+    (ap coded_as (sym c.enum_told.given.1) ∙ c.before.before.offset-code.ensures ∙ ap Coding (same c.before.before.before)))
 
 lay-sheet-requires : tie.Need-lay-sheet-requires
 lay-sheet-requires c κs =
-    ((refl, (tt, (lent_at c.before.before.before.before.before.before.before.before.before).held)), ((lent_at c.before.before.before.before.before.before.before.before.before).first-few, omega (arith, (lent_at c.before.before.before.before.before.before.before.before.before).few)))
+    ((refl, (tt, (lent_at c.before.before.before.before.before.before.before.before.before).held)), ((lent_at c.before.before.before.before.before.before.before.before.before).first_few, omega (arith, (lent_at c.before.before.before.before.before.before.before.before.before).few)))
 
 same_length : tie.Need-same-length
 same_length c = search rules
 
 returns-6 : tie.Need-returns-6
 returns-6 c =
-    write_done _ _ _ _ _ (lent_at c.before.before.before.before.before.before.before.before.before.before.before.before) c.before.before.before.before.before.before.before.before.before.before.before.before.before.before.before.before.before.before.before.args.out.now _ _ _ _ (ap editionAnswer (sym c.before.before.before.before.before.before.before.before.before.e.given.1) ∙ c.before.before.before.before.before.before.before.before.before.before.before.told-edition.ensures)
-    (ap codedAs (sym c.before.before.before.before.before.c.given.1) ∙ c.before.before.before.before.before.before.before.offset-code.ensures ∙ ap Coding (same c.before.before.before.before.before.before.before.before)) c.before.before.lay-sheet.ensures
+    write_done _ _ _ _ _ (lent_at c.before.before.before.before.before.before.before.before.before.before.before.before) c.before.before.before.before.before.before.before.before.before.before.before.before.before.before.before.before.before.before.before.args.out.now _ _ _ _ (ap edition_answer (sym c.before.before.before.before.before.before.before.before.before.e.given.1) ∙ c.before.before.before.before.before.before.before.before.before.before.before.told-edition.ensures)
+    (ap coded_as (sym c.before.before.before.before.before.c.given.1) ∙ c.before.before.before.before.before.before.before.offset-code.ensures ∙ ap Coding (same c.before.before.before.before.before.before.before.before)) c.before.before.lay-sheet.ensures
 
 pub write-sheet-spec : {M : Type 1} → statement M
 write-sheet-spec =

@@ -3,8 +3,8 @@ use Prim.Native.Nat.{◌-◌}
 use native.Mathlib.Omega.{arith}
 use lib.ListN.{length}
 use Rattle.rules.specs.SheetForm.{form}
-use Rattle.viewing.proofs.FieldLaws.{Searched, searched-all, searched-here, searched-more, searched-none}
-use Rattle.viewing.specs.Read.{noEdition}
+use Rattle.viewing.proofs.FieldLaws.{Searched, searched_all, searched_here, searched_more, searched_none}
+use Rattle.viewing.specs.Read.{no_edition}
 use Rattle.viewing.proofs.edition_of.Statement.{statement}
 use Rattle.viewing.proofs.edition_of.Tie as tie
 
@@ -16,7 +16,7 @@ decreases-loop byte i₀ i = length form.editions - i
 
 loop-holds : tie.Need-loop-init invariant-loop decreases-loop
 loop-holds c =
-    searched-none _ _
+    searched_none _ _
 
 edition-at-requires : tie.Need-edition-at-requires invariant-loop decreases-loop
 edition-at-requires c κs =
@@ -24,7 +24,7 @@ edition-at-requires c κs =
 
 returns : tie.Need-returns invariant-loop decreases-loop
 returns c =
-    searched-here form.editions _ _ _ noEdition c.before.before.before.before.loop.invariant c.before.before.before.loop-test.true c.before.before.edition-at.ensures c.if1.true
+    searched_here form.editions _ _ _ no_edition c.before.before.before.before.loop.invariant c.before.before.before.loop-test.true c.before.before.edition-at.ensures c.if1.true
 
 add-i : tie.Need-overflow-add-i invariant-loop decreases-loop
 add-i c =
@@ -36,11 +36,11 @@ loop-less c =
 
 loop-again : tie.Need-loop-preserved invariant-loop decreases-loop
 loop-again c =
-    searched-more form.editions _ _ _ noEdition c.before.before.before.before.loop.invariant c.before.before.before.loop-test.true c.before.before.edition-at.ensures c.if1.false
+    searched_more form.editions _ _ _ no_edition c.before.before.before.before.loop.invariant c.before.before.before.loop-test.true c.before.before.edition-at.ensures c.if1.false
 
 returns-2 : tie.Need-returns-2 invariant-loop decreases-loop
 returns-2 c =
-    searched-all form.editions _ _ c.before.loop.invariant c.loop-test.false
+    searched_all form.editions _ _ c.before.loop.invariant c.loop-test.false
 
 pub edition-of-spec : {M : Type 1} → statement M
 edition-of-spec =

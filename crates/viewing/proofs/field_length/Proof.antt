@@ -2,17 +2,17 @@
 use mathlib.Core.Path.{ap₂}
 use Prim.Native.Nat.{◌*◌, ◌+◌}
 use borrow.Author.Rules.{rules}
-use Rattle.viewing.proofs.FieldLaws.{field_cut, field-head, field-none, field-tag, field-whole}
+use Rattle.viewing.proofs.FieldLaws.{field_cut, field_head, field_none, field_tag, field_whole}
 use Rattle.viewing.proofs.field_length.Statement.{statement}
 use Rattle.viewing.proofs.field_length.Tie as tie
 
 returns : tie.Need-returns
 returns c =
-    field-none _ _ c.if1.true
+    field_none _ _ c.if1.true
 
 returns-2 : tie.Need-returns-2
 returns-2 c =
-    field-head _ _ c.before.if1.false c.if2.true
+    field_head _ _ c.before.if1.false c.if2.true
 
 shared-slice-read-octet : tie.Need-shared-slice-read-octet
 shared-slice-read-octet c = search rules
@@ -44,11 +44,11 @@ shared-slice-read-if4 c = search rules
 
 returns-4 : tie.Need-returns-4
 returns-4 c =
-    field-tag _ _ _ c.before.before.before.before.before.before.before.if2.false (ap₂ (λ a b. a * 256 + b) c.before.before.before.before.before.octet.ensures.0 c.before.before.before.octet2.ensures.0) c.before.before.if3.false c.if4.true
+    field_tag _ _ _ c.before.before.before.before.before.before.before.if2.false (ap₂ (λ a b. a * 256 + b) c.before.before.before.before.before.octet.ensures.0 c.before.before.before.octet2.ensures.0) c.before.before.if3.false c.if4.true
 
 returns-5 : tie.Need-returns-5
 returns-5 c =
-    field-whole _ _ _ c.before.before.before.before.before.before.before.if2.false (ap₂ (λ a b. a * 256 + b) c.before.before.before.before.before.octet.ensures.0 c.before.before.before.octet2.ensures.0) c.before.before.if3.false c.if4.false
+    field_whole _ _ _ c.before.before.before.before.before.before.before.if2.false (ap₂ (λ a b. a * 256 + b) c.before.before.before.before.before.octet.ensures.0 c.before.before.before.octet2.ensures.0) c.before.before.if3.false c.if4.false
 
 pub field-length-spec : {M : Type 1} → statement M
 field-length-spec =

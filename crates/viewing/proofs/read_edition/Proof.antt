@@ -2,8 +2,8 @@
 use mathlib.Core.Path.{◌∙◌, ap, sym}
 use native.Mathlib.Omega.{arith}
 use borrow.Author.Rules.{rules}
-use Rattle.viewing.proofs.FieldLaws.{edition-length, edition-refused, edition-value, field_fits}
-use Rattle.viewing.specs.Read.{countAnswer}
+use Rattle.viewing.proofs.FieldLaws.{edition_length, edition_refused, edition_value, field_fits_lem}
+use Rattle.viewing.specs.Read.{count_answer}
 use Rattle.viewing.proofs.read_edition.Statement.{statement}
 use Rattle.viewing.proofs.read_edition.Tie as tie
 
@@ -18,22 +18,22 @@ enum-known-number c = search rules
 
 returns : tie.Need-returns
 returns c =
-    edition-refused _ _ _ _ (ap countAnswer (sym c.before.number.given.1) ∙ c.before.before.before.field-length.ensures)
+    edition_refused _ _ _ _ (ap count_answer (sym c.before.number.given.1) ∙ c.before.before.before.field-length.ensures)
 
 returns-2 : tie.Need-returns-2
 returns-2 c =
-    edition-length _ _ _ (ap countAnswer (sym c.before.before.n.given.1) ∙ c.before.before.before.before.field-length.ensures) c.if1.true
+    edition_length _ _ _ (ap count_answer (sym c.before.before.n.given.1) ∙ c.before.before.before.before.field-length.ensures) c.if1.true
 
 shared-slice-read-edition-of : tie.Need-shared-slice-read-edition-of
 shared-slice-read-edition-of c =
-    omega (arith, field_fits _ _ _ (sym (ap countAnswer (sym c.before.before.before.n.given.1) ∙ c.before.before.before.before.before.field-length.ensures)), c.before.if1.false)
+    omega (arith, field_fits_lem _ _ _ (sym (ap count_answer (sym c.before.before.before.n.given.1) ∙ c.before.before.before.before.before.field-length.ensures)), c.before.if1.false)
 
 edition-of-requires : tie.Need-edition-of-requires
 edition-of-requires c κs = search rules
 
 returns-3 : tie.Need-returns-3
 returns-3 c =
-    c.edition-of.ensures ∙ sym (edition-value _ _ _ (ap countAnswer (sym c.before.before.before.before.n.given.1) ∙ c.before.before.before.before.before.before.field-length.ensures) c.before.before.if1.false)
+    c.edition-of.ensures ∙ sym (edition_value _ _ _ (ap count_answer (sym c.before.before.before.before.n.given.1) ∙ c.before.before.before.before.before.before.field-length.ensures) c.before.before.if1.false)
 
 pub read-edition-spec : {M : Type 1} → statement M
 read-edition-spec =

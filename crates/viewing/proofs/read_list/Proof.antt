@@ -2,9 +2,9 @@
 use mathlib.Core.Path.{◌∙◌, ap, sym}
 use native.Mathlib.Omega.{arith}
 use borrow.Author.Rules.{rules}
-use Rattle.marks.proofs.MarkSteps.{size-least}
-use Rattle.viewing.proofs.FieldLaws.{field_fits, list-told, list-fault, list_length, list-many, list-place, list-refused, list-room}
-use Rattle.viewing.specs.Read.{countAnswer}
+use Rattle.marks.proofs.MarkSteps.{size_least}
+use Rattle.viewing.proofs.FieldLaws.{field_fits_lem, list_told, list_fault, list_length, list_many, list_place, list_refused, list_room}
+use Rattle.viewing.specs.Read.{count_answer}
 use Rattle.viewing.proofs.read_list.Statement.{statement}
 use Rattle.viewing.proofs.read_list.Tie as tie
 
@@ -19,30 +19,30 @@ enum-known-number c = search rules
 
 returns : tie.Need-returns
 returns c =
-    list-refused _ _ _ _ _ _ _ (ap countAnswer (sym c.before.number.given.1) ∙ c.before.before.before.field-length.ensures)
+    list_refused _ _ _ _ _ _ _ (ap count_answer (sym c.before.number.given.1) ∙ c.before.before.before.field-length.ensures)
 
 size-of-requires : tie.Need-size-of-requires
 size-of-requires c κs = search rules
 
 rem-part : tie.Need-nonzero-rem-part
 rem-part c =
-    omega (arith, c.size_of.ensures.0, size-least c.before.before.before.before.before.before.args.shape)
+    omega (arith, c.size_of.ensures.0, size_least c.before.before.before.before.before.before.args.shape)
 
 div-c : tie.Need-nonzero-div-c
 div-c c =
-    omega (arith, c.size_of.ensures.0, size-least c.before.before.before.before.before.before.args.shape)
+    omega (arith, c.size_of.ensures.0, size_least c.before.before.before.before.before.before.args.shape)
 
 returns-2 : tie.Need-returns-2
 returns-2 c =
-    list_length _ _ _ _ _ _ _ (ap countAnswer (sym c.before.before.before.n.given.1) ∙ c.before.before.before.before.before.field-length.ensures) c.before.size_of.ensures.0 c.if1.true
+    list_length _ _ _ _ _ _ _ (ap count_answer (sym c.before.before.before.n.given.1) ∙ c.before.before.before.before.before.field-length.ensures) c.before.size_of.ensures.0 c.if1.true
 
 returns-3 : tie.Need-returns-3
 returns-3 c =
-    list-many _ _ _ _ _ _ _ (ap countAnswer (sym c.before.before.before.before.n.given.1) ∙ c.before.before.before.before.before.before.field-length.ensures) c.before.before.size_of.ensures.0 c.before.if1.false c.if2.true
+    list_many _ _ _ _ _ _ _ (ap count_answer (sym c.before.before.before.before.n.given.1) ∙ c.before.before.before.before.before.before.field-length.ensures) c.before.before.size_of.ensures.0 c.before.if1.false c.if2.true
 
 add-e : tie.Need-overflow-add-e
 add-e c =
-    omega (arith, field_fits _ c.before.before.before.before.before.before.before.before.args.bs.now _ (sym (ap countAnswer (sym c.before.before.before.before.n.given.1) ∙ c.before.before.before.before.before.before.field-length.ensures)))
+    omega (arith, field_fits_lem _ c.before.before.before.before.before.before.before.before.args.bs.now _ (sym (ap count_answer (sym c.before.before.before.before.n.given.1) ∙ c.before.before.before.before.before.before.field-length.ensures)))
 
 sub-pass-marks : tie.Need-overflow-sub-pass-marks
 sub-pass-marks c =
@@ -54,27 +54,27 @@ part-pass-marks-start c =
 
 part-pass-marks-end : tie.Need-slice-bounds-pass-marks-end
 part-pass-marks-end c =
-    omega (arith, field_fits _ c.before.before.before.before.before.before.before.before.args.bs.now _ (sym (ap countAnswer (sym c.before.before.before.before.n.given.1) ∙ c.before.before.before.before.before.before.field-length.ensures)))
+    omega (arith, field_fits_lem _ c.before.before.before.before.before.before.before.before.args.bs.now _ (sym (ap count_answer (sym c.before.before.before.before.n.given.1) ∙ c.before.before.before.before.before.before.field-length.ensures)))
 
 pass-marks-requires : tie.Need-pass-marks-requires
 pass-marks-requires c κs =
-    list-room _ c.before.before.before.before.before.before.before.before.before.args.shape c.before.before.before.before.before.before.before.before.before.args.limit c.before.before.before.before.before.before.before.before.before.args.key _ _ _ (ap countAnswer (sym c.before.before.before.before.before.n.given.1) ∙ c.before.before.before.before.before.before.before.field-length.ensures) c.before.before.before.size_of.ensures.0
+    list_room _ c.before.before.before.before.before.before.before.before.before.args.shape c.before.before.before.before.before.before.before.before.before.args.limit c.before.before.before.before.before.before.before.before.before.args.key _ _ _ (ap count_answer (sym c.before.before.before.before.before.n.given.1) ∙ c.before.before.before.before.before.before.before.field-length.ensures) c.before.before.before.size_of.ensures.0
 
 mul-place : tie.Need-overflow-mul-place
 mul-place c =
-    omega (arith, list-place _ c.before.before.before.before.before.before.before.before.before.before.before.args.shape c.before.before.before.before.before.before.before.before.before.before.before.args.limit c.before.before.before.before.before.before.before.before.before.before.before.args.key c.before.before.before.before.before.before.before.before.before.before.before.args.bs.now _ _ _ (ap countAnswer (sym c.before.before.before.before.before.before.before.n.given.1) ∙ c.before.before.before.before.before.before.before.before.before.field-length.ensures) c.before.before.before.before.before.size_of.ensures.0 c.if3.true)
+    omega (arith, list_place _ c.before.before.before.before.before.before.before.before.before.before.before.args.shape c.before.before.before.before.before.before.before.before.before.before.before.args.limit c.before.before.before.before.before.before.before.before.before.before.before.args.key c.before.before.before.before.before.before.before.before.before.before.before.args.bs.now _ _ _ (ap count_answer (sym c.before.before.before.before.before.before.before.n.given.1) ∙ c.before.before.before.before.before.before.before.before.before.field-length.ensures) c.before.before.before.before.before.size_of.ensures.0 c.if3.true)
 
 add-place : tie.Need-overflow-add-place
 add-place c =
-    omega (arith, list-place _ c.before.before.before.before.before.before.before.before.before.before.before.args.shape c.before.before.before.before.before.before.before.before.before.before.before.args.limit c.before.before.before.before.before.before.before.before.before.before.before.args.key c.before.before.before.before.before.before.before.before.before.before.before.args.bs.now _ _ _ (ap countAnswer (sym c.before.before.before.before.before.before.before.n.given.1) ∙ c.before.before.before.before.before.before.before.before.before.field-length.ensures) c.before.before.before.before.before.size_of.ensures.0 c.if3.true)
+    omega (arith, list_place _ c.before.before.before.before.before.before.before.before.before.before.before.args.shape c.before.before.before.before.before.before.before.before.before.before.before.args.limit c.before.before.before.before.before.before.before.before.before.before.before.args.key c.before.before.before.before.before.before.before.before.before.before.before.args.bs.now _ _ _ (ap count_answer (sym c.before.before.before.before.before.before.before.n.given.1) ∙ c.before.before.before.before.before.before.before.before.before.field-length.ensures) c.before.before.before.before.before.size_of.ensures.0 c.if3.true)
 
 returns-4 : tie.Need-returns-4
 returns-4 c =
-    list-fault _ _ _ _ _ _ _ _ (ap countAnswer (sym c.before.before.before.before.before.before.before.n.given.1) ∙ c.before.before.before.before.before.before.before.before.before.field-length.ensures) c.before.before.before.before.before.size_of.ensures.0 c.before.before.before.before.if1.false c.before.before.before.if2.false c.before.pass-marks.ensures c.if3.true
+    list_fault _ _ _ _ _ _ _ _ (ap count_answer (sym c.before.before.before.before.before.before.before.n.given.1) ∙ c.before.before.before.before.before.before.before.before.before.field-length.ensures) c.before.before.before.before.before.size_of.ensures.0 c.before.before.before.before.if1.false c.before.before.before.if2.false c.before.pass-marks.ensures c.if3.true
 
 returns-5 : tie.Need-returns-5
 returns-5 c =
-    list-told _ _ _ _ _ _ _ _ (ap countAnswer (sym c.before.before.before.before.before.before.before.n.given.1) ∙ c.before.before.before.before.before.before.before.before.before.field-length.ensures) c.before.before.before.before.before.size_of.ensures.0 c.before.before.before.before.if1.false c.before.before.before.if2.false c.before.pass-marks.ensures c.if3.false
+    list_told _ _ _ _ _ _ _ _ (ap count_answer (sym c.before.before.before.before.before.before.before.n.given.1) ∙ c.before.before.before.before.before.before.before.before.before.field-length.ensures) c.before.before.before.before.before.size_of.ensures.0 c.before.before.before.before.if1.false c.before.before.before.if2.false c.before.pass-marks.ensures c.if3.false
 
 pub read-list-spec : {M : Type 1} → statement M
 read-list-spec =

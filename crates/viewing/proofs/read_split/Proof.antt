@@ -7,25 +7,25 @@ use borrow.Author.Rules.{rules}
 use Rattle.rules.proofs.AnswerLaws.{Octets}
 use Rattle.rules.specs.Answer.{ok}
 use Rattle.rules.specs.SheetForm.{form}
-use Rattle.rules.specs.Sheet.{readList}
+use Rattle.rules.specs.Sheet.{read_list}
 use Rattle.rules.specs.declared.Shape.TheVariants.{InLog}
 use Rattle.rules.proofs.SheetForms.{small}
 use Rattle.marks.specs.Lists.{tally}
 use Rattle.marks.proofs.MarkSteps.{tail}
-use Rattle.viewing.proofs.ListLaws.{are-bytes, fmap-refused, length-tail, list-place-in, split-few, split-marks, split-refused, split-refused-2, split-room, split-small}
-use Rattle.viewing.specs.Read.{fmap, listAnswer}
+use Rattle.viewing.proofs.ListLaws.{are_bytes, fmap_refused, length_tail, list_place_in, split_few, split_marks, split_refused, split_refused_2, split_room, split_small}
+use Rattle.viewing.specs.Read.{fmap, list_answer}
 use Rattle.viewing.proofs.read_split.Statement.{statement}
 use Rattle.viewing.proofs.read_split.Tie as tie
 
 -- what is known once log 0's list is read
 bytes-at : (c : tie.After-shared-slice-known) → Octets c.before.args.bs.now
-bytes-at c = are-bytes c.before.args.bs.now (λ i. omega (arith, c.shared-slice-known.given i))
+bytes-at c = are_bytes c.before.args.bs.now (λ i. omega (arith, c.shared-slice-known.given i))
 
-first-at : (c : tie.After-known-told) → ok c.before.t.given.0.0 ≡ fmap (λ x. tally c.before.before.before.before.before.args.key x.0) (readList 5 (InLog 0) form.limit c.before.before.before.before.before.args.bs.now)
-first-at c = ap listAnswer (sym c.before.t.given.1) ∙ c.before.before.before.read-list.ensures
+first_at : (c : tie.After-known-told) → ok c.before.t.given.0.0 ≡ fmap (λ x. tally c.before.before.before.before.before.args.key x.0) (read_list 5 (InLog 0) form.limit c.before.before.before.before.before.args.bs.now)
+first_at c = ap list_answer (sym c.before.t.given.1) ∙ c.before.before.before.read-list.ensures
 
 room_at : (c : tie.After-known-told) → (3 + c.before.t.given.0.0.count * 7 ≤ length c.before.before.before.before.before.args.bs.now) × (c.before.t.given.0.0.count ≤ form.limit)
-room_at c = split-room form.limit _ small _ (bytes-at c.before.before.before.before) _ (first-at c)
+room_at c = split_room form.limit _ small _ (bytes-at c.before.before.before.before) _ (first_at c)
 
 read-list-requires : tie.Need-read-list-requires
 read-list-requires c κs = search rules
@@ -38,7 +38,7 @@ enum-known-number c = search rules
 
 returns : tie.Need-returns
 returns c =
-    split-refused form.limit _ small _ (bytes-at c.before.before.before.before) _ _ (ap listAnswer (sym c.before.number.given.1) ∙ c.before.before.before.read-list.ensures)
+    split_refused form.limit _ small _ (bytes-at c.before.before.before.before) _ _ (ap list_answer (sym c.before.number.given.1) ∙ c.before.before.before.read-list.ensures)
 
 mul_at : tie.Need-overflow-mul-at
 mul_at c = omega (arith, (room_at c).1)
@@ -65,31 +65,31 @@ enum-known-b : tie.Need-enum-known-b
 enum-known-b c = search rules
 
 -- … and log 1's
-second_at : (c : tie.After-struct-known) → ok c.before.before.b.given.0.0 ≡ fmap (λ x. tally c.before.before.before.before.before.before.before.before.before.before.before.args.key x.0) (readList 6 (InLog 1) (form.limit - c.before.before.before.before.before.before.before.t.given.0.0.count) (tail (3 + c.before.before.before.before.before.before.before.t.given.0.0.count * 7) c.before.before.before.before.before.before.before.before.before.before.before.args.bs.now))
-second_at c = ap listAnswer (sym c.before.before.b.given.1) ∙ c.before.before.before.before.read-list2.ensures
+second_at : (c : tie.After-struct-known) → ok c.before.before.b.given.0.0 ≡ fmap (λ x. tally c.before.before.before.before.before.before.before.before.before.before.before.args.key x.0) (read_list 6 (InLog 1) (form.limit - c.before.before.before.before.before.before.before.t.given.0.0.count) (tail (3 + c.before.before.before.before.before.before.before.t.given.0.0.count * 7) c.before.before.before.before.before.before.before.before.before.before.before.args.bs.now))
+second_at c = ap list_answer (sym c.before.before.b.given.1) ∙ c.before.before.before.before.read-list2.ensures
 
 add-t22 : tie.Need-overflow-add-t22
 add-t22 c =
-    omega (arith, split-few form.limit _ small c.before.before.before.before.before.before.before.before.before.before.before.args.bs.now (bytes-at c.before.before.before.before.before.before.before.before.before.before) _ (first-at c.before.before.before.before.before.before) _ (second_at c))
+    omega (arith, split_few form.limit _ small c.before.before.before.before.before.before.before.before.before.before.before.args.bs.now (bytes-at c.before.before.before.before.before.before.before.before.before.before) _ (first_at c.before.before.before.before.before.before) _ (second_at c))
 
 both-tallies-requires : tie.Need-both-tallies-requires
 both-tallies-requires c κs =
-    split-small form.limit _ small c.before.before.before.before.before.before.before.before.before.before.before.args.bs.now (bytes-at c.before.before.before.before.before.before.before.before.before.before) _ (first-at c.before.before.before.before.before.before) _ (second_at c)
+    split_small form.limit _ small c.before.before.before.before.before.before.before.before.before.before.before.args.bs.now (bytes-at c.before.before.before.before.before.before.before.before.before.before) _ (first_at c.before.before.before.before.before.before) _ (second_at c)
 
 enum-known-number-2 : tie.Need-enum-known-number-2
 enum-known-number-2 c = search rules
 
 add-t26 : tie.Need-overflow-add-t26
 add-t26 c =
-    omega (arith, (room_at c.before.before.before.before.before).1, list-place-in 6 _ _ (tail _ c.before.before.before.before.before.before.before.before.before.before.args.bs.now) _ _ (fmap-refused _ _ _ _ (ap listAnswer (sym c.before.number2.given.1) ∙ c.before.before.before.read-list2.ensures)), length-tail (3 + c.before.before.before.before.before.before.t.given.0.0.count * 7) c.before.before.before.before.before.before.before.before.before.before.args.bs.now)
+    omega (arith, (room_at c.before.before.before.before.before).1, list_place_in 6 _ _ (tail _ c.before.before.before.before.before.before.before.before.before.before.args.bs.now) _ _ (fmap_refused _ _ _ _ (ap list_answer (sym c.before.number2.given.1) ∙ c.before.before.before.read-list2.ensures)), length_tail (3 + c.before.before.before.before.before.before.t.given.0.0.count * 7) c.before.before.before.before.before.before.before.before.before.before.args.bs.now)
 
 returns-2 : tie.Need-returns-2
 returns-2 c =
-    split-marks form.limit _ small c.before.before.before.before.before.before.before.before.before.before.before.before.args.bs.now (bytes-at c.before.before.before.before.before.before.before.before.before.before.before) _ (first-at c.before.before.before.before.before.before.before) _ (second_at c.before) _ c.both-tallies.ensures
+    split_marks form.limit _ small c.before.before.before.before.before.before.before.before.before.before.before.before.args.bs.now (bytes-at c.before.before.before.before.before.before.before.before.before.before.before) _ (first_at c.before.before.before.before.before.before.before) _ (second_at c.before) _ c.both-tallies.ensures
 
 returns-3 : tie.Need-returns-3
 returns-3 c =
-    split-refused-2 form.limit _ small _ (bytes-at c.before.before.before.before.before.before.before.before.before) _ (first-at c.before.before.before.before.before) _ _ (ap listAnswer (sym c.before.number2.given.1) ∙ c.before.before.before.read-list2.ensures)
+    split_refused_2 form.limit _ small _ (bytes-at c.before.before.before.before.before.before.before.before.before) _ (first_at c.before.before.before.before.before) _ _ (ap list_answer (sym c.before.number2.given.1) ∙ c.before.before.before.read-list2.ensures)
 
 pub read-split-spec : {M : Type 1} → statement M
 read-split-spec =

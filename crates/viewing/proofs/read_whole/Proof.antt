@@ -1,8 +1,8 @@
 -- `viewing::read_whole` meets its contract. Assumes nothing.
 use mathlib.Core.Path.{◌∙◌, ap, sym}
 use borrow.Author.Rules.{rules}
-use Rattle.viewing.proofs.ListLaws.{whole-marks, whole-refused}
-use Rattle.viewing.specs.Read.{listAnswer}
+use Rattle.viewing.proofs.ListLaws.{whole_marks, whole_refused}
+use Rattle.viewing.specs.Read.{list_answer}
 use Rattle.viewing.proofs.read_whole.Statement.{statement}
 use Rattle.viewing.proofs.read_whole.Tie as tie
 
@@ -17,11 +17,11 @@ enum-known-number c = search rules
 
 returns : tie.Need-returns
 returns c =
-    whole-marks _ _ _ _ (ap listAnswer (sym c.before.t.given.1) ∙ c.before.before.before.read-list.ensures)
+    whole_marks _ _ _ _ (ap list_answer (sym c.before.t.given.1) ∙ c.before.before.before.read-list.ensures)
 
 returns-2 : tie.Need-returns-2
 returns-2 c =
-    whole-refused _ _ _ _ _ (ap listAnswer (sym c.before.number.given.1) ∙ c.before.before.before.read-list.ensures)
+    whole_refused _ _ _ _ _ (ap list_answer (sym c.before.number.given.1) ∙ c.before.before.before.read-list.ensures)
 
 pub read-whole-spec : {M : Type 1} → statement M
 read-whole-spec =

@@ -3,21 +3,21 @@ use mathlib.Core.Path.{refl}
 use Prim.Native.Nat.{◌-◌}
 use native.Mathlib.Omega.{arith}
 use borrow.Author.Rules.{rules}
-use Rattle.marks.specs.Lists.{marksOf}
+use Rattle.marks.specs.Lists.{marks_of}
 use Rattle.rules.specs.Mark.{count}
-use Rattle.viewing.proofs.TotalLaws.{Agreed, agreed-all, agreed-high, agreed-low, agreed-more, agreed-none, kept-count}
+use Rattle.viewing.proofs.TotalLaws.{Agreed, agreed_all, agreed_high, agreed_low, agreed_more, agreed_none, kept_count}
 use Rattle.viewing.proofs.totals_agree.Statement.{statement}
 use Rattle.viewing.proofs.totals_agree.Tie as tie
 
 abbrev invariant-loop : tie.invariant-loop
-invariant-loop body s lists count j₀ at₀ j at = Agreed (marksOf lists s) body j at
+invariant-loop body s lists count j₀ at₀ j at = Agreed (marks_of lists s) body j at
 
 abbrev decreases-loop : tie.decreases-loop
 decreases-loop body s lists count j₀ at₀ j at = 6 - j
 
 loop-holds : tie.Need-loop-init invariant-loop decreases-loop
 loop-holds c =
-    agreed-none _ _
+    agreed_none _ _
 
 count-new-requires : tie.Need-count-new-requires invariant-loop decreases-loop
 count-new-requires c κs =
@@ -32,7 +32,7 @@ octet-requires c κs = search rules
 
 returns : tie.Need-returns invariant-loop decreases-loop
 returns c =
-    agreed-high _ _ _ _ c.before.before.before.before.before.before.before.before.requires.0 c.before.before.before.before.before.loop.invariant c.before.before.before.before.loop-test.true _ _ (kept-count _ _ _ _ c.before.before.before.count-new.ensures) c.before.octet.ensures c.if1.true
+    agreed_high _ _ _ _ c.before.before.before.before.before.before.before.before.requires.0 c.before.before.before.before.before.loop.invariant c.before.before.before.before.loop-test.true _ _ (kept_count _ _ _ _ c.before.before.before.count-new.ensures) c.before.octet.ensures c.if1.true
 
 add-octet : tie.Need-overflow-add-octet invariant-loop decreases-loop
 add-octet c =
@@ -47,7 +47,7 @@ octet-requires-2 c κs = search rules
 
 returns-2 : tie.Need-returns-2 invariant-loop decreases-loop
 returns-2 c =
-    agreed-low _ _ _ _ c.before.before.before.before.before.before.before.before.before.before.before.requires.0 c.before.before.before.before.before.before.before.before.loop.invariant c.before.before.before.before.before.before.before.loop-test.true _ _ _ (kept-count _ _ _ _ c.before.before.before.before.before.before.count-new.ensures) c.before.before.before.before.octet.ensures c.before.before.before.if1.false c.before.octet2.ensures c.if2.true
+    agreed_low _ _ _ _ c.before.before.before.before.before.before.before.before.before.before.before.requires.0 c.before.before.before.before.before.before.before.before.loop.invariant c.before.before.before.before.before.before.before.loop-test.true _ _ _ (kept_count _ _ _ _ c.before.before.before.before.before.before.count-new.ensures) c.before.before.before.before.octet.ensures c.before.before.before.if1.false c.before.octet2.ensures c.if2.true
 
 add_at : tie.Need-overflow-add-at invariant-loop decreases-loop
 add_at c =
@@ -63,11 +63,11 @@ loop-less c =
 
 loop-again : tie.Need-loop-preserved invariant-loop decreases-loop
 loop-again c =
-    agreed-more _ _ _ _ c.before.before.before.before.before.before.before.before.before.before.before.requires.0 c.before.before.before.before.before.before.before.before.loop.invariant c.before.before.before.before.before.before.before.loop-test.true _ _ _ (kept-count _ _ _ _ c.before.before.before.before.before.before.count-new.ensures) c.before.before.before.before.octet.ensures c.before.before.before.if1.false c.before.octet2.ensures c.if2.false
+    agreed_more _ _ _ _ c.before.before.before.before.before.before.before.before.before.before.before.requires.0 c.before.before.before.before.before.before.before.before.loop.invariant c.before.before.before.before.before.before.before.loop-test.true _ _ _ (kept_count _ _ _ _ c.before.before.before.before.before.before.count-new.ensures) c.before.before.before.before.octet.ensures c.before.before.before.if1.false c.before.octet2.ensures c.if2.false
 
 returns-3 : tie.Need-returns-3 invariant-loop decreases-loop
 returns-3 c =
-    agreed-all _ _ _ _ c.before.before.before.before.requires.0 c.before.loop.invariant c.loop-test.false
+    agreed_all _ _ _ _ c.before.before.before.before.requires.0 c.before.loop.invariant c.loop-test.false
 
 pub totals-agree-spec : {M : Type 1} → statement M
 totals-agree-spec =

@@ -8,27 +8,27 @@ use Rattle.rules.proofs.AnswerLaws.{Octets}
 use Rattle.rules.specs.Answer.{ok}
 use Rattle.rules.proofs.SheetForms.{small}
 use Rattle.rules.specs.SheetForm.{form}
-use Rattle.viewing.proofs.ListLaws.{are-bytes}
-use Rattle.viewing.proofs.SheetSteps.{Edited, Offset, Passed, Totalled, after-stops, edition-goes, edition-stops, marks-goes, marks-stops, offset-goes, offset-stops, sheet-accepted, totals-goes, totals-stops}
-use Rattle.viewing.specs.Read.{countAnswer, editionAnswer, marksAnswer, offsetAnswer}
+use Rattle.viewing.proofs.ListLaws.{are_bytes}
+use Rattle.viewing.proofs.SheetSteps.{Edited, Offset, Passed, Totalled, after_stops, edition_goes, edition_stops, marks_goes, marks_stops, offset_goes, offset_stops, sheet_accepted, totals_goes, totals_stops}
+use Rattle.viewing.specs.Read.{count_answer, edition_answer, marks_answer, offset_answer}
 use Rattle.viewing.proofs.view_sheet.Statement.{statement}
 use Rattle.viewing.proofs.view_sheet.Tie as tie
 
 -- what is known of the sheet after each of its fields
 bytes-at : (c : tie.After-shared-slice-known) → Octets c.before.args.s.now
-bytes-at c = are-bytes c.before.args.s.now (λ i. omega (arith, (c.shared-slice-known.given i)))
+bytes-at c = are_bytes c.before.args.s.now (λ i. omega (arith, (c.shared-slice-known.given i)))
 
 edited-at : (c : tie.After-known-told) → Edited form small c.before.before.before.before.before.args.s.now (bytes-at c.before.before.before.before) c.before.before.before.before.before.args.key c.before.e.given.0.0
-edited-at c = edition-goes form small c.before.before.before.before.before.args.s.now (bytes-at c.before.before.before.before) c.before.before.before.before.before.args.key _ (ap editionAnswer (sym c.before.e.given.1) ∙ c.before.before.before.read-edition.ensures)
+edited-at c = edition_goes form small c.before.before.before.before.before.args.s.now (bytes-at c.before.before.before.before) c.before.before.before.before.before.args.key _ (ap edition_answer (sym c.before.e.given.1) ∙ c.before.before.before.read-edition.ensures)
 
 offset_at : (c : tie.After-known-told3) → Offset form small c.before.before.before.before.before.before.before.before.before.before.args.s.now (bytes-at c.before.before.before.before.before.before.before.before.before) c.before.before.before.before.before.before.before.before.before.before.args.key c.before.before.before.before.before.before.e.given.0.0 c.before.o.given.0.0
-offset_at c = offset-goes form small c.before.before.before.before.before.before.before.before.before.before.args.s.now (bytes-at c.before.before.before.before.before.before.before.before.before) c.before.before.before.before.before.before.before.before.before.before.args.key _ _ (edited-at c.before.before.before.before.before) (ap offsetAnswer (sym c.before.o.given.1) ∙ c.before.before.before.read-offset.ensures)
+offset_at c = offset_goes form small c.before.before.before.before.before.before.before.before.before.before.args.s.now (bytes-at c.before.before.before.before.before.before.before.before.before) c.before.before.before.before.before.before.before.before.before.before.args.key _ _ (edited-at c.before.before.before.before.before) (ap offset_answer (sym c.before.o.given.1) ∙ c.before.before.before.read-offset.ensures)
 
 marked-at : (c : tie.After-known-told5) → Passed form small c.before.before.before.before.before.before.before.before.before.before.before.before.before.before.before.args.s.now (bytes-at c.before.before.before.before.before.before.before.before.before.before.before.before.before.before) c.before.before.before.before.before.before.before.before.before.before.before.before.before.before.before.args.key c.before.before.before.before.before.before.before.before.before.before.before.e.given.0.0 c.before.before.before.before.before.before.o.given.0.0 c.before.m.given.0.0
-marked-at c = marks-goes form small c.before.before.before.before.before.before.before.before.before.before.before.before.before.before.before.args.s.now (bytes-at c.before.before.before.before.before.before.before.before.before.before.before.before.before.before) c.before.before.before.before.before.before.before.before.before.before.before.before.before.before.before.args.key _ _ _ (offset_at c.before.before.before.before.before) (ap marksAnswer (sym c.before.m.given.1) ∙ c.before.before.before.read-marks.ensures)
+marked-at c = marks_goes form small c.before.before.before.before.before.before.before.before.before.before.before.before.before.before.before.args.s.now (bytes-at c.before.before.before.before.before.before.before.before.before.before.before.before.before.before) c.before.before.before.before.before.before.before.before.before.before.before.before.before.before.before.args.key _ _ _ (offset_at c.before.before.before.before.before) (ap marks_answer (sym c.before.m.given.1) ∙ c.before.before.before.read-marks.ensures)
 
 totalled-at : (c : tie.After-enum-told) → Totalled form small c.before.before.before.before.before.before.before.before.before.before.before.before.before.before.before.before.before.before.before.before.before.before.args.s.now (bytes-at c.before.before.before.before.before.before.before.before.before.before.before.before.before.before.before.before.before.before.before.before.before) c.before.before.before.before.before.before.before.before.before.before.before.before.before.before.before.before.before.before.before.before.before.before.args.key c.before.before.before.before.before.before.before.before.before.before.before.before.before.before.before.before.before.before.e.given.0.0 c.before.before.before.before.before.before.before.before.before.before.before.before.before.o.given.0.0 c.before.before.before.before.before.before.before.before.m.given.0.0
-totalled-at c = totals-goes form small c.before.before.before.before.before.before.before.before.before.before.before.before.before.before.before.before.before.before.before.before.before.before.args.s.now (bytes-at c.before.before.before.before.before.before.before.before.before.before.before.before.before.before.before.before.before.before.before.before.before) c.before.before.before.before.before.before.before.before.before.before.before.before.before.before.before.before.before.before.before.before.before.before.args.key _ _ _ _ _ (marked-at c.before.before.before.before.before.before.before) c.before.before.before.before.end_of_lem.ensures.0 (ap countAnswer (sym c.enum_told.given.1) ∙ c.before.before.read-totals.ensures)
+totalled-at c = totals_goes form small c.before.before.before.before.before.before.before.before.before.before.before.before.before.before.before.before.before.before.before.before.before.before.args.s.now (bytes-at c.before.before.before.before.before.before.before.before.before.before.before.before.before.before.before.before.before.before.before.before.before) c.before.before.before.before.before.before.before.before.before.before.before.before.before.before.before.before.before.before.before.before.before.before.args.key _ _ _ _ _ (marked-at c.before.before.before.before.before.before.before) c.before.before.before.before.end_of_lem.ensures.0 (ap count_answer (sym c.enum_told.given.1) ∙ c.before.before.read-totals.ensures)
 
 read-edition-requires : tie.Need-read-edition-requires
 read-edition-requires c κs = search rules
@@ -41,7 +41,7 @@ enum-known-number c = search rules
 
 returns : tie.Need-returns
 returns c =
-    edition-stops form small _ (bytes-at c.before.before.before.before) c.before.before.before.before.before.args.key _ _ (ap editionAnswer (sym c.before.number.given.1) ∙ c.before.before.before.read-edition.ensures)
+    edition_stops form small _ (bytes-at c.before.before.before.before) c.before.before.before.before.before.args.key _ _ (ap edition_answer (sym c.before.number.given.1) ∙ c.before.before.before.read-edition.ensures)
 
 sub-read-offset : tie.Need-overflow-sub-read-offset
 sub-read-offset c =
@@ -65,11 +65,11 @@ enum-known-number-2 c = search rules
 
 add-t29 : tie.Need-overflow-add-t29
 add-t29 c =
-    omega (arith, (offset-stops form small _ (bytes-at c.before.before.before.before.before.before.before.before.before) c.before.before.before.before.before.before.before.before.before.before.args.key _ _ _ (edited-at c.before.before.before.before.before) (ap offsetAnswer (sym c.before.number2.given.1) ∙ c.before.before.before.read-offset.ensures)).1)
+    omega (arith, (offset_stops form small _ (bytes-at c.before.before.before.before.before.before.before.before.before) c.before.before.before.before.before.before.before.before.before.before.args.key _ _ _ (edited-at c.before.before.before.before.before) (ap offset_answer (sym c.before.number2.given.1) ∙ c.before.before.before.read-offset.ensures)).1)
 
 returns-2 : tie.Need-returns-2
 returns-2 c =
-    (offset-stops form small _ (bytes-at c.before.before.before.before.before.before.before.before.before) c.before.before.before.before.before.before.before.before.before.before.args.key _ _ _ (edited-at c.before.before.before.before.before) (ap offsetAnswer (sym c.before.number2.given.1) ∙ c.before.before.before.read-offset.ensures)).0
+    (offset_stops form small _ (bytes-at c.before.before.before.before.before.before.before.before.before) c.before.before.before.before.before.before.before.before.before.before.args.key _ _ _ (edited-at c.before.before.before.before.before) (ap offset_answer (sym c.before.number2.given.1) ∙ c.before.before.before.read-offset.ensures)).0
 
 sub-read-marks : tie.Need-overflow-sub-read-marks
 sub-read-marks c =
@@ -93,11 +93,11 @@ enum-known-number-3 c = search rules
 
 add-t35 : tie.Need-overflow-add-t35
 add-t35 c =
-    omega (arith, (marks-stops form small _ (bytes-at c.before.before.before.before.before.before.before.before.before.before.before.before.before.before) c.before.before.before.before.before.before.before.before.before.before.before.before.before.before.before.args.key _ _ _ _ (offset_at c.before.before.before.before.before) (ap marksAnswer (sym c.before.number3.given.1) ∙ c.before.before.before.read-marks.ensures)).1)
+    omega (arith, (marks_stops form small _ (bytes-at c.before.before.before.before.before.before.before.before.before.before.before.before.before.before) c.before.before.before.before.before.before.before.before.before.before.before.before.before.before.before.args.key _ _ _ _ (offset_at c.before.before.before.before.before) (ap marks_answer (sym c.before.number3.given.1) ∙ c.before.before.before.read-marks.ensures)).1)
 
 returns-3 : tie.Need-returns-3
 returns-3 c =
-    (marks-stops form small _ (bytes-at c.before.before.before.before.before.before.before.before.before.before.before.before.before.before) c.before.before.before.before.before.before.before.before.before.before.before.before.before.before.before.args.key _ _ _ _ (offset_at c.before.before.before.before.before) (ap marksAnswer (sym c.before.number3.given.1) ∙ c.before.before.before.read-marks.ensures)).0
+    (marks_stops form small _ (bytes-at c.before.before.before.before.before.before.before.before.before.before.before.before.before.before) c.before.before.before.before.before.before.before.before.before.before.before.before.before.before.before.args.key _ _ _ _ (offset_at c.before.before.before.before.before) (ap marks_answer (sym c.before.number3.given.1) ∙ c.before.before.before.read-marks.ensures)).0
 
 end-of-requires : tie.Need-end-of-requires
 end-of-requires c κs =
@@ -123,11 +123,11 @@ enum-known-number-4 c = search rules
 
 add-t40 : tie.Need-overflow-add-t40
 add-t40 c =
-    omega (arith, c.before.before.before.before.before.end_of_lem.ensures.1, (totals-stops form small _ (bytes-at c.before.before.before.before.before.before.before.before.before.before.before.before.before.before.before.before.before.before.before.before.before.before) c.before.before.before.before.before.before.before.before.before.before.before.before.before.before.before.before.before.before.before.before.before.before.before.args.key _ _ _ _ _ _ (marked-at c.before.before.before.before.before.before.before.before) c.before.before.before.before.before.end_of_lem.ensures.0 (ap countAnswer (sym c.before.number4.given.1) ∙ c.before.before.before.read-totals.ensures)).1)
+    omega (arith, c.before.before.before.before.before.end_of_lem.ensures.1, (totals_stops form small _ (bytes-at c.before.before.before.before.before.before.before.before.before.before.before.before.before.before.before.before.before.before.before.before.before.before) c.before.before.before.before.before.before.before.before.before.before.before.before.before.before.before.before.before.before.before.before.before.before.before.args.key _ _ _ _ _ _ (marked-at c.before.before.before.before.before.before.before.before) c.before.before.before.before.before.end_of_lem.ensures.0 (ap count_answer (sym c.before.number4.given.1) ∙ c.before.before.before.read-totals.ensures)).1)
 
 returns-4 : tie.Need-returns-4
 returns-4 c =
-    (totals-stops form small _ (bytes-at c.before.before.before.before.before.before.before.before.before.before.before.before.before.before.before.before.before.before.before.before.before.before) c.before.before.before.before.before.before.before.before.before.before.before.before.before.before.before.before.before.before.before.before.before.before.before.args.key _ _ _ _ _ _ (marked-at c.before.before.before.before.before.before.before.before) c.before.before.before.before.before.end_of_lem.ensures.0 (ap countAnswer (sym c.before.number4.given.1) ∙ c.before.before.before.read-totals.ensures)).0
+    (totals_stops form small _ (bytes-at c.before.before.before.before.before.before.before.before.before.before.before.before.before.before.before.before.before.before.before.before.before.before) c.before.before.before.before.before.before.before.before.before.before.before.before.before.before.before.before.before.before.before.before.before.before.before.args.key _ _ _ _ _ _ (marked-at c.before.before.before.before.before.before.before.before) c.before.before.before.before.before.end_of_lem.ensures.0 (ap count_answer (sym c.before.number4.given.1) ∙ c.before.before.before.read-totals.ensures)).0
 
 enum_told : tie.Need-enum-told
 enum_told c = search rules
@@ -141,12 +141,12 @@ add-end c =
 
 returns-5 : tie.Need-returns-5
 returns-5 c =
-    after-stops form small _ (bytes-at c.before.before.before.before.before.before.before.before.before.before.before.before.before.before.before.before.before.before.before.before.before.before.before) c.before.before.before.before.before.before.before.before.before.before.before.before.before.before.before.before.before.before.before.before.before.before.before.before.args.key _ _ _ _ _ (totalled-at c.before.before) c.before.before.before.before.before.before.end_of_lem.ensures.0 c.before.totals-size.ensures.0 c.if1.true
+    after_stops form small _ (bytes-at c.before.before.before.before.before.before.before.before.before.before.before.before.before.before.before.before.before.before.before.before.before.before.before) c.before.before.before.before.before.before.before.before.before.before.before.before.before.before.before.before.before.before.before.before.before.before.before.before.args.key _ _ _ _ _ (totalled-at c.before.before) c.before.before.before.before.before.before.end_of_lem.ensures.0 c.before.totals-size.ensures.0 c.if1.true
 
 returns-6 : tie.Need-returns-6
 returns-6 c =
     ap (λ z. ok (record { edition = c.before.before.before.before.before.before.before.before.before.before.before.before.before.before.before.before.before.before.before.before.e.given.0.0; offset = z; lists = c.before.before.before.before.before.before.before.before.before.before.m.given.0.0.lists; tally = c.before.before.before.before.before.before.before.before.before.before.m.given.0.0.tally })) (to_z-of_z w64 c.before.before.before.before.before.before.before.before.before.before.before.before.before.before.before.o.given.0.0 (search rules))
-    ∙ sheet-accepted form small _ (bytes-at c.before.before.before.before.before.before.before.before.before.before.before.before.before.before.before.before.before.before.before.before.before.before.before) c.before.before.before.before.before.before.before.before.before.before.before.before.before.before.before.before.before.before.before.before.before.before.before.before.args.key _ _ _ _ _ (totalled-at c.before.before) c.before.before.before.before.before.before.end_of_lem.ensures.0 c.before.totals-size.ensures.0 c.if1.false
+    ∙ sheet_accepted form small _ (bytes-at c.before.before.before.before.before.before.before.before.before.before.before.before.before.before.before.before.before.before.before.before.before.before.before) c.before.before.before.before.before.before.before.before.before.before.before.before.before.before.before.before.before.before.before.before.before.before.before.before.args.key _ _ _ _ _ (totalled-at c.before.before) c.before.before.before.before.before.before.end_of_lem.ensures.0 c.before.totals-size.ensures.0 c.if1.false
 
 pub view-sheet-spec : {M : Type 1} → statement M
 view-sheet-spec =

@@ -8,41 +8,41 @@ use native.Mathlib.Nat.{sub-zero}
 use mathlib.Core.List.{◌++◌}
 use lib.ListN.{length, take}
 use Rattle.rules.specs.Answer.{ok, refused}
-use Rattle.rules.specs.Entry.{newRecord}
-use Rattle.sets.specs.Sets.{categoryAt, frnsOf, fspecAt}
-use Rattle.records.specs.Answers.{checkedNumber as newNumber, checkedPlace as newPlace, end_of, newAt}
-use Rattle.blocks.specs.Read.{Opening, openFrom}
-use Rattle.blocks.specs.Answers.{checkedNumber, checkedPlace, openedBy}
-use Rattle.blocks.proofs.LoopLaws.{octets-each}
-use Rattle.adding.proofs.AddLaws.{add_none, add-old, add-new, old-both, new-both, old-len, new-refused, new-whole, long-both, full-both, added-both}
+use Rattle.rules.specs.Entry.{new_record}
+use Rattle.sets.specs.Sets.{category_at, frns_of, fspec_at}
+use Rattle.records.specs.Answers.{checked_number as newNumber, checked_place as newPlace, end_of, new_at}
+use Rattle.blocks.specs.Read.{Opening, open_from}
+use Rattle.blocks.specs.Answers.{checked_number, checked_place, opened_by}
+use Rattle.blocks.proofs.LoopLaws.{octets_each}
+use Rattle.adding.proofs.AddLaws.{add_none, add_old, add_new, old_both, new_both, old_len, new_refused, new_whole, long_both, full_both, added_both}
 use Rattle.adding.proofs.add.add_by.Statement.{statement}
 use Rattle.adding.proofs.add.add_by.Tie as tie
 
 -- the block that the octets in use are
 abbrev opening : tie.After-enum-told → Opening
-opening c = record { category = categoryAt c.before.before.open_block.result.profile; count = c.enum_told.given.0.0 }
+opening c = record { category = category_at c.before.before.open_block.result.profile; count = c.enum_told.given.0.0 }
 
-is_open : (c : tie.After-enum-told) → openFrom 3 (take c.before.before.before.before.before.before.before.before.args.used c.before.before.before.before.before.before.before.before.args.out.now) ≡ ok (opening c)
+is_open : (c : tie.After-enum-told) → open_from 3 (take c.before.before.before.before.before.before.before.before.args.used c.before.before.before.before.before.before.before.before.args.out.now) ≡ ok (opening c)
 is_open c =
-    ap (λ k. openFrom 3 (take k c.before.before.before.before.before.before.before.before.args.out.now)) (sym (sub-zero c.before.before.before.before.before.before.before.before.args.used))
+    ap (λ k. open_from 3 (take k c.before.before.before.before.before.before.before.before.args.out.now)) (sym (sub-zero c.before.before.before.before.before.before.before.before.args.used))
     ∙ sym c.before.before.open_block.ensures.0
-    ∙ ap (openedBy c.before.before.open_block.result.profile) c.enum_told.given.1
+    ∙ ap (opened_by c.before.before.open_block.result.profile) c.enum_told.given.1
 
 -- how much is in use
 in_use : (c : tie.After-enum-told) → (3 ≤ c.before.before.before.before.before.before.before.before.args.used) × (c.before.before.before.before.before.before.before.before.args.used < 65_536)
-in_use c = old-len _ _ (opening c) (octets-each c.before.before.before.before.before.before.before.before.args.out.now c.before.before.before.before.before.before.before.slice-known.given) c.before.before.before.before.before.if1.false (is_open c)
+in_use c = old_len _ _ (opening c) (octets_each c.before.before.before.before.before.before.before.before.args.out.now c.before.before.before.before.before.before.before.slice-known.given) c.before.before.before.before.before.if1.false (is_open c)
 
 -- the new record
-checked : (c : tie.After-known-told) → newAt c.before.before.before.before.before.before.open_block.result.profile c.before.before.before.before.before.before.before.before.before.before.before.before.args.set.bits c.before.before.before.before.before.before.before.before.before.before.before.before.args.items.now ≡ ok c.before.new.given.0.0
+checked : (c : tie.After-known-told) → new_at c.before.before.before.before.before.before.open_block.result.profile c.before.before.before.before.before.before.before.before.before.before.before.before.args.set.bits c.before.before.before.before.before.before.before.before.before.before.before.before.args.items.now ≡ ok c.before.new.given.0.0
 checked c = sym c.before.before.before.check-new.ensures ∙ ap end_of c.before.new.given.1
 
 whole : (c : tie.After-known-told)
-    → (newRecord (opening c.before.before.before.before).category (frnsOf c.before.before.before.before.before.before.before.before.before.before.before.before.args.set.bits) c.before.before.before.before.before.before.before.before.before.before.before.before.args.items.now ≡ ok (fspecAt c.before.before.before.before.before.before.open_block.result.profile c.before.before.before.before.before.before.before.before.before.before.before.before.args.set.bits ++ c.before.before.before.before.before.before.before.before.before.before.before.before.args.items.now))
-    × (c.before.new.given.0.0 ≡ length (fspecAt c.before.before.before.before.before.before.open_block.result.profile c.before.before.before.before.before.before.before.before.before.before.before.before.args.set.bits) + length c.before.before.before.before.before.before.before.before.before.before.before.before.args.items.now)
-whole c = new-whole _ _ _ _ (checked c)
+    → (new_record (opening c.before.before.before.before).category (frns_of c.before.before.before.before.before.before.before.before.before.before.before.before.args.set.bits) c.before.before.before.before.before.before.before.before.before.before.before.before.args.items.now ≡ ok (fspec_at c.before.before.before.before.before.before.open_block.result.profile c.before.before.before.before.before.before.before.before.before.before.before.before.args.set.bits ++ c.before.before.before.before.before.before.before.before.before.before.before.before.args.items.now))
+    × (c.before.new.given.0.0 ≡ length (fspec_at c.before.before.before.before.before.before.open_block.result.profile c.before.before.before.before.before.before.before.before.before.before.before.before.args.set.bits) + length c.before.before.before.before.before.before.before.before.before.before.before.before.args.items.now)
+whole c = new_whole _ _ _ _ (checked c)
 
 returns : tie.Need-returns
-returns c = old-both _ (add_none _ _ _ _ c.if1.true)
+returns c = old_both _ (add_none _ _ _ _ c.if1.true)
 
 sub-open-block : tie.Need-overflow-sub-open-block
 sub-open-block c = search rules
@@ -73,12 +73,12 @@ same_length c = search rules
 
 returns-2 : tie.Need-returns-2
 returns-2 c =
-    old-both _
-    (add-old _ _ _ _ c.before.before.before.before.before.before.before.if1.false _ _
-    (ap (λ k. openFrom 3 (take k c.before.before.before.before.before.before.before.before.before.before.args.out.now)) (sym (sub-zero c.before.before.before.before.before.before.before.before.before.before.args.used))
+    old_both _
+    (add_old _ _ _ _ c.before.before.before.before.before.before.before.if1.false _ _
+    (ap (λ k. open_from 3 (take k c.before.before.before.before.before.before.before.before.before.before.args.out.now)) (sym (sub-zero c.before.before.before.before.before.before.before.before.before.before.args.used))
     ∙ sym c.before.before.before.before.open_block.ensures.0
-    ∙ ap (openedBy c.before.before.before.before.open_block.result.profile) c.before.before.enum-told2.given.1
-    ∙ ap₂ refused (sym (c.before.number.ensures ∙ ap checkedNumber c.before.before.enum-told2.given.1)) (sym (c.place.ensures ∙ ap checkedPlace c.before.before.enum-told2.given.1))))
+    ∙ ap (opened_by c.before.before.before.before.open_block.result.profile) c.before.before.enum-told2.given.1
+    ∙ ap₂ refused (sym (c.before.number.ensures ∙ ap checked_number c.before.before.enum-told2.given.1)) (sym (c.place.ensures ∙ ap checked_place c.before.before.enum-told2.given.1))))
 
 check-new-requires : tie.Need-check-new-requires
 check-new-requires c κs = search rules
@@ -100,9 +100,9 @@ same-length-2 c = search rules
 
 returns-3 : tie.Need-returns-3
 returns-3 c =
-    new-both _
-    (add-new _ _ _ _ c.before.before.before.before.before.before.before.before.before.before.if1.false (opening c.before.before.before.before.before) _ _ (is_open c.before.before.before.before.before)
-    (new-refused _ _ _ _ _
+    new_both _
+    (add_new _ _ _ _ c.before.before.before.before.before.before.before.before.before.before.if1.false (opening c.before.before.before.before.before) _ _ (is_open c.before.before.before.before.before)
+    (new_refused _ _ _ _ _
     (sym c.before.before.before.before.check-new.ensures ∙ ap end_of c.before.before.enum-told3.given.1
     ∙ ap₂ refused (sym (c.before.checked-number.ensures ∙ ap newNumber c.before.before.enum-told3.given.1)) (sym (c.checked-place.ensures ∙ ap newPlace c.before.before.enum-told3.given.1)))))
 
@@ -113,7 +113,7 @@ same-length-3 : tie.Need-same-length-3
 same-length-3 c = search rules
 
 returns-4 : tie.Need-returns-4
-returns-4 c = long-both _ _ _ _ _ _ (opening c.before.before.before.before.before) refl c.before.before.before.before.before.before.before.before.before.before.if1.false (is_open c.before.before.before.before.before) (checked c.before) (omega (arith, (in_use c.before.before.before.before.before).1))
+returns-4 c = long_both _ _ _ _ _ _ (opening c.before.before.before.before.before) refl c.before.before.before.before.before.before.before.before.before.before.if1.false (is_open c.before.before.before.before.before) (checked c.before) (omega (arith, (in_use c.before.before.before.before.before).1))
 
 add-len : tie.Need-overflow-add-len
 add-len c = search rules
@@ -122,7 +122,7 @@ same-length-4 : tie.Need-same-length-4
 same-length-4 c = search rules
 
 returns-5 : tie.Need-returns-5
-returns-5 c = full-both _ _ _ _ _ _ (opening c.before.before.before.before.before.before) refl c.before.before.before.before.before.before.before.before.before.before.before.if1.false (is_open c.before.before.before.before.before.before) (checked c.before.before) (omega (arith, (in_use c.before.before.before.before.before.before).1)) c.if3.true
+returns-5 c = full_both _ _ _ _ _ _ (opening c.before.before.before.before.before.before) refl c.before.before.before.before.before.before.before.before.before.before.before.if1.false (is_open c.before.before.before.before.before.before) (checked c.before.before) (omega (arith, (in_use c.before.before.before.before.before.before).1)) c.if3.true
 
 lay-record-requires : tie.Need-lay-record-requires
 lay-record-requires c κs = ((in_use c.before.before.before.before.before.before.before).0, omega (arith, (in_use c.before.before.before.before.before.before.before).1), omega arith, ap (λ k. c.before.before.before.before.before.before.before.before.before.before.before.before.before.before.before.args.used + k) (whole c.before.before.before).1)
@@ -131,7 +131,7 @@ same-length-5 : tie.Need-same-length-5
 same-length-5 c = search rules
 
 returns-6 : tie.Need-returns-6
-returns-6 c = added-both _ _ _ _ _ _ (opening c.before.before.before.before.before.before.before.before.before.before) refl c.before.before.before.before.before.before.before.before.before.before.before.before.before.before.before.if1.false (is_open c.before.before.before.before.before.before.before.before.before.before) (checked c.before.before.before.before.before.before) _ (in_use c.before.before.before.before.before.before.before.before.before.before).0 (omega (arith, (in_use c.before.before.before.before.before.before.before.before.before.before).1)) c.before.before.before.before.if3.false c.before.before.lay-record.ensures
+returns-6 c = added_both _ _ _ _ _ _ (opening c.before.before.before.before.before.before.before.before.before.before) refl c.before.before.before.before.before.before.before.before.before.before.before.before.before.before.before.if1.false (is_open c.before.before.before.before.before.before.before.before.before.before) (checked c.before.before.before.before.before.before) _ (in_use c.before.before.before.before.before.before.before.before.before.before).0 (omega (arith, (in_use c.before.before.before.before.before.before.before.before.before.before).1)) c.before.before.before.before.if3.false c.before.before.lay-record.ensures
 
 pub add-by-spec : {M : Type 1} → statement M
 add-by-spec =

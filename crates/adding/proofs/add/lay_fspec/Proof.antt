@@ -2,13 +2,13 @@
 use Prim.Native.Nat.{◌-◌}
 use borrow.Author.Rules.{rules}
 use native.Mathlib.Omega.{arith}
-use Rattle.sets.specs.Sets.{fspecAt}
-use Rattle.adding.proofs.AddLaws.{Laying, lay-start, lay-length, lay-again, lay-end}
+use Rattle.sets.specs.Sets.{fspec_at}
+use Rattle.adding.proofs.AddLaws.{Laying, lay_start, lay_length, lay_again, lay_end}
 use Rattle.adding.proofs.add.lay_fspec.Statement.{statement}
 use Rattle.adding.proofs.add.lay_fspec.Tie as tie
 
 abbrev invariant-loop : tie.invariant-loop
-invariant-loop out₀ at profile set count k₀ out k = Laying out₀ at (fspecAt profile set.bits) out k
+invariant-loop out₀ at profile set count k₀ out k = Laying out₀ at (fspec_at profile set.bits) out k
 
 abbrev decreases-loop : tie.decreases-loop
 decreases-loop out₀ at profile set count k₀ out k = count - k
@@ -17,7 +17,7 @@ fspec-octets-requires : tie.Need-fspec-octets-requires invariant-loop decreases-
 fspec-octets-requires c κs = search rules
 
 loop-holds : tie.Need-loop-init invariant-loop decreases-loop
-loop-holds c = lay-start _ _ _ c.before.before.requires
+loop-holds c = lay_start _ _ _ c.before.before.requires
 
 fspec-octet-requires : tie.Need-fspec-octet-requires invariant-loop decreases-loop
 fspec-octet-requires c κs = search rules
@@ -26,7 +26,7 @@ add-out : tie.Need-overflow-add-out invariant-loop decreases-loop
 add-out c = omega (arith, c.before.before.before.fspec-octets.ensures)
 
 slice-write-out : tie.Need-slice-write-out invariant-loop decreases-loop
-slice-write-out c = omega (arith, c.before.before.before.fspec-octets.ensures, lay-length c.before.before.loop.invariant)
+slice-write-out c = omega (arith, c.before.before.before.fspec-octets.ensures, lay_length c.before.before.loop.invariant)
 
 add-k : tie.Need-overflow-add-k invariant-loop decreases-loop
 add-k c = omega (arith, c.before.before.before.fspec-octets.ensures)
@@ -35,13 +35,13 @@ loop-less : tie.Need-loop-smaller invariant-loop decreases-loop
 loop-less c = omega arith
 
 loop-again : tie.Need-loop-preserved invariant-loop decreases-loop
-loop-again c = lay-again c.before.before.loop.invariant (omega (arith, c.before.before.before.fspec-octets.ensures)) c.fspec-octet.ensures
+loop-again c = lay_again c.before.before.loop.invariant (omega (arith, c.before.before.before.fspec-octets.ensures)) c.fspec-octet.ensures
 
 same_length : tie.Need-same-length invariant-loop decreases-loop
-same_length c = lay-length c.before.loop.invariant
+same_length c = lay_length c.before.loop.invariant
 
 returns : tie.Need-returns invariant-loop decreases-loop
-returns c = lay-end c.before.loop.invariant (omega (arith, c.before.before.fspec-octets.ensures))
+returns c = lay_end c.before.loop.invariant (omega (arith, c.before.before.fspec-octets.ensures))
 
 pub lay-fspec-spec : {M : Type 1} → statement M
 lay-fspec-spec =

@@ -4,7 +4,7 @@ use mathlib.Core.Path.{ap, ap₂, ◌∙◌}
 use borrow.Author.Rules.{rules}
 use lib.ListN.{length}
 use lib.Seq.{paste}
-use Rattle.sets.specs.Sets.{fspecAt}
+use Rattle.sets.specs.Sets.{fspec_at}
 use Rattle.adding.proofs.add.lay_record.Statement.{statement}
 use Rattle.adding.proofs.add.lay_record.Tie as tie
 
@@ -30,7 +30,7 @@ returns : tie.Need-returns
 returns c =
     c.before.before.lay-octets.ensures
     ∙ ap₂ (λ z k. paste z (c.before.before.before.before.before.before.before.before.before.before.before.before.before.before.before.args.used + k) c.before.before.before.before.before.before.before.before.before.before.before.before.before.before.before.args.items.now (length c.before.before.before.before.before.before.before.before.before.before.before.before.before.before.before.args.items.now))
-    (c.before.before.before.before.before.before.lay-fspec.ensures ∙ ap (λ z. paste z c.before.before.before.before.before.before.before.before.before.before.before.before.before.before.before.args.used (fspecAt c.before.before.before.before.before.before.before.before.before.before.before.before.before.before.before.args.profile c.before.before.before.before.before.before.before.before.before.before.before.before.before.before.before.args.set.bits) (length (fspecAt c.before.before.before.before.before.before.before.before.before.before.before.before.before.before.before.args.profile c.before.before.before.before.before.before.before.before.before.before.before.before.before.before.before.args.set.bits))) c.before.before.before.before.before.before.before.before.before.before.lay-len.ensures) c.before.before.before.before.before.before.before.before.before.before.before.before.fspec-octets.ensures
+    (c.before.before.before.before.before.before.lay-fspec.ensures ∙ ap (λ z. paste z c.before.before.before.before.before.before.before.before.before.before.before.before.before.before.before.args.used (fspec_at c.before.before.before.before.before.before.before.before.before.before.before.before.before.before.before.args.profile c.before.before.before.before.before.before.before.before.before.before.before.before.before.before.before.args.set.bits) (length (fspec_at c.before.before.before.before.before.before.before.before.before.before.before.before.before.before.before.args.profile c.before.before.before.before.before.before.before.before.before.before.before.before.before.before.before.args.set.bits))) c.before.before.before.before.before.before.before.before.before.before.lay-len.ensures) c.before.before.before.before.before.before.before.before.before.before.before.before.fspec-octets.ensures
 
 pub lay-record-spec : {M : Type 1} → statement M
 lay-record-spec =

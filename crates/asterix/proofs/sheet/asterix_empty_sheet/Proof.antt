@@ -1,5 +1,5 @@
 -- `asterix_empty_sheet` meets its contract: the struct is that of the answer, and the output is as `empty_sheet` leaves it. Assumes nothing.
-use Rattle.asterix.proofs.SheetStructs.{sheet-written}
+use Rattle.asterix.proofs.SheetStructs.{sheet_written_lem}
 use borrow.Author.Rules.{rules}
 use Rattle.asterix.proofs.sheet.asterix_empty_sheet.Statement.{statement}
 use Rattle.asterix.proofs.sheet.asterix_empty_sheet.Tie as tie
@@ -14,7 +14,7 @@ same_length : tie.Need-same-length
 same_length c = search rules
 
 returns : tie.Need-returns
-returns c = (sheet-written _ _ _ c.written.ensures c.before.before.before.empty-sheet.ensures.0, c.before.before.before.empty-sheet.ensures.1)
+returns c = (sheet_written_lem _ _ _ c.written.ensures c.before.before.before.empty-sheet.ensures.0, c.before.before.before.empty-sheet.ensures.1)
 
 pub asterix-empty-sheet-spec : {M : Type 1} → statement M
 asterix-empty-sheet-spec =

@@ -2,7 +2,7 @@
 use mathlib.Core.Path.{◌∙◌, ap₂}
 use mir.Syntax.{w64}
 use mir.ValLaws.{to_z-of_z}
-use Rattle.asterix.proofs.SheetStructs.{sheet-told}
+use Rattle.asterix.proofs.SheetStructs.{sheet_told_lem}
 use borrow.Author.Rules.{rules}
 use Rattle.asterix.proofs.sheet.asterix_read_sheet.Statement.{statement}
 use Rattle.asterix.proofs.sheet.asterix_read_sheet.Tie as tie
@@ -22,10 +22,10 @@ enum-known-number c = search rules
 returns : tie.Need-returns
 returns c =
     ap₂ (λ o m. record { number = 0; edition = c.before.before.edition.given.0.0; place = 0; offset = o; marks = m }) (to_z-of_z w64 c.before.before.edition.given.0.1.0 (search rules)) c.marks-out.ensures
-    ∙ sheet-told _ c.before.before.before.before.read-sheet.ensures c.before.before.edition.given.1
+    ∙ sheet_told_lem _ c.before.before.before.before.read-sheet.ensures c.before.before.edition.given.1
 
 returns-2 : tie.Need-returns-2
-returns-2 c = sheet-told _ c.before.before.before.read-sheet.ensures c.before.number.given.1
+returns-2 c = sheet_told_lem _ c.before.before.before.read-sheet.ensures c.before.number.given.1
 
 pub asterix-read-sheet-spec : {M : Type 1} → statement M
 asterix-read-sheet-spec =

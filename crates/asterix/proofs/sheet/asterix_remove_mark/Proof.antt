@@ -1,5 +1,5 @@
 -- `asterix_remove_mark` meets its contract: the struct is that of the answer, and the output is as `remove_mark` leaves it. Assumes nothing.
-use Rattle.asterix.proofs.SheetStructs.{sheet-written}
+use Rattle.asterix.proofs.SheetStructs.{sheet_written_lem}
 use borrow.Author.Rules.{rules}
 use Rattle.asterix.proofs.sheet.asterix_remove_mark.Statement.{statement}
 use Rattle.asterix.proofs.sheet.asterix_remove_mark.Tie as tie
@@ -14,7 +14,7 @@ same_length : tie.Need-same-length
 same_length c = search rules
 
 returns : tie.Need-returns
-returns c = (sheet-written _ _ _ c.written.ensures c.before.before.before.remove-mark.ensures.0, c.before.before.before.remove-mark.ensures.1)
+returns c = (sheet_written_lem _ _ _ c.written.ensures c.before.before.before.remove-mark.ensures.0, c.before.before.before.remove-mark.ensures.1)
 
 pub asterix-remove-mark-spec : {M : Type 1} → statement M
 asterix-remove-mark-spec =

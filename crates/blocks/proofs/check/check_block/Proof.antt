@@ -1,6 +1,6 @@
 -- `check::check_block` meets its contract: checking a block is opening it. Assumes nothing.
 use borrow.Author.Rules.{rules}
-use Rattle.blocks.proofs.HeadLaws.{check-is}
+use Rattle.blocks.proofs.HeadLaws.{check_is}
 use Rattle.blocks.proofs.check.check_block.Statement.{statement}
 use Rattle.blocks.proofs.check.check_block.Tie as tie
 
@@ -11,7 +11,7 @@ open-block-requires : tie.Need-open-block-requires
 open-block-requires c κs = search rules
 
 returns : tie.Need-returns
-returns c = check-is _ c.open_block.result.profile c.open_block.result.checked c.open_block.ensures.0
+returns c = check_is _ c.open_block.result.profile c.open_block.result.checked c.open_block.ensures.0
 
 pub check-block-spec : {M : Type 1} → statement M
 check-block-spec = tie.close (tie.spec steps-requires open-block-requires returns)

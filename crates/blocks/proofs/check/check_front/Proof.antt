@@ -7,19 +7,19 @@ use lib.Dec.{leb, leb→le}
 use lib.ListN.{length}
 use Rattle.rules.specs.Answer.{ok, refused}
 use Rattle.rules.specs.Block.{Head}
-use Rattle.sets.specs.Sets.{categoryAt}
-use Rattle.blocks.specs.Read.{headBy}
-use Rattle.blocks.specs.Answers.{head_of, headNumber, checkedOf, checkedNumber, checkedPlace}
-use Rattle.blocks.proofs.LoopLaws.{octets-each}
-use Rattle.blocks.proofs.HeadLaws.{headed, len-few, front-refused, front-empty, front-stop, front-all}
+use Rattle.sets.specs.Sets.{category_at}
+use Rattle.blocks.specs.Read.{head_by}
+use Rattle.blocks.specs.Answers.{head_of, head_number, checked_of, checked_number, checked_place}
+use Rattle.blocks.proofs.LoopLaws.{octets_each}
+use Rattle.blocks.proofs.HeadLaws.{headed, len_few, front_refused, front_empty, front_stop, front_all}
 use Rattle.blocks.proofs.check.check_front.Statement.{statement}
 use Rattle.blocks.proofs.check.check_front.Tie as tie
 
 -- the head that was read
 abbrev head-of : tie.Else1 → Head
-head-of c = record { category = categoryAt c.before.before.head.given.0.0; len = c.before.before.head.given.0.1.0 }
+head-of c = record { category = category_at c.before.before.head.given.0.0; len = c.before.before.head.given.0.1.0 }
 
-has-head : (c : tie.Else1) → headBy leb c.before.before.before.before.before.before.args.part.now ≡ ok (head-of c)
+has-head : (c : tie.Else1) → head_by leb c.before.before.before.before.before.before.args.part.now ≡ ok (head-of c)
 has-head c = sym c.before.before.before.before.front-head.ensures ∙ ap head_of c.before.before.head.given.1
 
 -- LEN is no more than is left, and has two octets
@@ -28,8 +28,8 @@ len_is c = leb→le _ _ (headed leb c.before.before.before.before.before.before.
 
 few : (c : tie.Else1) → (head-of c).len < 65_536
 few c =
-    len-few leb c.before.before.before.before.before.before.args.part.now (head-of c)
-    (octets-each c.before.before.before.before.before.before.args.part.now c.before.before.before.before.before.shared-slice-known.given) (has-head c)
+    len_few leb c.before.before.before.before.before.before.args.part.now (head-of c)
+    (octets_each c.before.before.before.before.before.before.args.part.now c.before.before.before.before.before.shared-slice-known.given) (has-head c)
 
 least : (c : tie.Else1) → 3 ≤ (head-of c).len
 least c = (headed leb c.before.before.before.before.before.before.args.part.now (head-of c) (has-head c)).least
@@ -48,11 +48,11 @@ number-requires c κs = search rules
 
 returns : tie.Need-returns
 returns c =
-    ap (λ n. refused n 0) (c.number.ensures ∙ ap headNumber c.before.enum_told.given.1)
-    ∙ sym (front-refused _ _ _ (sym c.before.before.before.front-head.ensures ∙ ap head_of c.before.enum_told.given.1))
+    ap (λ n. refused n 0) (c.number.ensures ∙ ap head_number c.before.enum_told.given.1)
+    ∙ sym (front_refused _ _ _ (sym c.before.before.before.front-head.ensures ∙ ap head_of c.before.enum_told.given.1))
 
 returns-2 : tie.Need-returns-2
-returns-2 c = sym (front-empty _ (record { category = categoryAt c.before.before.head.given.0.0; len = c.before.before.head.given.0.1.0 }) (sym c.before.before.before.before.front-head.ensures ∙ ap head_of c.before.before.head.given.1) c.if1.true)
+returns-2 c = sym (front_empty _ (record { category = category_at c.before.before.head.given.0.0; len = c.before.before.head.given.0.1.0 }) (sym c.before.before.before.before.front-head.ensures ∙ ap head_of c.before.before.head.given.1) c.if1.true)
 
 sub-check-records-by : tie.Need-overflow-sub-check-records-by
 sub-check-records-by c = omega (arith, least c)
@@ -81,14 +81,14 @@ place-requires c κs = search rules
 
 returns-3 : tie.Need-returns-3
 returns-3 c =
-    ap₂ refused (c.before.number2.ensures ∙ ap checkedNumber c.before.before.enum-told2.given.1) (c.place.ensures ∙ ap checkedPlace c.before.before.enum-told2.given.1)
-    ∙ sym (front-stop _ (head-of c.before.before.before.before.before.before) _ _ (has-head c.before.before.before.before.before.before) c.before.before.before.before.before.before.if1.false
-    (sym c.before.before.before.before.check-records-by.ensures ∙ ap checkedOf c.before.before.enum-told2.given.1))
+    ap₂ refused (c.before.number2.ensures ∙ ap checked_number c.before.before.enum-told2.given.1) (c.place.ensures ∙ ap checked_place c.before.before.enum-told2.given.1)
+    ∙ sym (front_stop _ (head-of c.before.before.before.before.before.before) _ _ (has-head c.before.before.before.before.before.before) c.before.before.before.before.before.before.if1.false
+    (sym c.before.before.before.before.check-records-by.ensures ∙ ap checked_of c.before.before.enum-told2.given.1))
 
 returns-4 : tie.Need-returns-4
 returns-4 c =
-    sym (front-all _ (head-of c.before.before.before.before.before) _ (has-head c.before.before.before.before.before) c.before.before.before.before.before.if1.false
-    (sym c.before.before.before.check-records-by.ensures ∙ ap checkedOf c.before.checked.given.1))
+    sym (front_all _ (head-of c.before.before.before.before.before) _ (has-head c.before.before.before.before.before) c.before.before.before.before.before.if1.false
+    (sym c.before.before.before.check-records-by.ensures ∙ ap checked_of c.before.checked.given.1))
 
 pub check-front-spec : {M : Type 1} → statement M
 check-front-spec =

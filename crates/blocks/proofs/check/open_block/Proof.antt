@@ -8,19 +8,19 @@ use lib.ListN.{length}
 use Rattle.rules.specs.Answer.{ok, refused, ◌>>=◌}
 use Rattle.rules.specs.Block.{Head}
 use Rattle.rules.proofs.AnswerLaws.{to_end}
-use Rattle.sets.specs.Sets.{categoryAt}
-use Rattle.blocks.specs.Read.{headBy, opening, openFrom}
-use Rattle.blocks.specs.Answers.{head_of, headNumber, openedBy}
-use Rattle.blocks.proofs.LoopLaws.{octets-each}
-use Rattle.blocks.proofs.HeadLaws.{headed, len-few, opened-refused, opened-less, opened-body, opened-by, opened-any, profile-refused, profile-opened}
+use Rattle.sets.specs.Sets.{category_at}
+use Rattle.blocks.specs.Read.{head_by, opening, open_from}
+use Rattle.blocks.specs.Answers.{head_of, head_number, opened_by}
+use Rattle.blocks.proofs.LoopLaws.{octets_each}
+use Rattle.blocks.proofs.HeadLaws.{headed, len_few, opened_refused, opened_less, opened_body, opened_by_lem, opened_any, profile_refused, profile_opened}
 use Rattle.blocks.proofs.check.open_block.Statement.{statement}
 use Rattle.blocks.proofs.check.open_block.Tie as tie
 
 -- the head that was read
 abbrev head-of : tie.Else1 → Head
-head-of c = record { category = categoryAt c.before.before.head.given.0.0; len = c.before.before.head.given.0.1.0 }
+head-of c = record { category = category_at c.before.before.head.given.0.0; len = c.before.before.head.given.0.1.0 }
 
-has-head : (c : tie.Else1) → headBy eqb c.before.before.before.before.before.before.args.block.now ≡ ok (head-of c)
+has-head : (c : tie.Else1) → head_by eqb c.before.before.before.before.before.before.args.block.now ≡ ok (head-of c)
 has-head c = sym c.before.before.before.before.single-head.ensures ∙ ap head_of c.before.before.head.given.1
 
 -- LEN is the length lent, and so has two octets
@@ -29,27 +29,27 @@ len_is c = eqb→eq _ _ (headed eqb c.before.before.before.before.before.before.
 
 few : (c : tie.Else1) → (head-of c).len < 65_536
 few c =
-    len-few eqb c.before.before.before.before.before.before.args.block.now (head-of c)
-    (octets-each c.before.before.before.before.before.before.args.block.now c.before.before.before.before.before.shared-slice-known.given) (has-head c)
+    len_few eqb c.before.before.before.before.before.before.args.block.now (head-of c)
+    (octets_each c.before.before.before.before.before.before.args.block.now c.before.before.before.before.before.shared-slice-known.given) (has-head c)
 
 least : (c : tie.Else1) → 3 ≤ length c.before.before.before.before.before.before.args.block.now
 least c = (headed eqb c.before.before.before.before.before.before.args.block.now (head-of c) (has-head c)).room
 
 -- no head
-no-head : (c : tie.After-enum-told) → openFrom c.before.before.before.before.args.least c.before.before.before.before.args.block.now ≡ refused c.enum_told.given.0.0 0
-no-head c = opened-refused _ _ _ _ (sym c.before.before.single-head.ensures ∙ ap head_of c.enum_told.given.1)
+no_head_lem : (c : tie.After-enum-told) → open_from c.before.before.before.before.args.least c.before.before.before.before.args.block.now ≡ refused c.enum_told.given.0.0 0
+no_head_lem c = opened_refused _ _ _ _ (sym c.before.before.single-head.ensures ∙ ap head_of c.enum_told.given.1)
 
 -- LEN too small
-too_small : (c : tie.Then1) → openFrom c.before.before.before.before.before.before.args.least c.before.before.before.before.before.before.args.block.now ≡ refused 4 0
-too_small c = opened-less _ _ (record { category = categoryAt c.before.before.head.given.0.0; len = c.before.before.head.given.0.1.0 }) (sym c.before.before.before.before.single-head.ensures ∙ ap head_of c.before.before.head.given.1) c.if1.true
+too_small : (c : tie.Then1) → open_from c.before.before.before.before.before.before.args.least c.before.before.before.before.before.before.args.block.now ≡ refused 4 0
+too_small c = opened_less _ _ (record { category = category_at c.before.before.head.given.0.0; len = c.before.before.head.given.0.1.0 }) (sym c.before.before.before.before.single-head.ensures ∙ ap head_of c.before.before.head.given.1) c.if1.true
 
 -- what was found of the records is what is found of the block
 found : (c : tie.After-check-records)
-    → openedBy c.before.before.before.before.head.given.0.0 c.check-records.result ≡ openFrom c.before.before.before.before.before.before.before.before.args.least c.before.before.before.before.before.before.before.before.args.block.now
+    → opened_by c.before.before.before.before.head.given.0.0 c.check-records.result ≡ open_from c.before.before.before.before.before.before.before.before.args.least c.before.before.before.before.before.before.before.before.args.block.now
 found c =
-    opened-by _ c.check-records.result
+    opened_by_lem _ c.check-records.result
     ∙ ap (λ z. z >>= λ n. ok (opening (head-of c.before.before).category n)) c.check-records.ensures
-    ∙ sym (opened-body _ _ (head-of c.before.before) _ (has-head c.before.before) c.before.before.if1.false (to_end c.before.before.before.before.before.before.before.before.args.block.now 3))
+    ∙ sym (opened_body _ _ (head-of c.before.before) _ (has-head c.before.before) c.before.before.if1.false (to_end c.before.before.before.before.before.before.before.before.args.block.now 3))
 
 single-head-requires : tie.Need-single-head-requires
 single-head-requires c κs = search rules
@@ -65,12 +65,12 @@ number-requires c κs = search rules
 
 returns : tie.Need-returns
 returns c = (
-  ap (λ n. refused n 0) (c.number.ensures ∙ ap headNumber c.before.enum_told.given.1) ∙ sym (no-head c.before),
-  profile-refused _ _ _ _ (no-head c.before),
+  ap (λ n. refused n 0) (c.number.ensures ∙ ap head_number c.before.enum_told.given.1) ∙ sym (no_head_lem c.before),
+  profile_refused _ _ _ _ (no_head_lem c.before),
 )
 
 returns-2 : tie.Need-returns-2
-returns-2 c = (sym (too_small c), profile-refused _ _ _ _ (too_small c))
+returns-2 c = (sym (too_small c), profile_refused _ _ _ _ (too_small c))
 
 sub-check-records : tie.Need-overflow-sub-check-records
 sub-check-records c = least c
@@ -93,15 +93,15 @@ enum-told-3 c = search rules
 -- a record is refused
 returns-3 : tie.Need-returns-3
 returns-3 c = (
-  opened-any _ _ _ _ _ c.enum-told3.given.1 ∙ found c.before.before,
-  profile-refused _ _ _ _ (sym (found c.before.before) ∙ ap (openedBy c.before.before.before.before.before.before.head.given.0.0) c.enum-told3.given.1),
+  opened_any _ _ _ _ _ c.enum-told3.given.1 ∙ found c.before.before,
+  profile_refused _ _ _ _ (sym (found c.before.before) ∙ ap (opened_by c.before.before.before.before.before.before.head.given.0.0) c.enum-told3.given.1),
 )
 
 -- all are accepted
 returns-4 : tie.Need-returns-4
 returns-4 c = (
   found c.before.before,
-  profile-opened _ _ _ _ _ (has-head c.before.before.before.before) (sym (found c.before.before) ∙ ap (openedBy c.before.before.before.before.before.before.head.given.0.0) c.enum-told2.given.1),
+  profile_opened _ _ _ _ _ (has-head c.before.before.before.before) (sym (found c.before.before) ∙ ap (opened_by c.before.before.before.before.before.before.head.given.0.0) c.enum-told2.given.1),
 )
 
 pub open-block-spec : {M : Type 1} → statement M

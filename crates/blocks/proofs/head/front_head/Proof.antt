@@ -4,7 +4,7 @@ use lib.Dec.{leb}
 use borrow.Author.Tests.{le-leb, lt-leb}
 use borrow.Author.Rules.{rules}
 use Rattle.blocks.specs.Answers.{head_of}
-use Rattle.blocks.proofs.HeadLaws.{by-no-head, by-bad-len, by-head}
+use Rattle.blocks.proofs.HeadLaws.{by_no_head, by_bad_len, by_head}
 use Rattle.blocks.proofs.head.front_head.Statement.{statement}
 use Rattle.blocks.proofs.head.front_head.Tie as tie
 
@@ -18,13 +18,13 @@ enum_told : tie.Need-enum-told
 enum_told c = search rules
 
 returns : tie.Need-returns
-returns c = ap head_of c.enum_told.given.1 ∙ sym (by-no-head leb _ _ _ (sym c.before.before.read_head.ensures ∙ ap head_of c.enum_told.given.1))
+returns c = ap head_of c.enum_told.given.1 ∙ sym (by_no_head leb _ _ _ (sym c.before.before.read_head.ensures ∙ ap head_of c.enum_told.given.1))
 
 returns-2 : tie.Need-returns-2
-returns-2 c = sym (by-bad-len leb _ _ (sym c.before.before.before.before.read_head.ensures ∙ ap head_of c.before.before.head.given.1) (lt-leb _ _ c.if1.true))
+returns-2 c = sym (by_bad_len leb _ _ (sym c.before.before.before.before.read_head.ensures ∙ ap head_of c.before.before.head.given.1) (lt-leb _ _ c.if1.true))
 
 returns-3 : tie.Need-returns-3
-returns-3 c = sym (by-head leb _ _ (sym c.before.before.before.before.read_head.ensures ∙ ap head_of c.before.before.head.given.1) (le-leb _ _ c.if1.false))
+returns-3 c = sym (by_head leb _ _ (sym c.before.before.before.before.read_head.ensures ∙ ap head_of c.before.before.head.given.1) (le-leb _ _ c.if1.false))
 
 pub front-head-spec : {M : Type 1} → statement M
 front-head-spec =

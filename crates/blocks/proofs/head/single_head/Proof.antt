@@ -4,7 +4,7 @@ use lib.Dec.{eqb}
 use borrow.Author.Tests.{eq-eqb, ne_eqb}
 use borrow.Author.Rules.{rules}
 use Rattle.blocks.specs.Answers.{head_of}
-use Rattle.blocks.proofs.HeadLaws.{by-no-head, by-bad-len, by-head}
+use Rattle.blocks.proofs.HeadLaws.{by_no_head, by_bad_len, by_head}
 use Rattle.blocks.proofs.head.single_head.Statement.{statement}
 use Rattle.blocks.proofs.head.single_head.Tie as tie
 
@@ -18,13 +18,13 @@ enum_told : tie.Need-enum-told
 enum_told c = search rules
 
 returns : tie.Need-returns
-returns c = ap head_of c.enum_told.given.1 ∙ sym (by-no-head eqb _ _ _ (sym c.before.before.read_head.ensures ∙ ap head_of c.enum_told.given.1))
+returns c = ap head_of c.enum_told.given.1 ∙ sym (by_no_head eqb _ _ _ (sym c.before.before.read_head.ensures ∙ ap head_of c.enum_told.given.1))
 
 returns-2 : tie.Need-returns-2
-returns-2 c = sym (by-bad-len eqb _ _ (sym c.before.before.before.before.read_head.ensures ∙ ap head_of c.before.before.head.given.1) (ne_eqb _ _ c.if1.true))
+returns-2 c = sym (by_bad_len eqb _ _ (sym c.before.before.before.before.read_head.ensures ∙ ap head_of c.before.before.head.given.1) (ne_eqb _ _ c.if1.true))
 
 returns-3 : tie.Need-returns-3
-returns-3 c = sym (by-head eqb _ _ (sym c.before.before.before.before.read_head.ensures ∙ ap head_of c.before.before.head.given.1) (eq-eqb _ _ c.if1.false))
+returns-3 c = sym (by_head eqb _ _ (sym c.before.before.before.before.read_head.ensures ∙ ap head_of c.before.before.head.given.1) (eq-eqb _ _ c.if1.false))
 
 pub single-head-spec : {M : Type 1} → statement M
 single-head-spec =

@@ -3,19 +3,19 @@ use mathlib.Core.Path.{◌∙◌}
 use mir.Syntax.{w64}
 use mir.ValLaws.{to_z-of_z}
 use borrow.Author.Tests.{not-true, not-false}
-use Rattle.compounds.proofs.FieldLaws.{no-count, no-octet, counted, stored-none, stored_one}
+use Rattle.compounds.proofs.FieldLaws.{no_count, no_octet, counted, stored_none, stored_one}
 use borrow.Author.Rules.{rules}
 use Rattle.compounds.proofs.fields.count_store.Statement.{statement}
 use Rattle.compounds.proofs.fields.count_store.Tie as tie
 
 returns : tie.Need-returns
-returns c = stored-none c.before.args.start c.before.args.out.now _ (no-count c.before.args.sub c.before.args.kind c.before.args.parts (not-true _ c.if1.true))
+returns c = stored_none c.before.args.start c.before.args.out.now _ (no_count c.before.args.sub c.before.args.kind c.before.args.parts (not-true _ c.if1.true))
 
 is-counted-requires : tie.Need-is-counted-requires
 is-counted-requires c κs = search rules
 
 returns-2 : tie.Need-returns-2
-returns-2 c = stored-none c.before.before.before.args.start c.before.before.before.args.out.now _ (no-octet c.before.before.before.args.sub c.before.before.before.args.kind c.before.before.before.args.parts c.before.is-counted.ensures (not-true _ c.if2.true))
+returns-2 c = stored_none c.before.before.before.args.start c.before.before.before.args.out.now _ (no_octet c.before.before.before.args.sub c.before.before.before.args.kind c.before.before.before.args.parts c.before.is-counted.ensures (not-true _ c.if2.true))
 
 up-requires : tie.Need-up-requires
 up-requires c κs = search rules

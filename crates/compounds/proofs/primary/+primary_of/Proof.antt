@@ -4,10 +4,10 @@ use mathlib.Core.Path.{◌≡◌, sym, ap, ◌∙◌, subst}
 use lib.ListN.{get_or}
 use native.Mathlib.Omega.{arith}
 use borrow.Author.Rules.{rules}
-use Rattle.tables.specs.Tables.{primaryCount}
-use Rattle.layouts.proofs.OctetLaws.{octets-known}
-use Rattle.compounds.specs.Compound.{Small, beforeOf, primary}
-use Rattle.compounds.proofs.PrimaryLaws.{primaries-few, primary-small, primary-past, primary-cut, primary-last, primary-more}
+use Rattle.tables.specs.Tables.{primary_count}
+use Rattle.layouts.proofs.OctetLaws.{octets_known}
+use Rattle.compounds.specs.Compound.{Small, before_of, primary}
+use Rattle.compounds.proofs.PrimaryLaws.{primaries_few, primary_small, primary_past, primary_cut, primary_last, primary_more}
 use borrow.Fn.Kinds.{In}
 use borrow.Fn.PlainCycle.{Measures, is, falls, and}
 use Rattle.compounds.proofs.primary.primary_of.Reads as primary-of
@@ -17,7 +17,7 @@ use Rattle.compounds.proofs.primary.before.Reads as before-reads
 use Rattle.compounds.proofs.primary.last_of.Reads as last-of-reads
 use Rattle.compounds.proofs.primary.+primary_of.{statement}
 use Rattle.compounds.proofs.primary.+primary_of.Tie.{close}
-use Rattle.rules.proofs.AnswerLaws.{to_end, octets-to-end}
+use Rattle.rules.proofs.AnswerLaws.{to_end, octets_to_end}
 
 abbrev μ-primary-of : Measures 1 primary-of-kinds.ps ℕ
 μ-primary-of κs a = a.1.0
@@ -29,7 +29,7 @@ one_left h = omega (arith, h)
 some-there : {n : ℕ} → (n ≡ 0 → ⊥) → 0 < n
 some-there h = omega (arith, h)
 
-row_in : {row left : ℕ} → (left ≡ 0 → ⊥) → row + left ≤ primaryCount → row < primaryCount
+row_in : {row left : ℕ} → (left ≡ 0 → ⊥) → row + left ≤ primary_count → row < primary_count
 row_in h k = omega (arith, h)
 
 abbrev primary-of-at : ℕ → In 1 primary-of-kinds.ps
@@ -49,7 +49,7 @@ primary-of-returns : (t : ℕ) → primary-of-lts.Need-returns (
   before-reads.Asked,
   before-reads.Learnt,
 ) (primary-of-at t) primary-of.Post
-primary-of-returns t c = primary-past _ _ _ c.if1.true
+primary-of-returns t c = primary_past _ _ _ c.if1.true
 
 -- src/primary.rt:79:9
 primary-of-returns-2 : (t : ℕ) → primary-of-lts.Need-returns-2 (
@@ -60,7 +60,7 @@ primary-of-returns-2 : (t : ℕ) → primary-of-lts.Need-returns-2 (
   before-reads.Asked,
   before-reads.Learnt,
 ) (primary-of-at t) primary-of.Post
-primary-of-returns-2 t c = primary-cut _ _ _ c.before.if1.false c.if2.true
+primary-of-returns-2 t c = primary_cut _ _ _ c.before.if1.false c.if2.true
 
 -- src/primary.rt:81:13
 primary-of-shared-slice-read-x : (t : ℕ) → primary-of-lts.Need-shared-slice-read-x (
@@ -104,7 +104,7 @@ primary-of-returns-3 : (t : ℕ) → primary-of-lts.Need-returns-3 (
   before-reads.Asked,
   before-reads.Learnt,
 ) (primary-of-at t) primary-of.Post
-primary-of-returns-3 t c = primary-last _ _ _ c.before.before.before.before.if1.false c.before.before.before.if2.false c.before.if3.true c.last_of.ensures
+primary-of-returns-3 t c = primary_last _ _ _ c.before.before.before.before.if1.false c.before.before.before.if2.false c.before.if3.true c.last_of.ensures
 
 -- src/primary.rt:85:17
 primary-of-sub-before : (t : ℕ) → primary-of-lts.Need-overflow-sub-before (
@@ -126,7 +126,7 @@ primary-of-add-primary-of : (t : ℕ) → primary-of-lts.Need-overflow-add-prima
   before-reads.Asked,
   before-reads.Learnt,
 ) (primary-of-at t) primary-of.Post
-primary-of-add-primary-of t c = record { fits = omega (arith, primaries-few, row_in c.before.before.before.if1.false c.before.before.before.before.before.requires.1.0) }
+primary-of-add-primary-of t c = record { fits = omega (arith, primaries_few, row_in c.before.before.before.if1.false c.before.before.before.before.before.requires.1.0) }
 
 -- src/primary.rt:85:50
 primary-of-sub-primary-of : (t : ℕ) → primary-of-lts.Need-overflow-sub-primary-of (
@@ -199,7 +199,7 @@ primary-of-before-requires t c κs =
     let s = c.before.before.before.before.before.before.before in (
       row_in c.before.before.before.before.before.if1.false s.requires.1.0,
       omega (arith, s.requires.1.1),
-      subst (Small (s.args.left - 1)) (sym c.primary-of.ensures) (primary-small _ _ _ (octets-to-end s.args.s.now 1 (octets-known s.args.s.now (λ i. omega (arith, c.before.before.before.before.before.before.shared-slice-known.given i))))),
+      subst (Small (s.args.left - 1)) (sym c.primary-of.ensures) (primary_small _ _ _ (octets_to_end s.args.s.now 1 (octets_known s.args.s.now (λ i. omega (arith, c.before.before.before.before.before.before.shared-slice-known.given i))))),
     )
 
 -- src/primary.rt:71:1
@@ -213,8 +213,8 @@ primary-of-returns-4 : (t : ℕ) → primary-of-lts.Need-returns-4 (
 ) (primary-of-at t) primary-of.Post
 primary-of-returns-4 t c =
     let s = c.before.before.before.before.before.before.before.before in
-    primary-more _ _ _ c.before.before.before.before.before.before.if1.false c.before.before.before.before.before.if2.false c.before.before.before.if3.false
-    (c.before2.ensures ∙ ap (beforeOf s.args.row (s.args.left - 1) (get_or s.args.s.now 0 0)) (c.before.primary-of.ensures ∙ ap (primary (s.args.row + 1) (s.args.left - 1)) (to_end s.args.s.now 1)))
+    primary_more _ _ _ c.before.before.before.before.before.before.if1.false c.before.before.before.before.before.if2.false c.before.before.before.if3.false
+    (c.before2.ensures ∙ ap (before_of s.args.row (s.args.left - 1) (get_or s.args.s.now 0 0)) (c.before.primary-of.ensures ∙ ap (primary (s.args.row + 1) (s.args.left - 1)) (to_end s.args.s.now 1)))
 
 pub +primary-of-spec : {M : Type 1} → statement M
 +primary-of-spec = close μ-primary-of λ t. primary-of-lts.spec (

@@ -2,7 +2,7 @@
 use Prim.Native.Nat.{◌*◌, ◌/◌, ◌^◌}
 use mathlib.Core.Path.{◌≡◌, ap₂}
 use native.Mathlib.Omega.{arith}
-use Rattle.compounds.proofs.PrimaryLaws.{raised-fits}
+use Rattle.compounds.proofs.PrimaryLaws.{raised_fits}
 use borrow.Author.Rules.{rules}
 use Rattle.compounds.proofs.primary.raised.Statement.{statement}
 use Rattle.compounds.proofs.primary.raised.Tie as tie
@@ -22,7 +22,7 @@ returns c = ap₂ ◌*◌ c.before.wide.ensures.0 c.pow2.ensures
 mul-result : tie.Need-overflow-mul-result
 mul-result c =
     let e : c.before.wide.result * c.pow2.result ≡ c.before.before.args.x / 2 * 2 ^ (7 * c.before.before.args.left) = returns c in
-    record { fits = omega (arith, raised-fits c.before.before.args.x c.before.before.args.left (search rules) c.before.before.requires) }
+    record { fits = omega (arith, raised_fits c.before.before.args.x c.before.before.args.left (search rules) c.before.before.requires) }
 
 pub raised-spec : {M : Type 1} → statement M
 raised-spec = tie.close (tie.spec wide-requires mul-pow2 pow2-requires mul-result returns)

@@ -5,9 +5,9 @@ use mathlib.Core.Path.{◌≡◌, ap, sym, ◌∙◌, subst}
 use native.Mathlib.Omega.{arith}
 use lib.Pow.{pow_pos}
 use Rattle.rules.proofs.AnswerLaws.{Octets}
-use Rattle.layouts.specs.Read.{shapeIs}
-use Rattle.layouts.proofs.OctetLaws.{octets-known}
-use Rattle.compounds.proofs.SubfieldLaws.{subfields-few, Walking, walk-begun, walk_refused, walk-fits, walk-turned, walk-ended}
+use Rattle.layouts.specs.Read.{shape_is}
+use Rattle.layouts.proofs.OctetLaws.{octets_known}
+use Rattle.compounds.proofs.SubfieldLaws.{subfields_few, Walking, walk_begun, walk_refused, walk_fits, walk_turned, walk_ended}
 use borrow.Author.Rules.{rules}
 use Rattle.compounds.proofs.subfields.subfields_of.Statement.{statement}
 use Rattle.compounds.proofs.subfields.subfields_of.Tie as tie
@@ -30,13 +30,13 @@ turned : (c : tie.After-known-told invariant-loop decreases-loop)
 turned c =
     let w = c.before.before.before.before.before.before.before.loop.invariant in
     let h = c.before.before.before.before.before.before.loop-test.true in
-    let o : Octets c.before.before.before.before.before.before.before.before.before.args.s.now = octets-known c.before.before.before.before.before.before.before.before.before.args.s.now (λ i. omega (arith, c.before.before.before.before.before.before.before.before.shared-slice-known.given i)) in
-    let e = sym (ap shapeIs c.before.shape.given.1) ∙ c.before.before.before.place_of.ensures in
-    (walk-fits _ _ _ _ _ _ _ _ w h (weight-at c.before.before.before.before.before) _ _ o e, walk-turned _ _ _ _ _ _ _ _ w h (weight-at c.before.before.before.before.before) _ _ o e)
+    let o : Octets c.before.before.before.before.before.before.before.before.before.args.s.now = octets_known c.before.before.before.before.before.before.before.before.before.args.s.now (λ i. omega (arith, c.before.before.before.before.before.before.before.before.shared-slice-known.given i)) in
+    let e = sym (ap shape_is c.before.shape.given.1) ∙ c.before.before.before.place_of.ensures in
+    (walk_fits _ _ _ _ _ _ _ _ w h (weight-at c.before.before.before.before.before) _ _ o e, walk_turned _ _ _ _ _ _ _ _ w h (weight-at c.before.before.before.before.before) _ _ o e)
 
 -- src/subfields.rt:43:5
 loop-holds : tie.Need-loop-init invariant-loop decreases-loop
-loop-holds c = walk-begun _ _ _ _ c.before.requires.2
+loop-holds c = walk_begun _ _ _ _ c.before.requires.2
 
 -- src/subfields.rt:44:16
 sub_more : tie.Need-overflow-sub-more invariant-loop decreases-loop
@@ -73,9 +73,9 @@ enum_told c = search rules
 -- src/subfields.rt:48:13
 returns : tie.Need-returns invariant-loop decreases-loop
 returns c =
-    ap shapeIs c.enum_told.given.1
+    ap shape_is c.enum_told.given.1
     ∙ walk_refused _ _ _ _ _ _ _ _ c.before.before.before.before.before.before.loop.invariant c.before.before.before.before.before.loop-test.true (weight-at c.before.before.before.before) _ _
-    (sym (ap shapeIs c.enum_told.given.1) ∙ c.before.before.place_of.ensures)
+    (sym (ap shape_is c.enum_told.given.1) ∙ c.before.before.place_of.ensures)
 
 -- src/subfields.rt:50:16
 rem-left : tie.Need-nonzero-rem-left invariant-loop decreases-loop
@@ -87,7 +87,7 @@ add_at c = record { fits = omega (arith, (turned c).0, c.before.before.before.be
 
 -- src/subfields.rt:52:13
 add-i : tie.Need-overflow-add-i invariant-loop decreases-loop
-add-i c = record { fits = omega (arith, subfields-few, c.before.before.before.before.before.before.loop-test.true, c.before.before.before.before.before.before.before.loop.invariant.place, c.before.before.before.before.before.before.before.before.before.requires.0) }
+add-i c = record { fits = omega (arith, subfields_few, c.before.before.before.before.before.before.loop-test.true, c.before.before.before.before.before.before.before.loop.invariant.place, c.before.before.before.before.before.before.before.before.before.requires.0) }
 
 -- src/subfields.rt:43:5
 loop-less : tie.Need-loop-smaller invariant-loop decreases-loop
@@ -99,7 +99,7 @@ loop-again c = (turned c).1
 
 -- src/subfields.rt:35:1
 returns-2 : tie.Need-returns-2 invariant-loop decreases-loop
-returns-2 c = walk-ended _ _ _ _ _ _ _ _ c.before.loop.invariant c.loop-test.false
+returns-2 c = walk_ended _ _ _ _ _ _ _ _ c.before.loop.invariant c.loop-test.false
 
 pub subfields-of-spec : {M : Type 1} → statement M
 subfields-of-spec =

@@ -8,52 +8,52 @@ use lib.ListN.{length, take, drop, get_or}
 use Rattle.rules.specs.Answer.{ok, refused}
 use Rattle.rules.specs.Chain.{flatten}
 use Rattle.rules.specs.Record.{places}
-use Rattle.rules.proofs.AnswerLaws.{refused-ok, ok-inj, to_end}
-use Rattle.items.specs.Answers.{frnOf, checkedOf, checkAt}
-use Rattle.tables.specs.Places.{frnAs}
-use Rattle.sets.specs.Sets.{categoryAt}
+use Rattle.rules.proofs.AnswerLaws.{refused_ok, ok_inj, to_end}
+use Rattle.items.specs.Answers.{frn_of, checked_of, check_at}
+use Rattle.tables.specs.Places.{frn_as}
+use Rattle.sets.specs.Sets.{category_at}
 use Rattle.blocks.specs.Read.{Opening}
-use Rattle.blocks.specs.Answers.{checkedNumber, checkedPlace, openedBy}
-use Rattle.blocks.proofs.LoopLaws.{octets-each}
-use Rattle.blocks.proofs.OpenLaws.{Opens, opens, opens-records}
-use Rattle.finding.specs.Found.{seekAt, Located, itemSpan}
-use Rattle.tables.proofs.ProfileLaws.{profile-at}
-use Rattle.finding.proofs.FindLaws.{NamedAt, frn-none, frn-some, item_refused, item-unknown, LocatedAt, located, lost, no-record-at, index_in, absent-at, ThereAt, there-at}
+use Rattle.blocks.specs.Answers.{checked_number, checked_place, opened_by}
+use Rattle.blocks.proofs.LoopLaws.{octets_each}
+use Rattle.blocks.proofs.OpenLaws.{Opens, opens, opens_records}
+use Rattle.finding.specs.Found.{seek_at, Located, item_span}
+use Rattle.tables.proofs.ProfileLaws.{profile_at_lem}
+use Rattle.finding.proofs.FindLaws.{NamedAt, frn_none, frn_some, item_refused, item_unknown, LocatedAt, located, lost, no_record_at, index_in, absent_at_lem, ThereAt, there_at}
 use Rattle.finding.proofs.find.locate_item_by.Statement.{statement}
 use Rattle.finding.proofs.find.locate_item_by.Tie as tie
 
 -- the block that was opened
 abbrev opening : tie.After-enum-told → Opening
-opening c = record { category = categoryAt c.before.before.open_block.result.profile; count = c.enum_told.given.0.0 }
+opening c = record { category = category_at c.before.before.open_block.result.profile; count = c.enum_told.given.0.0 }
 
 is_open : (c : tie.After-enum-told) → Opens c.before.before.before.before.args.block.now (opening c)
 is_open c =
-    opens c.before.before.before.before.args.block.now (opening c) (octets-each c.before.before.before.before.args.block.now c.before.before.before.shared-slice-known.given)
-    (sym c.before.before.open_block.ensures.0 ∙ ap (openedBy c.before.before.open_block.result.profile) c.enum_told.given.1)
+    opens c.before.before.before.before.args.block.now (opening c) (octets_each c.before.before.before.before.args.block.now c.before.before.before.shared-slice-known.given)
+    (sym c.before.before.open_block.ensures.0 ∙ ap (opened_by c.before.before.open_block.result.profile) c.enum_told.given.1)
 
 -- the FRN of the reference
 named : (c : tie.After-known-told) → NamedAt c.before.before.before.before.before.before.before.before.args.reference 1 (places (opening c.before.before.before.before).category) c.before.named.given.0.0
 named c =
-    frn-some _ 1 (places (opening c.before.before.before.before).category) _
-    (ap (λ z. frnAs c.before.before.before.before.before.before.before.before.args.reference 1 (flatten z)) (profile-at c.before.before.before.before.before.before.open_block.result.profile) ∙ sym c.before.before.before.frn-of.ensures ∙ ap frnOf c.before.named.given.1)
+    frn_some _ 1 (places (opening c.before.before.before.before).category) _
+    (ap (λ z. frn_as c.before.before.before.before.before.before.before.before.args.reference 1 (flatten z)) (profile_at_lem c.before.before.before.before.before.before.open_block.result.profile) ∙ sym c.before.before.before.frn-of.ensures ∙ ap frn_of c.before.named.given.1)
 
 -- the record that was sought
 sought : (c : tie.After-known-told2)
-    → LocatedAt (seekAt (opening c.before.before.before.before.before.before.before.before.before).category 3 (drop 3 c.before.before.before.before.before.before.before.before.before.before.before.before.before.args.block.now) c.before.before.before.before.before.before.before.before.before.before.before.before.before.args.n) c.before.before.before.seek-record.result c.before.answer.given.0.0 c.before.answer.given.0.1.0
+    → LocatedAt (seek_at (opening c.before.before.before.before.before.before.before.before.before).category 3 (drop 3 c.before.before.before.before.before.before.before.before.before.before.before.before.before.args.block.now) c.before.before.before.before.before.before.before.before.before.before.before.before.before.args.n) c.before.before.before.seek-record.result c.before.answer.given.0.0 c.before.answer.given.0.1.0
 sought c =
     located _ c.before.before.before.seek-record.result _ _
-    (subst (λ z. Located c.before.before.before.seek-record.result (seekAt (opening c.before.before.before.before.before.before.before.before.before).category 3 z c.before.before.before.before.before.before.before.before.before.before.before.before.before.args.n)) (to_end c.before.before.before.before.before.before.before.before.before.before.before.before.before.args.block.now 3) c.before.before.before.seek-record.ensures) c.before.answer.given.1
+    (subst (λ z. Located c.before.before.before.seek-record.result (seek_at (opening c.before.before.before.before.before.before.before.before.before).category 3 z c.before.before.before.before.before.before.before.before.before.before.before.before.before.args.n)) (to_end c.before.before.before.before.before.before.before.before.before.before.before.before.before.args.block.now 3) c.before.before.before.seek-record.ensures) c.before.answer.given.1
 
 -- the item that the map has
 there : (c : tie.Else1)
     → ThereAt c.before.before.before.before.before.before.before.before.before.before.before.before.before.before.before.before.args.block.now c.before.before.before.before.before.before.before.before.before.before.before.before.before.before.before.before.args.reference c.before.before.before.before.before.before.before.before.before.before.before.before.before.before.before.before.args.n c.before.before.before.before.before.before.before.before.before.before.before.before.before.before.open_block.result.profile c.before.before.before.before.before.before.before.before.before.before.before.before.enum_told.given.0.0 (is_open c.before.before.before.before.before.before.before.before.before.before.before.before) c.before.before.before.before.before.before.before.before.before.named.given.0.0
     (get_or c.before.before.before.before.before.before.seek-record.result.map.starts (c.before.before.before.before.before.before.before.before.before.named.given.0.0 - 1) 0)
 there c =
-    there-at _ _ _ _ _ (is_open c.before.before.before.before.before.before.before.before.before.before.before.before) _ (sought c.before.before.before).map _ (named c.before.before.before.before.before.before.before.before) (sought c.before.before.before).found (ap (λ z. z.starts) (sought c.before.before.before).map_is) c.if1.false
+    there_at _ _ _ _ _ (is_open c.before.before.before.before.before.before.before.before.before.before.before.before) _ (sought c.before.before.before).map _ (named c.before.before.before.before.before.before.before.before) (sought c.before.before.before).found (ap (λ z. z.starts) (sought c.before.before.before).map_is) c.if1.false
 
 -- what its check answers
-checked : (c : tie.Else1) → checkAt c.before.before.before.before.before.before.before.before.before.before.before.before.before.before.open_block.result.profile c.before.before.before.before.before.before.before.before.before.named.given.0.0 (take (length c.before.before.before.before.before.before.before.before.before.before.before.before.before.before.before.before.args.block.now - get_or c.before.before.before.before.before.before.seek-record.result.map.starts (c.before.before.before.before.before.before.before.before.before.named.given.0.0 - 1) 0) (drop (get_or c.before.before.before.before.before.before.seek-record.result.map.starts (c.before.before.before.before.before.before.before.before.before.named.given.0.0 - 1) 0) c.before.before.before.before.before.before.before.before.before.before.before.before.before.before.before.before.args.block.now)) ≡ ok (there c).item.size
-checked c = ap (checkAt c.before.before.before.before.before.before.before.before.before.before.before.before.before.before.open_block.result.profile c.before.before.before.before.before.before.before.before.before.named.given.0.0) (to_end c.before.before.before.before.before.before.before.before.before.before.before.before.before.before.before.before.args.block.now _) ∙ (there c).check
+checked : (c : tie.Else1) → check_at c.before.before.before.before.before.before.before.before.before.before.before.before.before.before.open_block.result.profile c.before.before.before.before.before.before.before.before.before.named.given.0.0 (take (length c.before.before.before.before.before.before.before.before.before.before.before.before.before.before.before.before.args.block.now - get_or c.before.before.before.before.before.before.seek-record.result.map.starts (c.before.before.before.before.before.before.before.before.before.named.given.0.0 - 1) 0) (drop (get_or c.before.before.before.before.before.before.seek-record.result.map.starts (c.before.before.before.before.before.before.before.before.before.named.given.0.0 - 1) 0) c.before.before.before.before.before.before.before.before.before.before.before.before.before.before.before.before.args.block.now)) ≡ ok (there c).item.size
+checked c = ap (check_at c.before.before.before.before.before.before.before.before.before.before.before.before.before.before.open_block.result.profile c.before.before.before.before.before.before.before.before.before.named.given.0.0) (to_end c.before.before.before.before.before.before.before.before.before.before.before.before.before.before.before.before.args.block.now _) ∙ (there c).check
 
 open-block-requires : tie.Need-open-block-requires
 open-block-requires c κs = search rules
@@ -72,9 +72,9 @@ place-requires c κs = search rules
 
 returns : tie.Need-returns
 returns c =
-    ap itemSpan
-    (ap₂ refused (c.before.number.ensures ∙ ap checkedNumber c.before.before.enum-told2.given.1) (c.place.ensures ∙ ap checkedPlace c.before.before.enum-told2.given.1)
-    ∙ sym (item_refused _ _ _ _ _ (sym c.before.before.before.before.open_block.ensures.0 ∙ ap (openedBy c.before.before.before.before.open_block.result.profile) c.before.before.enum-told2.given.1)))
+    ap item_span
+    (ap₂ refused (c.before.number.ensures ∙ ap checked_number c.before.before.enum-told2.given.1) (c.place.ensures ∙ ap checked_place c.before.before.enum-told2.given.1)
+    ∙ sym (item_refused _ _ _ _ _ (sym c.before.before.before.before.open_block.ensures.0 ∙ ap (opened_by c.before.before.before.before.open_block.result.profile) c.before.before.enum-told2.given.1)))
 
 frn-of-requires : tie.Need-frn-of-requires
 frn-of-requires c κs = search rules
@@ -87,10 +87,10 @@ enum-told-3 c = search rules
 
 returns-2 : tie.Need-returns-2
 returns-2 c =
-    ap itemSpan
-    (sym (item-unknown _ _ _ (opening c.before.before.before) (is_open c.before.before.before)
-    (frn-none _ 1 (places (opening c.before.before.before).category)
-    (ap (λ z. frnAs c.before.before.before.before.before.before.before.args.reference 1 (flatten z)) (profile-at c.before.before.before.before.before.open_block.result.profile) ∙ sym c.before.before.frn-of.ensures ∙ ap frnOf c.enum-told3.given.1))))
+    ap item_span
+    (sym (item_unknown _ _ _ (opening c.before.before.before) (is_open c.before.before.before)
+    (frn_none _ 1 (places (opening c.before.before.before).category)
+    (ap (λ z. frn_as c.before.before.before.before.before.before.before.args.reference 1 (flatten z)) (profile_at_lem c.before.before.before.before.before.open_block.result.profile) ∙ sym c.before.before.frn-of.ensures ∙ ap frn_of c.enum-told3.given.1))))
 
 sub-seek-record : tie.Need-overflow-sub-seek-record
 sub-seek-record c = omega (arith, (is_open c.before.before.before.before).room)
@@ -102,7 +102,7 @@ part-seek-record-end : tie.Need-slice-bounds-seek-record-end
 part-seek-record-end c = search rules
 
 seek-record-requires : tie.Need-seek-record-requires
-seek-record-requires c κs = (omega (arith, (is_open c.before.before.before.before.before).few, (is_open c.before.before.before.before.before).room, c.seek-record-arg.given.2), rw (to_end c.before.before.before.before.before.before.before.before.before.args.block.now 3) (opens-records (is_open c.before.before.before.before.before)), c.before.before.before.before.before.before.before.before.before.requires)
+seek-record-requires c κs = (omega (arith, (is_open c.before.before.before.before.before).few, (is_open c.before.before.before.before.before).room, c.seek-record-arg.given.2), rw (to_end c.before.before.before.before.before.before.before.before.before.args.block.now 3) (opens_records (is_open c.before.before.before.before.before)), c.before.before.before.before.before.before.before.before.before.requires)
 
 enum-known-answer : tie.Need-enum-known-answer
 enum-known-answer c = search rules
@@ -112,13 +112,13 @@ enum-told-4 c = search rules
 
 returns-3 : tie.Need-returns-3
 returns-3 c =
-    ap itemSpan
-    (sym (no-record-at _ _ _ _ _ (is_open c.before.before.before.before.before.before.before.before) _ _ _ (named c.before.before.before.before)
+    ap item_span
+    (sym (no_record_at _ _ _ _ _ (is_open c.before.before.before.before.before.before.before.before) _ _ _ (named c.before.before.before.before)
     (lost _ c.before.before.seek-record.result _ _
-    (subst (λ z. Located c.before.before.seek-record.result (seekAt (opening c.before.before.before.before.before.before.before.before).category 3 z c.before.before.before.before.before.before.before.before.before.before.before.before.args.n)) (to_end c.before.before.before.before.before.before.before.before.before.before.before.before.args.block.now 3) c.before.before.seek-record.ensures) c.enum-told4.given.1)))
+    (subst (λ z. Located c.before.before.seek-record.result (seek_at (opening c.before.before.before.before.before.before.before.before).category 3 z c.before.before.before.before.before.before.before.before.before.before.before.before.args.n)) (to_end c.before.before.before.before.before.before.before.before.before.before.before.before.args.block.now 3) c.before.before.seek-record.ensures) c.enum-told4.given.1)))
 
 sub-first : tie.Need-overflow-sub-first
-sub-first c = omega (arith, (named c.before.before.before.before.before.before).frn-is)
+sub-first c = omega (arith, (named c.before.before.before.before.before.before).frn_is)
 
 mul-first : tie.Need-overflow-mul-first
 mul-first c = record { fits = omega (arith, index_in _ _ c.before.before.before.before.before.before.before.before.before.before.before.before.before.before.args.n _ _ (is_open c.before.before.before.before.before.before.before.before.before.before) _ (named c.before.before.before.before.before.before)) }
@@ -129,7 +129,7 @@ element-copy-out-first c = index_in _ _ c.before.before.before.before.before.bef
 returns-4 : tie.Need-returns-4
 returns-4 c =
     ap (refused 20) (sym (sought c.before.before.before).start_is)
-    ∙ ap itemSpan (sym (absent-at _ _ _ _ _ (is_open c.before.before.before.before.before.before.before.before.before.before.before.before) _ (sought c.before.before.before).map _ (named c.before.before.before.before.before.before.before.before) (sought c.before.before.before).found (ap (λ z. z.starts) (sought c.before.before.before).map_is) c.if1.true))
+    ∙ ap item_span (sym (absent_at_lem _ _ _ _ _ (is_open c.before.before.before.before.before.before.before.before.before.before.before.before) _ (sought c.before.before.before).map _ (named c.before.before.before.before.before.before.before.before) (sought c.before.before.before).found (ap (λ z. z.starts) (sought c.before.before.before).map_is) c.if1.true))
 
 cast-at : tie.Need-overflow-cast-at
 cast-at c = record { fits = omega (arith, (there c).start_is, (there c).inside, (is_open c.before.before.before.before.before.before.before.before.before.before.before.before).few) }
@@ -153,12 +153,12 @@ enum-told-5 : tie.Need-enum-told-5
 enum-told-5 c = search rules
 
 returns-5 : tie.Need-returns-5
-returns-5 c = refused-ok (ap checkedOf (sym c.enum-told5.given.1) ∙ c.before.before.check-item.ensures ∙ checked c.before.before.before.before)
+returns-5 c = refused_ok (ap checked_of (sym c.enum-told5.given.1) ∙ c.before.before.check-item.ensures ∙ checked c.before.before.before.before)
 
 returns-6 : tie.Need-returns-6
 returns-6 c =
-    ap₂ (λ x y. ok (x, y)) (there c.before.before.before.before.before).start_is (ok-inj (ap checkedOf (sym c.before.item.given.1) ∙ c.before.before.before.check-item.ensures ∙ checked c.before.before.before.before.before))
-    ∙ ap itemSpan (sym (there c.before.before.before.before.before).found)
+    ap₂ (λ x y. ok (x, y)) (there c.before.before.before.before.before).start_is (ok_inj (ap checked_of (sym c.before.item.given.1) ∙ c.before.before.before.check-item.ensures ∙ checked c.before.before.before.before.before))
+    ∙ ap item_span (sym (there c.before.before.before.before.before).found)
 
 pub locate-item-by-spec : {M : Type 1} → statement M
 locate-item-by-spec =

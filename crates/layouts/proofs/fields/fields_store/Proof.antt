@@ -4,7 +4,7 @@ use mathlib.Core.Path.{refl, ◌∙◌}
 use native.Mathlib.Omega.{arith}
 use mir.Syntax.{w64}
 use mir.ValLaws.{to_z-of_z}
-use Rattle.layouts.proofs.StoreLaws.{Storing, stored, stored-all}
+use Rattle.layouts.proofs.StoreLaws.{Storing, stored, stored_all}
 use Rattle.layouts.proofs.Turns.{Cut, cut}
 use Rattle.layouts.proofs.fields.fields_store.Statement.{statement}
 use Rattle.layouts.proofs.fields.fields_store.Tie as tie
@@ -58,7 +58,7 @@ loop-again c =
     (to_z-of_z w64 _ (record { sfits = c.before.before.before.value_of.type-inv }) ∙ c.before.before.before.value_of.ensures) c.before.put.ensures c.pow2.ensures
 
 returns : tie.Need-returns invariant-loop decreases-loop
-returns c = stored-all _ _ _ _ _ _ _ _ _ _ c.before.loop.invariant c.loop-test.false c.before.before.requires.0.0
+returns c = stored_all _ _ _ _ _ _ _ _ _ _ c.before.loop.invariant c.loop-test.false c.before.before.requires.0.0
 
 pub fields-store-spec : {M : Type 1} → statement M
 fields-store-spec =

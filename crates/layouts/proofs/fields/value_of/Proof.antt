@@ -7,7 +7,7 @@ use mir.ValLaws.{to_z-of_z}
 use lib.Pow.{pow_pos}
 use lib.IntN.{negsuc}
 use borrow.Author.Tests.{eq-eqb, ne_eqb}
-use Rattle.layouts.proofs.FieldCodes.{below63, value-plain, value_low, value-high}
+use Rattle.layouts.proofs.FieldCodes.{below63, value_plain, value_low, value_high}
 use borrow.Author.Rules.{rules}
 use Rattle.layouts.proofs.fields.value_of.Statement.{statement}
 use Rattle.layouts.proofs.fields.value_of.Tie as tie
@@ -20,7 +20,7 @@ up-requires c κs =
 returns : tie.Need-returns
 returns c =
     let s = c.before.before.before in
-    to_z-of_z w64 _ (record { sfits = c.up.type-inv }) ∙ c.up.ensures ∙ sym (value-plain s.args.f s.args.code (ne_eqb _ 1 c.before.if1.true))
+    to_z-of_z w64 _ (record { sfits = c.up.type-inv }) ∙ c.up.ensures ∙ sym (value_plain s.args.f s.args.code (ne_eqb _ 1 c.before.if1.true))
 
 sub-pow2 : tie.Need-overflow-sub-pow2
 sub-pow2 c = search rules
@@ -57,7 +57,7 @@ returns-3 : tie.Need-returns-3
 returns-3 c =
     let s = c.before.before.before.before.before.before in
     to_z-of_z w64 _ (record { sfits = c.down.type-inv }) ∙ c.down.ensures ∙ ap negsuc (omega (arith, c.before.pow22.ensures))
-    ∙ sym (value-high s.args.f s.args.code (eq-eqb _ 1 c.before.before.before.before.if1.false) (omega (arith, c.before.before.if2.false, c.before.before.before.pow2.ensures)))
+    ∙ sym (value_high s.args.f s.args.code (eq-eqb _ 1 c.before.before.before.before.if1.false) (omega (arith, c.before.before.if2.false, c.before.before.before.pow2.ensures)))
 
 pub value-of-spec : {M : Type 1} → statement M
 value-of-spec =

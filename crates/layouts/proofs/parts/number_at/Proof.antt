@@ -1,7 +1,7 @@
 -- `layouts::parts::number_at` meets its contract: what was gathered is the number of the octets passed. Assumes nothing.
 use Prim.Native.Nat.{◌-◌}
 use native.Mathlib.Omega.{arith}
-use Rattle.layouts.proofs.OctetLaws.{Gathering, begun, gathered, more-fits, times-fits, all_read}
+use Rattle.layouts.proofs.OctetLaws.{Gathering, begun, gathered, more_fits, times_fits, all_read}
 use Rattle.layouts.proofs.parts.number_at.Statement.{statement}
 use Rattle.layouts.proofs.parts.number_at.Tie as tie
 
@@ -15,7 +15,7 @@ loop-holds : tie.Need-loop-init invariant-loop decreases-loop
 loop-holds c = begun _ _ _
 
 mul-n : tie.Need-overflow-mul-n invariant-loop decreases-loop
-mul-n c = record { fits = times-fits _ _ c.before.loop.invariant.small (omega (arith, c.before.before.before.requires.0)) }
+mul-n c = record { fits = times_fits _ _ c.before.loop.invariant.small (omega (arith, c.before.before.before.requires.0)) }
 
 add_wide : tie.Need-overflow-add-wide invariant-loop decreases-loop
 add_wide c = omega arith
@@ -27,7 +27,7 @@ wide-requires : tie.Need-wide-requires invariant-loop decreases-loop
 wide-requires c κs = tt
 
 add-n : tie.Need-overflow-add-n invariant-loop decreases-loop
-add-n c = record { fits = more-fits _ _ _ (omega arith) c.before.before.before.loop.invariant.small c.wide.ensures.1 }
+add-n c = record { fits = more_fits _ _ _ (omega arith) c.before.before.before.loop.invariant.small c.wide.ensures.1 }
 
 add-i : tie.Need-overflow-add-i invariant-loop decreases-loop
 add-i c = omega arith

@@ -6,9 +6,9 @@ use lib.ListN.{length, drop, take}
 use lib.Seq.{sets}
 use Rattle.rules.specs.Chain.{joined}
 use Rattle.tables.specs.declared.tables.GroupRow.{GroupRow}
-use Rattle.tables.specs.Tables.{groupAt}
+use Rattle.tables.specs.Tables.{group_at}
 use Rattle.layouts.specs.Read.{rows, count, values}
-use Rattle.layouts.proofs.PartLaws.{PartSound, part_sound, one-part}
+use Rattle.layouts.proofs.PartLaws.{PartSound, part_sound_lem, one_part}
 use borrow.Author.Rules.{rules}
 use Rattle.layouts.proofs.parts.part_store.Statement.{statement}
 use Rattle.layouts.proofs.parts.part_store.Tie as tie
@@ -17,7 +17,7 @@ use Rattle.layouts.proofs.parts.part_store.Tie as tie
 sound-at : (c : tie.After-group-at) → PartSound c.before.before.args.step c.group_at.result
 sound-at c =
     let s = c.before.before in
-    subst (PartSound s.args.step) (sym c.group_at.ensures) (part_sound s.args.step (groupAt s.args.group) s.requires.0.2)
+    subst (PartSound s.args.step) (sym c.group_at.ensures) (part_sound_lem s.args.step (group_at s.args.group) s.requires.0.2)
 
 group-at-requires : tie.Need-group-at-requires
 group-at-requires c κs = search rules
@@ -40,7 +40,7 @@ fields-store-requires : tie.Need-fields-store-requires
 fields-store-requires c κs =
     let s = c.before.before.before.before in
     let r = c.before.before.group_at in
-    let o = one-part s.args.step r.result c.before.number_at.result (sound-at c.before.before) c.before.number_at.ensures.1 in
+    let o = one_part s.args.step r.result c.before.number_at.result (sound-at c.before.before) c.before.number_at.ensures.1 in
     (((sound-at c.before.before).inside, o.wide), ((omega (arith, o.few), o.small), subst (λ (x : GroupRow). s.args.q + count (rows x.first x.end) ≤ 8_192) (sym r.ensures) s.requires.1))
 
 returns : tie.Need-returns

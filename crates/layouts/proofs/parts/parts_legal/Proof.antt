@@ -2,8 +2,8 @@
 use mathlib.Core.Path.{refl}
 use native.Mathlib.Omega.{arith}
 use borrow.Author.Tests.{not-true, not-false}
-use Rattle.tables.proofs.TableLaws.{groups-few}
-use Rattle.layouts.proofs.PartLaws.{CheckParts, First, first_part, part-bad, part-good, parts-good}
+use Rattle.tables.proofs.TableLaws.{groups_few}
+use Rattle.layouts.proofs.PartLaws.{CheckParts, First, first_part, part_bad, part_good, parts_good}
 use Rattle.layouts.proofs.parts.parts_legal.Statement.{statement}
 use Rattle.layouts.proofs.parts.parts_legal.Tie as tie
 
@@ -26,7 +26,7 @@ part-legal-requires c κs =
     (c.before.before.before.requires.0, f.inside, f.sound, omega (arith, f.spans, c.before.loop.invariant.place, c.before.before.before.requires.2))
 
 returns : tie.Need-returns invariant-loop decreases-loop
-returns c = part-bad _ _ _ _ _ _ _ _ c.before.before.before.loop.invariant c.before.before.loop-test.true c.before.part-legal.ensures (not-true _ c.if1.true)
+returns c = part_bad _ _ _ _ _ _ _ _ c.before.before.before.loop.invariant c.before.before.loop-test.true c.before.part-legal.ensures (not-true _ c.if1.true)
 
 size-at-requires : tie.Need-size-at-requires invariant-loop decreases-loop
 size-at-requires c κs = (first_of c.before.before).inside
@@ -37,7 +37,7 @@ add-p c =
     omega (arith, c.size-at.ensures, (first_of c.before.before.before).spans, c.before.before.before.before.loop.invariant.place, s.requires.2, s.well-formed.0.0)
 
 add-g : tie.Need-overflow-add-g invariant-loop decreases-loop
-add-g c = omega (arith, groups-few, (first_of c.before.before.before).inside, c.before.before.before.before.before.before.requires.0)
+add-g c = omega (arith, groups_few, (first_of c.before.before.before).inside, c.before.before.before.before.before.before.requires.0)
 
 sub-k : tie.Need-overflow-sub-k invariant-loop decreases-loop
 sub-k c = omega arith
@@ -47,10 +47,10 @@ loop-less c = omega arith
 
 loop-again : tie.Need-loop-preserved invariant-loop decreases-loop
 loop-again c =
-    part-good _ _ _ _ _ _ _ _ c.before.before.before.before.loop.invariant c.before.before.before.loop-test.true c.before.before.part-legal.ensures (not-false _ c.before.if1.false) c.size-at.ensures
+    part_good _ _ _ _ _ _ _ _ c.before.before.before.before.loop.invariant c.before.before.before.loop-test.true c.before.before.part-legal.ensures (not-false _ c.before.if1.false) c.size-at.ensures
 
 returns-2 : tie.Need-returns-2 invariant-loop decreases-loop
-returns-2 c = parts-good _ _ _ _ _ _ _ _ c.before.loop.invariant c.loop-test.false
+returns-2 c = parts_good _ _ _ _ _ _ _ _ c.before.loop.invariant c.loop-test.false
 
 pub parts-legal-spec : {M : Type 1} → statement M
 parts-legal-spec =

@@ -2,10 +2,10 @@
 use mathlib.Core.Path.{◌≡◌, ap}
 use native.Mathlib.Omega.{arith}
 use Rattle.tables.specs.declared.tables.GroupRow.{GroupRow}
-use Rattle.tables.specs.Tables.{groupAt}
-use Rattle.tables.proofs.TableLaws.{groups-few}
+use Rattle.tables.specs.Tables.{group_at}
+use Rattle.tables.proofs.TableLaws.{groups_few}
 use Rattle.layouts.proofs.PartLaws.{First, first_part}
-use Rattle.layouts.proofs.StoreLaws.{StoreParts, store-begun, holds-cons, part-stored, parts-stored}
+use Rattle.layouts.proofs.StoreLaws.{StoreParts, store_begun, holds_cons, part_stored, parts_stored}
 use Rattle.layouts.proofs.parts.parts_store.Statement.{statement}
 use Rattle.layouts.proofs.parts.parts_store.Tie as tie
 
@@ -20,7 +20,7 @@ first_of : (c : tie.In-loop invariant-loop decreases-loop)
 first_of c = first_part _ _ _ _ _ c.loop-test.true c.before.loop.invariant.sound
 
 loop-holds : tie.Need-loop-init invariant-loop decreases-loop
-loop-holds c = store-begun _ _ _ _ _ _ _ c.before.requires.0.1
+loop-holds c = store_begun _ _ _ _ _ _ _ c.before.requires.0.1
 
 part-store-requires : tie.Need-part-store-requires invariant-loop decreases-loop
 part-store-requires c κs =
@@ -28,7 +28,7 @@ part-store-requires c κs =
     let l = c.before.before.loop in
     let f = first_of c.before in (
       (s.requires.0.0, f.inside, f.sound, omega (arith, f.spans, l.invariant.place, s.requires.0.2)),
-      omega (arith, holds-cons s.args.step l.g l.k c.before.loop-test.true, l.invariant.room, s.requires.1),
+      omega (arith, holds_cons s.args.step l.g l.k c.before.loop-test.true, l.invariant.room, s.requires.1),
     )
 
 group-at-requires : tie.Need-group-at-requires invariant-loop decreases-loop
@@ -37,11 +37,11 @@ group-at-requires c κs = (first_of c.before.before).inside
 add-p : tie.Need-overflow-add-p invariant-loop decreases-loop
 add-p c =
     let s = c.before.before.before.before.before.before.before in
-    let e : c.before.group_at.result.octets ≡ (groupAt c.before.before.before.before.before.loop.g).octets = ap (λ (r : GroupRow). r.octets) c.before.group_at.ensures in
+    let e : c.before.group_at.result.octets ≡ (group_at c.before.before.before.before.before.loop.g).octets = ap (λ (r : GroupRow). r.octets) c.before.group_at.ensures in
     omega (arith, (first_of c.before.before.before.before).spans, c.before.before.before.before.before.loop.invariant.place, s.requires.0.2, s.well-formed.0.0)
 
 add-g : tie.Need-overflow-add-g invariant-loop decreases-loop
-add-g c = omega (arith, groups-few, (first_of c.before.before.before.before).inside, c.before.before.before.before.before.before.before.requires.0.0)
+add-g c = omega (arith, groups_few, (first_of c.before.before.before.before).inside, c.before.before.before.before.before.before.before.requires.0.0)
 
 sub-k : tie.Need-overflow-sub-k invariant-loop decreases-loop
 sub-k c = omega arith
@@ -50,10 +50,10 @@ loop-less : tie.Need-loop-smaller invariant-loop decreases-loop
 loop-less c = omega arith
 
 loop-again : tie.Need-loop-preserved invariant-loop decreases-loop
-loop-again c = part-stored _ _ _ _ _ _ _ _ _ _ _ _ _ _ c.before.before.before.before.before.loop.invariant c.before.before.before.before.loop-test.true c.before.group_at.ensures c.before.before.part-store.ensures
+loop-again c = part_stored _ _ _ _ _ _ _ _ _ _ _ _ _ _ c.before.before.before.before.before.loop.invariant c.before.before.before.before.loop-test.true c.before.group_at.ensures c.before.before.part-store.ensures
 
 returns : tie.Need-returns invariant-loop decreases-loop
-returns c = parts-stored _ _ _ _ _ _ _ _ _ _ _ _ c.before.loop.invariant c.loop-test.false
+returns c = parts_stored _ _ _ _ _ _ _ _ _ _ _ _ c.before.loop.invariant c.loop-test.false
 
 pub parts-store-spec : {M : Type 1} → statement M
 parts-store-spec =

@@ -3,9 +3,9 @@ use Prim.Native.Nat.{◌^◌, ◌≤◌, ◌<◌}
 use native.Mathlib.Omega.{arith}
 use lib.ListN.{length}
 use mathlib.Core.Path.{sym, ap, ◌∙◌}
-use Rattle.sets.specs.Answers.{setOf}
-use Rattle.sets.proofs.UsableLaws.{set-bounds}
-use Rattle.measuring.proofs.EndLaws.{measure-no-set, measure-items}
+use Rattle.sets.specs.Answers.{set_of}
+use Rattle.sets.proofs.UsableLaws.{set_bounds}
+use Rattle.measuring.proofs.EndLaws.{measure_no_set, measure_items}
 use borrow.Author.Rules.{rules}
 use Rattle.measuring.proofs.record.measure.Statement.{statement}
 use Rattle.measuring.proofs.record.measure.Tie as tie
@@ -26,11 +26,11 @@ untimed-requires : tie.Need-untimed-requires
 untimed-requires c κs = search rules
 
 returns : tie.Need-returns
-returns c = c.untimed.ensures ∙ measure-no-set _ _ _ c.before.before.before.before.profile-of.ensures c.before.before.before.from-octets.ensures _ c.before.enum_told.given.1
+returns c = c.untimed.ensures ∙ measure_no_set _ _ _ c.before.before.before.before.profile-of.ensures c.before.before.before.from-octets.ensures _ c.before.enum_told.given.1
 
 -- the set has no FRN above 63, and its octets are the record's
 bounds : (c : tie.After-known-told) → (c.before.set.given.0.0.bits < 2 ^ 63) × (c.before.set.given.0.1.0 ≤ length c.before.before.before.before.before.before.args.part.now)
-bounds c = set-bounds _ _ _ _ (sym c.before.before.before.from-octets.ensures ∙ ap setOf c.before.set.given.1)
+bounds c = set_bounds _ _ _ _ (sym c.before.before.before.from-octets.ensures ∙ ap set_of c.before.set.given.1)
 
 steps-requires : tie.Need-steps-requires
 steps-requires c κs = search rules
@@ -39,7 +39,7 @@ measure-set-requires : tie.Need-measure-set-requires
 measure-set-requires c κs = ((bounds c.before.before).0, omega (arith, (bounds c.before.before).1), c.before.steps.ensures.1)
 
 returns-2 : tie.Need-returns-2
-returns-2 c = c.measure-set.ensures ∙ measure-items _ _ _ c.before.before.before.before.before.before.before.profile-of.ensures c.before.before.before.before.before.before.from-octets.ensures _ _ c.before.before.before.before.set.given.1
+returns-2 c = c.measure-set.ensures ∙ measure_items _ _ _ c.before.before.before.before.before.before.before.profile-of.ensures c.before.before.before.before.before.before.from-octets.ensures _ _ c.before.before.before.before.set.given.1
 
 pub measure-spec : {M : Type 1} → statement M
 measure-spec =

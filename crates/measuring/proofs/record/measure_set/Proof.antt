@@ -4,23 +4,23 @@ use mathlib.Core.Path.{◌≡◌, sym, subst, ◌∙◌}
 use native.Mathlib.Omega.{arith}
 use lib.ListN.{length}
 use borrow.Author.Rules.{rules}
-use Rattle.sets.proofs.SetLaws.{octets-all}
+use Rattle.sets.proofs.SetLaws.{octets_all}
 use Rattle.measuring.specs.Measure.{start_of, end_of}
-use Rattle.measuring.proofs.CategoryLaws.{time-few, frn-some}
-use Rattle.measuring.proofs.EndLaws.{end-far, early-few, time-absent, time-none, time-there, starts, ends, measure-past, measure-there}
+use Rattle.measuring.proofs.CategoryLaws.{time_few, frn_some}
+use Rattle.measuring.proofs.EndLaws.{end_far, early_few, time_absent, time_none, time_there, starts, ends, measure_past, measure_there}
 use Rattle.measuring.proofs.record.measure_set.Statement.{statement}
 use Rattle.measuring.proofs.record.measure_set.Tie as tie
-use Rattle.rules.specs.Entry.{mapPlaces}
+use Rattle.rules.specs.Entry.{map_places}
 
 time-frn-requires : tie.Need-time-frn-requires
 time-frn-requires c κs = search rules
 
 -- the FRN of the time; where the set has it, it is one
-few : (c : tie.After-time-frn) → c.time-frn.result ≤ mapPlaces
-few c = omega (arith, time-few c.before.before.args.profile, c.time-frn.ensures)
+few : (c : tie.After-time-frn) → c.time-frn.result ≤ map_places
+few c = omega (arith, time_few c.before.before.args.profile, c.time-frn.ensures)
 
 some : (c : tie.Else1) → 1 ≤ c.before.time-frn.result
-some c = frn-some _ c.before.before.before.args.bits c.before.before.before.requires.0 c.if1.false
+some c = frn_some _ c.before.before.before.args.bits c.before.before.before.requires.0 c.if1.false
 
 sub-if1 : tie.Need-overflow-sub-if1
 sub-if1 c = omega (arith, few c)
@@ -29,7 +29,7 @@ shr-if1 : tie.Need-overflow-shr-if1
 shr-if1 c = search rules
 
 measure-untimed-requires : tie.Need-measure-untimed-requires
-measure-untimed-requires c κs = (c.before.before.before.requires.0, c.before.before.before.requires.1, time-absent _ c.before.before.before.args.part.now _ _ c.before.time-frn.ensures c.if1.true, c.before.before.before.requires.2)
+measure-untimed-requires c κs = (c.before.before.before.requires.0, c.before.before.before.requires.1, time_absent _ c.before.before.before.args.part.now _ _ c.before.time-frn.ensures c.if1.true, c.before.before.before.requires.2)
 
 returns : tie.Need-returns
 returns c = search rules
@@ -39,7 +39,7 @@ is-untimed-requires c κs = search rules
 
 measure-untimed-requires-2 : tie.Need-measure-untimed-requires-2
 measure-untimed-requires-2 c κs =
-    (c.before.before.before.before.before.requires.0, c.before.before.before.before.before.requires.1, time-none _ c.before.before.before.before.before.args.part.now _ _ c.before.before.before.time-frn.ensures c.before.before.if1.false c.before.is-untimed.ensures c.if2.true, c.before.before.before.before.before.requires.2)
+    (c.before.before.before.before.before.requires.0, c.before.before.before.before.before.requires.1, time_none _ c.before.before.before.before.before.args.part.now _ _ c.before.before.before.time-frn.ensures c.before.before.if1.false c.before.is-untimed.ensures c.if2.true, c.before.before.before.before.before.requires.2)
 
 returns-2 : tie.Need-returns-2
 returns-2 c = search rules
@@ -48,17 +48,17 @@ before-requires : tie.Need-before-requires
 before-requires c κs = (some c.before.before, omega (arith, few c.before.before.before))
 
 items-from-requires : tie.Need-items-from-requires
-items-from-requires c κs = (omega (arith, early-few _ _ c.before2.ensures, c.before.before.before.before.before.before.requires.0), omega (arith, c.before.before.before.before.before.before.requires.1), c.before.before.before.before.before.before.requires.2)
+items-from-requires c κs = (omega (arith, early_few _ _ c.before2.ensures, c.before.before.before.before.before.before.requires.0), omega (arith, c.before.before.before.before.before.before.requires.1), c.before.before.before.before.before.before.requires.2)
 
 sub-items-from : tie.Need-overflow-sub-items-from
-sub-items-from c = early-few _ _ c.before.before2.ensures
+sub-items-from c = early_few _ _ c.before.before2.ensures
 
 -- the time stands not far from the record's start
 near : (c : tie.After-items-from)
     → c.items-from.result ≤ max c.before.before.before.before.before.before.before.args.from (length c.before.before.before.before.before.before.before.args.part.now) + 4_096_638
 near c =
     subst (λ x. x ≤ max c.before.before.before.before.before.before.before.args.from (length c.before.before.before.before.before.before.before.args.part.now) + 4_096_638) (sym c.items-from.ensures)
-    (end-far _ c.before.before.before.before.before.before.before.args.part.now (octets-all c.before.before.before.before.before.before.before.args.part.now c.before.before.before.before.before.before.shared-slice-known.given) _ _)
+    (end_far _ c.before.before.before.before.before.before.before.args.part.now (octets_all c.before.before.before.before.before.before.before.args.part.now c.before.before.before.before.before.before.shared-slice-known.given) _ _)
 
 start_is : (c : tie.After-items-from) → c.items-from.result ≡ start_of c.before.before.before.before.before.before.before.args.profile c.before.before.before.before.before.time-frn.result c.before.before.before.before.before.before.before.args.bits c.before.before.before.before.before.before.before.args.part.now c.before.before.before.before.before.before.before.args.from
 start_is c = starts _ c.before.before.before.before.before.before.before.args.part.now _ _ _ c.before.before2.ensures c.items-from.ensures
@@ -74,7 +74,7 @@ untimed-requires : tie.Need-untimed-requires
 untimed-requires c κs = search rules
 
 returns-3 : tie.Need-returns-3
-returns-3 c = c.untimed.ensures ∙ measure-past _ c.before.before.before.before.before.before.before.before.before.before.args.part.now _ _ (end_is c.before.before) c.before.if3.true
+returns-3 c = c.untimed.ensures ∙ measure_past _ c.before.before.before.before.before.before.before.before.before.before.args.part.now _ _ (end_is c.before.before) c.before.if3.true
 
 timed-requires : tie.Need-timed-requires
 timed-requires c κs = omega (arith, near c.before.before, c.before.before.before.before.before.before.before.before.before.requires.1)
@@ -82,8 +82,8 @@ timed-requires c κs = omega (arith, near c.before.before, c.before.before.befor
 returns-4 : tie.Need-returns-4
 returns-4 c =
     c.timed.ensures
-    ∙ measure-there _ c.before.before.before.before.before.before.before.before.before.before.args.part.now _ _ (end_is c.before.before) _ c.before.if3.false
-    (time-there _ c.before.before.before.before.before.before.before.before.before.before.args.part.now _ _ c.before.before.before.before.before.before.before.before.time-frn.ensures c.before.before.before.before.before.before.before.if1.false c.before.before.before.before.before.before.is-untimed.ensures c.before.before.before.before.before.if2.false (start_is c.before.before.before))
+    ∙ measure_there _ c.before.before.before.before.before.before.before.before.before.before.args.part.now _ _ (end_is c.before.before) _ c.before.if3.false
+    (time_there _ c.before.before.before.before.before.before.before.before.before.before.args.part.now _ _ c.before.before.before.before.before.before.before.before.time-frn.ensures c.before.before.before.before.before.before.before.if1.false c.before.before.before.before.before.before.is-untimed.ensures c.before.before.before.before.before.if2.false (start_is c.before.before.before))
 
 pub measure-set-spec : {M : Type 1} → statement M
 measure-set-spec =

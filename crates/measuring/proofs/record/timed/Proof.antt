@@ -1,7 +1,7 @@
 -- `record::timed` meets its contract: three octets, the higher first. Assumes nothing.
 use mathlib.Core.Path.{ap, ◌∙◌}
 use Rattle.measuring.specs.Measure.{sized}
-use Rattle.measuring.proofs.EndLaws.{clock-past, clock-there}
+use Rattle.measuring.proofs.EndLaws.{clock_past, clock_there}
 use borrow.Author.Rules.{rules}
 use Rattle.measuring.proofs.record.timed.Statement.{statement}
 use Rattle.measuring.proofs.record.timed.Tie as tie
@@ -13,7 +13,7 @@ untimed-requires : tie.Need-untimed-requires
 untimed-requires c κs = search rules
 
 returns : tie.Need-returns
-returns c = c.untimed.ensures ∙ ap (sized _) (clock-past _ _ c.before.if1.true)
+returns c = c.untimed.ensures ∙ ap (sized _) (clock_past _ _ c.before.if1.true)
 
 shared-slice-read-wide : tie.Need-shared-slice-read-wide
 shared-slice-read-wide c = search rules
@@ -52,7 +52,7 @@ add-t19 : tie.Need-overflow-add-t19
 add-t19 c = search rules
 
 returns-2 : tie.Need-returns-2
-returns-2 c = clock-there _ _ _ c.before.before.before.before.before.before.if1.false c.before.before.before.before.wide.ensures.0 c.before.before.wide2.ensures.0 c.wide3.ensures.0
+returns-2 c = clock_there _ _ _ c.before.before.before.before.before.before.if1.false c.before.before.before.before.wide.ensures.0 c.before.before.wide2.ensures.0 c.wide3.ensures.0
 
 pub timed-spec : {M : Type 1} → statement M
 timed-spec =

@@ -1,5 +1,5 @@
 -- `measuring::shape::measure_by` meets its contract: what a shape tells is the measure. Assumes nothing.
-use Rattle.measuring.proofs.ShapeLaws.{told-measure}
+use Rattle.measuring.proofs.ShapeLaws.{told_measure}
 use borrow.Author.Rules.{rules}
 use Rattle.measuring.proofs.shape.measure_by.Statement.{statement}
 use Rattle.measuring.proofs.shape.measure_by.Tie as tie
@@ -11,7 +11,7 @@ measure-shape-requires : tie.Need-measure-shape-requires
 measure-shape-requires c κs = search rules
 
 returns : tie.Need-returns
-returns c = told-measure c.before.before.before.before.before.args.category _ c.before.before.before.before.before.args.part.now c.before.before.measure-shape.result c.before.before.before.profile-of.ensures c.before.before.measure-shape.ensures c.if1.true
+returns c = told_measure c.before.before.before.before.before.args.category _ c.before.before.before.before.before.args.part.now c.before.before.measure-shape.result c.before.before.before.profile-of.ensures c.before.before.measure-shape.ensures c.if1.true
 
 measure-requires : tie.Need-measure-requires
 measure-requires c κs = search rules

@@ -4,11 +4,11 @@ use mathlib.Core.Path.{◌≡◌, refl}
 use mathlib.Core.Option.{Option}
 use mathlib.Core.List.{List}
 use native.Mathlib.Omega.{arith}
-use Rattle.quick_records.specs.Shape.{usedOf}
+use Rattle.quick_records.specs.Shape.{used_of}
 use Rattle.measuring.specs.declared.record.Measured.{Measured}
 use Rattle.measuring.specs.Measure.{sized}
-use Rattle.measuring.specs.Shape.{untimedOf, kind_of, timeOf, base_of, part_of, Told}
-use Rattle.measuring.proofs.ShapeLaws.{parts-fit, timeBy, time-none, time-untimed, time-clock, told_none, shape-some, shape-few, shape-told}
+use Rattle.measuring.specs.Shape.{untimed_of, kind_of, time_of, base_of, part_of, Told}
+use Rattle.measuring.proofs.ShapeLaws.{parts_fit, time_by, time_none, time_untimed, time_clock, told_none, shape_some, shape_few, shape_told}
 use borrow.Author.Rules.{rules}
 use Rattle.measuring.proofs.shape.measure_shape.Statement.{statement}
 use Rattle.measuring.proofs.shape.measure_shape.Tie as tie
@@ -47,11 +47,11 @@ mul-up : tie.Need-overflow-mul-up
 mul-up c = search rules
 
 -- the octets of the shape's FSPEC
-some : (c : tie.Else2) → 0 < usedOf c.before.long.result
-some c = shape-some c.before.before.before.before.before.before.before.args.shapes.now c.before.before.before.before.before.before.before.requires _ _ _ c.before.before.before.slot_of.ensures c.before.long.ensures refl
+some : (c : tie.Else2) → 0 < used_of c.before.long.result
+some c = shape_some c.before.before.before.before.before.before.before.args.shapes.now c.before.before.before.before.before.before.before.requires _ _ _ c.before.before.before.slot_of.ensures c.before.long.ensures refl
 
-few : (c : tie.Else2) → usedOf c.before.long.result ≤ 5
-few c = shape-few c.before.before.before.before.before.before.before.args.shapes.now c.before.before.before.before.before.before.before.requires _ _ _ c.before.before.before.slot_of.ensures c.before.long.ensures refl
+few : (c : tie.Else2) → used_of c.before.long.result ≤ 5
+few c = shape_few c.before.before.before.before.before.before.before.args.shapes.now c.before.before.before.before.before.before.before.requires _ _ _ c.before.before.before.slot_of.ensures c.before.long.ensures refl
 
 sub-up : tie.Need-overflow-sub-up
 sub-up c = omega (arith, few c)
@@ -68,8 +68,8 @@ untimed-requires-3 c κs = search rules
 returns-3 : tie.Need-returns-3
 returns-3 c = told_none _ _ _ c.untimed3.ensures
 
-add-long : tie.Need-overflow-add-long
-add-long c = search rules
+add_long : tie.Need-overflow-add-long
+add_long c = search rules
 
 mul-long-2 : tie.Need-overflow-mul-long-2
 mul-long-2 c = search rules
@@ -93,10 +93,10 @@ octet-requires : tie.Need-octet-requires
 octet-requires c κs = search rules
 
 mul-size : tie.Need-overflow-mul-size
-mul-size c = record { fits = omega (arith, parts-fit c.octet.result c.before.before.before.long2.result c.octet.ensures.1) }
+mul-size c = record { fits = omega (arith, parts_fit c.octet.result c.before.before.before.long2.result c.octet.ensures.1) }
 
 add-size : tie.Need-overflow-add-size
-add-size c = record { fits = omega (arith, parts-fit c.octet.result c.before.before.before.long2.result c.octet.ensures.1) }
+add-size c = record { fits = omega (arith, parts_fit c.octet.result c.before.before.before.long2.result c.octet.ensures.1) }
 
 untimed-requires-5 : tie.Need-untimed-requires-5
 untimed-requires-5 c κs = search rules
@@ -115,17 +115,17 @@ module _ (c : tie.Else5) where
   abbrev octets : List ℕ
   octets = c.before.before.before.before.before.before.before.before.before.before.before.before.before.before.args.part.now
 
-  told : (t : Option ℕ) (r : Measured) → timeBy (timeOf row) (kind_of row) (untimedOf row) octets ≡ t → r ≡ sized (base_of row + c.before.octet.result * part_of row) t
+  told : (t : Option ℕ) (r : Measured) → time_by (time_of row) (kind_of row) (untimed_of row) octets ≡ t → r ≡ sized (base_of row + c.before.octet.result * part_of row) t
       → Told r profile octets
   told t r et er =
-      shape-told c.before.before.before.before.before.before.before.before.before.before.before.before.before.before.args.shapes.now c.before.before.before.before.before.before.before.before.before.before.before.before.before.before.requires _ _ _ c.before.before.before.before.before.before.before.before.before.before.slot_of.ensures c.before.before.before.before.before.before.before.before.long.ensures c.before.before.before.before.long2.ensures
+      shape_told c.before.before.before.before.before.before.before.before.before.before.before.before.before.before.args.shapes.now c.before.before.before.before.before.before.before.before.before.before.before.before.before.before.requires _ _ _ c.before.before.before.before.before.before.before.before.before.before.slot_of.ensures c.before.before.before.before.before.before.before.before.long.ensures c.before.before.before.before.long2.ensures
       _ _ _ t octets r c.before.before.before.before.before.before.before.before.before.before.before.before.before.shared-slice-known.given c.before.before.before.before.before.before.before.if2.false c.before.before.before.before.before.before.before.before.before.before.before.before.if1.false c.before.before.before.before.before.before.before.before.before.before.before.first-five.ensures c.before.before.before.before.before.before.if3.false c.before.octet.ensures.0 c.if5.false et er
 
 untimed-requires-6 : tie.Need-untimed-requires-6
 untimed-requires-6 c κs = search rules
 
 returns-6 : tie.Need-returns-6
-returns-6 c = told c.before.before _ _ (time-none (timeOf (row c.before.before)) (kind_of (row c.before.before)) (untimedOf (row c.before.before)) (octets c.before.before) c.before.if6.true) c.untimed6.ensures
+returns-6 c = told c.before.before _ _ (time_none (time_of (row c.before.before)) (kind_of (row c.before.before)) (untimed_of (row c.before.before)) (octets c.before.before) c.before.if6.true) c.untimed6.ensures
 
 octet-at-requires : tie.Need-octet-at-requires
 octet-at-requires c κs = search rules
@@ -138,14 +138,14 @@ untimed-requires-7 c κs = search rules
 
 returns-7 : tie.Need-returns-7
 returns-7 c =
-    told c.before.before.before.before _ _ (time-untimed (timeOf (row c.before.before.before.before)) (kind_of (row c.before.before.before.before)) (untimedOf (row c.before.before.before.before)) (octets c.before.before.before.before) c.before.before.before.if6.false c.before.before.octet-at.ensures.0 c.before.if7.true) c.untimed7.ensures
+    told c.before.before.before.before _ _ (time_untimed (time_of (row c.before.before.before.before)) (kind_of (row c.before.before.before.before)) (untimed_of (row c.before.before.before.before)) (octets c.before.before.before.before) c.before.before.before.if6.false c.before.before.octet-at.ensures.0 c.before.if7.true) c.untimed7.ensures
 
 timed-requires : tie.Need-timed-requires
 timed-requires c κs = search rules
 
 returns-8 : tie.Need-returns-8
 returns-8 c =
-    told c.before.before.before.before _ _ (time-clock (timeOf (row c.before.before.before.before)) (kind_of (row c.before.before.before.before)) (untimedOf (row c.before.before.before.before)) (octets c.before.before.before.before) c.before.before.before.if6.false c.before.before.octet-at.ensures.0 c.before.if7.false) c.timed.ensures
+    told c.before.before.before.before _ _ (time_clock (time_of (row c.before.before.before.before)) (kind_of (row c.before.before.before.before)) (untimed_of (row c.before.before.before.before)) (octets c.before.before.before.before) c.before.before.before.if6.false c.before.before.octet-at.ensures.0 c.before.if7.false) c.timed.ensures
 
 pub measure-shape-spec : {M : Type 1} → statement M
 measure-shape-spec =
@@ -167,7 +167,7 @@ measure-shape-spec =
     shl-if3-2
     untimed-requires-3
     returns-3
-    add-long
+    add_long
     mul-long-2
     element-copy-out-long-2
     long-requires-2

@@ -3,18 +3,18 @@ use mathlib.Core.Path.{refl}
 use Rattle.rules.specs.Answer.{need◌or◌then◌, if◌then◌else◌}
 use Rattle.rules.specs.Presence.{number, flags}
 use Rattle.rules.specs.Catalogue.{categories}
-use Rattle.sets.specs.Sets.{categoryAt, bits_of}
-use Rattle.sets.specs.Steps.{usableBits, ended, setFrom, typeFrn}
-use Rattle.tables.specs.Places.{frnAs}
-use Rattle.tables.specs.Profiles.{profileRowAt}
-use Rattle.tables.specs.Tables.{groups, layouts, groupAt, layoutAt, placeRowAt}
-use Rattle.quick_items.specs.Item.{octetsAt}
-use Rattle.measuring.specs.Shape.{soundRow, soundShapes}
+use Rattle.sets.specs.Sets.{category_at, bits_of}
+use Rattle.sets.specs.Steps.{usable_bits, ended, set_from, type_frn}
+use Rattle.tables.specs.Places.{frn_as}
+use Rattle.tables.specs.Profiles.{profile_row_at}
+use Rattle.tables.specs.Tables.{groups, layouts, group_at, layout_at, place_row_at}
+use Rattle.quick_items.specs.Item.{octets_at}
+use Rattle.measuring.specs.Shape.{sound_row, sound_shapes}
 use Rattle.measuring.proofs.shape.shapes.Statement.{statement}
 use Rattle.measuring.proofs.shape.shapes.Tie as tie
 
 returns : tie.Need-returns
-unfolding soundShapes soundRow octetsAt groupAt layoutAt placeRowAt groups layouts setFrom ended usableBits need◌or◌then◌ if◌then◌else◌ flags number categoryAt categories bits_of profileRowAt frnAs typeFrn
+unfolding sound_shapes sound_row octets_at group_at layout_at place_row_at groups layouts set_from ended usable_bits need◌or◌then◌ if◌then◌else◌ flags number category_at categories bits_of profile_row_at frn_as type_frn
 returns c = refl
 
 pub shapes-spec : {M : Type 1} → statement M

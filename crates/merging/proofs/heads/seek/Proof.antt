@@ -3,10 +3,10 @@
 use mathlib.Core.Path.{sym, ◌∙◌}
 use native.Mathlib.Omega.{arith}
 use lib.ListN.{length}
-use Rattle.blocks.proofs.LoopLaws.{octets-each}
+use Rattle.blocks.proofs.LoopLaws.{octets_each}
 use Rattle.merging.specs.Heads.{left_of}
-use Rattle.merging.proofs.HeadLaws.{head-fits}
-use Rattle.merging.proofs.SeekLaws.{Seeking, seek-holds, seek_hit, seek-more, seek-last, seek-miss, fewer}
+use Rattle.merging.proofs.HeadLaws.{head_fits}
+use Rattle.merging.proofs.SeekLaws.{Seeking, seek_holds, seek_hit, seek_more, seek_last, seek_miss, fewer}
 use borrow.Author.Rules.{rules}
 use Rattle.merging.proofs.heads.seek.Statement.{statement}
 use Rattle.merging.proofs.heads.seek.Tie as tie
@@ -24,7 +24,7 @@ stand-requires : tie.Need-stand-requires invariant-loop decreases-loop
 stand-requires c κs = search rules
 
 loop-holds : tie.Need-loop-init invariant-loop decreases-loop
-loop-holds c = seek-holds _ _ _ _ (octets-each c.before.before.before.args.recording.now c.before.before.shared-slice-known.given) c.before.start.ensures c.stand.ensures
+loop-holds c = seek_holds _ _ _ _ (octets_each c.before.before.before.args.recording.now c.before.before.shared-slice-known.given) c.before.start.ensures c.stand.ensures
 
 is-head-requires : tie.Need-is-head-requires invariant-loop decreases-loop
 is-head-requires c κs = search rules
@@ -33,7 +33,7 @@ returns : tie.Need-returns invariant-loop decreases-loop
 returns c = seek_hit _ _ _ c.before.before.before.before.loop.invariant (sym c.before.before.before.is-head.ensures ∙ c.before.before.if1.true) c.if2.true
 
 behind-requires : tie.Need-behind-requires invariant-loop decreases-loop
-behind-requires c κs = omega (arith, head-fits _ _ (sym c.before.before.before.is-head.ensures ∙ c.before.before.if1.true))
+behind-requires c κs = omega (arith, head_fits _ _ (sym c.before.before.before.is-head.ensures ∙ c.before.before.if1.true))
 
 stand-requires-2 : tie.Need-stand-requires-2 invariant-loop decreases-loop
 stand-requires-2 c κs = search rules
@@ -42,13 +42,13 @@ loop-less : tie.Need-loop-smaller invariant-loop decreases-loop
 loop-less c = fewer _ _ _ c.before.before.before.before.before.before.loop.invariant _ _ (sym c.before.before.before.before.before.is-head.ensures ∙ c.before.before.before.before.if1.true) c.before.behind.ensures c.stand2.ensures
 
 loop-again : tie.Need-loop-preserved invariant-loop decreases-loop
-loop-again c = seek-more _ _ _ c.before.before.before.before.before.before.loop.invariant _ _ (sym c.before.before.before.before.before.is-head.ensures ∙ c.before.before.before.before.if1.true) c.before.before.if2.false c.before.behind.ensures c.stand2.ensures
+loop-again c = seek_more _ _ _ c.before.before.before.before.before.before.loop.invariant _ _ (sym c.before.before.before.before.before.is-head.ensures ∙ c.before.before.before.before.if1.true) c.before.before.if2.false c.before.behind.ensures c.stand2.ensures
 
 returns-2 : tie.Need-returns-2 invariant-loop decreases-loop
-returns-2 c = seek-last _ _ _ c.before.before.before.loop.invariant (sym c.before.before.is-head.ensures ∙ c.before.if1.false) c.if3.true
+returns-2 c = seek_last _ _ _ c.before.before.before.loop.invariant (sym c.before.before.is-head.ensures ∙ c.before.if1.false) c.if3.true
 
 returns-3 : tie.Need-returns-3 invariant-loop decreases-loop
-returns-3 c = seek-miss _ _ _ c.before.before.before.loop.invariant (sym c.before.before.is-head.ensures ∙ c.before.if1.false) c.if3.false
+returns-3 c = seek_miss _ _ _ c.before.before.before.loop.invariant (sym c.before.before.is-head.ensures ∙ c.before.if1.false) c.if3.false
 
 pub seek-spec : {M : Type 1} → statement M
 seek-spec =

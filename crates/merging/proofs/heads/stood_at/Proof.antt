@@ -1,6 +1,6 @@
 -- `heads::stood_at` meets its contract: the part that is measured is the block's from the cursor on. Assumes nothing.
 use mathlib.Core.Path.{◌∙◌}
-use Rattle.merging.proofs.HeadLaws.{stood-is}
+use Rattle.merging.proofs.HeadLaws.{stood_is}
 use borrow.Author.Rules.{rules}
 use Rattle.merging.proofs.heads.stood_at.Statement.{statement}
 use Rattle.merging.proofs.heads.stood_at.Tie as tie
@@ -21,7 +21,7 @@ stood-requires : tie.Need-stood-requires
 stood-requires c κs = search rules
 
 returns : tie.Need-returns
-returns c = c.stood.ensures ∙ stood-is _ _ _ c.before.measure.ensures
+returns c = c.stood.ensures ∙ stood_is _ _ _ c.before.measure.ensures
 
 pub stood-at-spec : {M : Type 1} → statement M
 stood-at-spec =

@@ -1,6 +1,6 @@
 -- `heads::stood_by` meets its contract: as `stood_at`, by the table. Assumes nothing.
 use mathlib.Core.Path.{◌∙◌}
-use Rattle.merging.proofs.HeadLaws.{stood-is}
+use Rattle.merging.proofs.HeadLaws.{stood_is}
 use borrow.Author.Rules.{rules}
 use Rattle.merging.proofs.heads.stood_by.Statement.{statement}
 use Rattle.merging.proofs.heads.stood_by.Tie as tie
@@ -21,7 +21,7 @@ stood-requires : tie.Need-stood-requires
 stood-requires c κs = search rules
 
 returns : tie.Need-returns
-returns c = c.stood.ensures ∙ stood-is _ _ _ c.before.measure-by.ensures
+returns c = c.stood.ensures ∙ stood_is _ _ _ c.before.measure-by.ensures
 
 pub stood-by-spec : {M : Type 1} → statement M
 stood-by-spec =

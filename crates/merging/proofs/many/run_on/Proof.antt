@@ -4,16 +4,16 @@ use Prim.Native.Nat.{◌-◌, ◌≤◌}
 use mathlib.Core.Path.{refl}
 use native.Mathlib.Omega.{arith}
 use borrow.Author.Rules.{rules}
-use Rattle.blocks.proofs.LoopLaws.{octets-each}
-use Rattle.merging.proofs.ManyLaws.{state_of, Held, running-first, running-long, running-full, running_none, running-fits, running-within, held-which, held_on, pick-head}
+use Rattle.blocks.proofs.LoopLaws.{octets_each}
+use Rattle.merging.proofs.ManyLaws.{state_of, Held, running_first, running_long, running_full, running_none, running_fits, running_within, held_which, held_on, pick_head}
 use Rattle.merging.proofs.many.run_on.Statement.{statement}
 use Rattle.merging.proofs.many.run_on.Tie as tie
 
 abbrev invariant-loop : tie.invariant-loop
-invariant-loop shapes log-a log-b out₀ room turn there-a there-b heads₀ there₀ n₀ out heads there n = Held log-a log-b (state_of heads₀ turn) out₀ room n heads there turn out
+invariant-loop shapes log-a log-b out₀ room turn there_a there_b heads₀ there₀ n₀ out heads there n = Held log-a log-b (state_of heads₀ turn) out₀ room n heads there turn out
 
 abbrev decreases-loop : tie.decreases-loop
-decreases-loop shapes log-a log-b out₀ room turn there-a there-b heads₀ there₀ n₀ out heads there n = room - n
+decreases-loop shapes log-a log-b out₀ room turn there_a there_b heads₀ there₀ n₀ out heads there n = room - n
 
 is-head-requires : tie.Need-is-head-requires invariant-loop decreases-loop
 is-head-requires c κs = search rules
@@ -22,7 +22,7 @@ is-head-requires-2 : tie.Need-is-head-requires-2 invariant-loop decreases-loop
 is-head-requires-2 c κs = search rules
 
 loop-holds : tie.Need-loop-init invariant-loop decreases-loop
-loop-holds c = record { two = refl; tests = refl; in-a = c.before.is-head.ensures; in_b = c.is-head2.ensures; run = running-first _ _ _ _ _ }
+loop-holds c = record { two = refl; tests = refl; in_a = c.before.is-head.ensures; in_b = c.is-head2.ensures; run = running_first _ _ _ _ _ }
 
 array-copy-out-at-a : tie.Need-array-copy-out-at-a invariant-loop decreases-loop
 array-copy-out-at-a c = search rules
@@ -43,10 +43,10 @@ log-number-requires : tie.Need-log-number-requires invariant-loop decreases-loop
 log-number-requires c κs = search rules
 
 same_length : tie.Need-same-length invariant-loop decreases-loop
-same_length c = running-long _ _ _ _ _ _ _ _ c.before.before.before.before.before.before.loop.invariant.run
+same_length c = running_long _ _ _ _ _ _ _ _ c.before.before.before.before.before.before.loop.invariant.run
 
 returns : tie.Need-returns invariant-loop decreases-loop
-returns c = running_none _ _ _ _ _ _ _ _ c.before.before.before.before.before.before.loop.invariant.run c.before.before.before.before.before.loop-test.true _ (held-which _ _ _ _ _ _ _ _ _ _ c.before.before.before.before.before.before.loop.invariant _ c.before.before.first_by.ensures) _ c.before.log-number.ensures c.if1.true
+returns c = running_none _ _ _ _ _ _ _ _ c.before.before.before.before.before.before.loop.invariant.run c.before.before.before.before.before.loop-test.true _ (held_which _ _ _ _ _ _ _ _ _ _ c.before.before.before.before.before.before.loop.invariant _ c.before.before.first_by.ensures) _ c.before.log-number.ensures c.if1.true
 
 mul-from : tie.Need-overflow-mul-from invariant-loop decreases-loop
 mul-from c = record { fits = omega (arith, c.if1.false) }
@@ -58,16 +58,16 @@ mul-put : tie.Need-overflow-mul-put invariant-loop decreases-loop
 mul-put c = record { fits = omega (arith, c.before.before.before.before.before.before.before.before.loop-test.true) }
 
 put-requires : tie.Need-put-requires invariant-loop decreases-loop
-put-requires c κs = omega (arith, running-long _ _ _ _ _ _ _ _ c.before.before.before.before.before.before.before.before.before.loop.invariant.run, c.before.before.before.before.before.before.before.before.loop-test.true)
+put-requires c κs = omega (arith, running_long _ _ _ _ _ _ _ _ c.before.before.before.before.before.before.before.before.before.loop.invariant.run, c.before.before.before.before.before.before.before.before.loop-test.true)
 
 picked-log-requires : tie.Need-picked-log-requires invariant-loop decreases-loop
 picked-log-requires c κs = search rules
 
 behind-requires : tie.Need-behind-requires invariant-loop decreases-loop
-behind-requires c κs = running-fits _ _ _ _ _ _ _ _ c.before.before.before.before.before.before.before.before.before.before.before.before.before.loop.invariant.run c.before.before.before.before.before.before.before.before.before.before.before.before.loop-test.true _ (held-which _ _ _ _ _ _ _ _ _ _ c.before.before.before.before.before.before.before.before.before.before.before.before.before.loop.invariant _ c.before.before.before.before.before.before.before.before.before.first_by.ensures) _ c.before.before.before.before.before.before.before.before.log-number.ensures c.before.before.before.before.before.before.before.if1.false _ (pick-head c.before.before.before.before.before.before.before.before.before.before.before.before.before.loop.heads _ c.before.before.before.before.before.before.before.if1.false) _ (omega (arith, c.before.before.before.before.before.before.before.before.before.before.before.before.before.before.before.before.before.before.before.before.before.well-formed)) (omega (arith, c.before.before.before.before.before.before.before.before.before.before.before.before.before.before.before.before.before.before.before.before.before.well-formed))
+behind-requires c κs = running_fits _ _ _ _ _ _ _ _ c.before.before.before.before.before.before.before.before.before.before.before.before.before.loop.invariant.run c.before.before.before.before.before.before.before.before.before.before.before.before.loop-test.true _ (held_which _ _ _ _ _ _ _ _ _ _ c.before.before.before.before.before.before.before.before.before.before.before.before.before.loop.invariant _ c.before.before.before.before.before.before.before.before.before.first_by.ensures) _ c.before.before.before.before.before.before.before.before.log-number.ensures c.before.before.before.before.before.before.before.if1.false _ (pick_head c.before.before.before.before.before.before.before.before.before.before.before.before.before.loop.heads _ c.before.before.before.before.before.before.before.if1.false) _ (omega (arith, c.before.before.before.before.before.before.before.before.before.before.before.before.before.before.before.before.before.before.before.before.before.well-formed)) (omega (arith, c.before.before.before.before.before.before.before.before.before.before.before.before.before.before.before.before.before.before.before.before.before.well-formed))
 
 stand-by-requires : tie.Need-stand-by-requires invariant-loop decreases-loop
-stand-by-requires c κs = (c.before.before.before.before.before.before.before.before.before.before.before.before.before.before.before.before.before.before.before.before.before.before.requires, running-within _ _ _ _ _ _ _ _ c.before.before.before.before.before.before.before.before.before.before.before.before.before.before.loop.invariant.run c.before.before.before.before.before.before.before.before.before.before.before.before.before.loop-test.true _ (held-which _ _ _ _ _ _ _ _ _ _ c.before.before.before.before.before.before.before.before.before.before.before.before.before.before.loop.invariant _ c.before.before.before.before.before.before.before.before.before.before.first_by.ensures) _ c.before.before.before.before.before.before.before.before.before.log-number.ensures c.before.before.before.before.before.before.before.before.if1.false _ (pick-head c.before.before.before.before.before.before.before.before.before.before.before.before.before.before.loop.heads _ c.before.before.before.before.before.before.before.before.if1.false) _ c.before.picked-log.ensures _ c.behind.ensures)
+stand-by-requires c κs = (c.before.before.before.before.before.before.before.before.before.before.before.before.before.before.before.before.before.before.before.before.before.before.requires, running_within _ _ _ _ _ _ _ _ c.before.before.before.before.before.before.before.before.before.before.before.before.before.before.loop.invariant.run c.before.before.before.before.before.before.before.before.before.before.before.before.before.loop-test.true _ (held_which _ _ _ _ _ _ _ _ _ _ c.before.before.before.before.before.before.before.before.before.before.before.before.before.before.loop.invariant _ c.before.before.before.before.before.before.before.before.before.before.first_by.ensures) _ c.before.before.before.before.before.before.before.before.before.log-number.ensures c.before.before.before.before.before.before.before.before.if1.false _ (pick_head c.before.before.before.before.before.before.before.before.before.before.before.before.before.before.loop.heads _ c.before.before.before.before.before.before.before.before.if1.false) _ c.before.picked-log.ensures _ c.behind.ensures)
 
 mul-heads : tie.Need-overflow-mul-heads invariant-loop decreases-loop
 mul-heads c = record { fits = omega (arith, c.before.before.before.before.before.before.before.before.before.if1.false) }
@@ -85,7 +85,7 @@ loop-less : tie.Need-loop-smaller invariant-loop decreases-loop
 loop-less c = omega (arith, c.before.before.before.before.before.before.before.before.before.before.before.before.before.before.before.loop-test.true)
 
 loop-again : tie.Need-loop-preserved invariant-loop decreases-loop
-loop-again c = held_on _ _ _ _ _ _ _ _ _ _ c.before.before.before.before.before.before.before.before.before.before.before.before.before.before.before.before.loop.invariant _ c.before.before.before.before.before.before.before.before.before.before.before.before.first_by.ensures c.before.before.before.before.before.before.before.before.before.before.before.before.before.before.before.loop-test.true (octets-each c.before.before.before.before.before.before.before.before.before.before.before.before.before.before.before.before.before.before.before.before.before.before.before.before.args.log-a.now c.before.before.before.before.before.before.before.before.before.before.before.before.before.before.before.before.before.before.before.before.before.before.before.shared-slice-known.given) (octets-each c.before.before.before.before.before.before.before.before.before.before.before.before.before.before.before.before.before.before.before.before.before.before.before.before.args.log-b.now c.before.before.before.before.before.before.before.before.before.before.before.before.before.before.before.before.before.before.before.before.before.before.shared-slice-known2.given) _ c.before.before.before.before.before.before.before.before.before.before.before.log-number.ensures c.before.before.before.before.before.before.before.before.before.before.if1.false _ c.before.before.before.before.before.before.put.ensures _ c.before.before.before.picked-log.ensures _ c.before.before.behind.ensures _ c.before.stand-by.ensures
+loop-again c = held_on _ _ _ _ _ _ _ _ _ _ c.before.before.before.before.before.before.before.before.before.before.before.before.before.before.before.before.loop.invariant _ c.before.before.before.before.before.before.before.before.before.before.before.before.first_by.ensures c.before.before.before.before.before.before.before.before.before.before.before.before.before.before.before.loop-test.true (octets_each c.before.before.before.before.before.before.before.before.before.before.before.before.before.before.before.before.before.before.before.before.before.before.before.before.args.log-a.now c.before.before.before.before.before.before.before.before.before.before.before.before.before.before.before.before.before.before.before.before.before.before.before.shared-slice-known.given) (octets_each c.before.before.before.before.before.before.before.before.before.before.before.before.before.before.before.before.before.before.before.before.before.before.before.before.args.log-b.now c.before.before.before.before.before.before.before.before.before.before.before.before.before.before.before.before.before.before.before.before.before.before.shared-slice-known2.given) _ c.before.before.before.before.before.before.before.before.before.before.before.log-number.ensures c.before.before.before.before.before.before.before.before.before.before.if1.false _ c.before.before.before.before.before.before.put.ensures _ c.before.before.before.picked-log.ensures _ c.before.before.behind.ensures _ c.before.stand-by.ensures
 
 array-copy-out-at-a-2 : tie.Need-array-copy-out-at-a-2 invariant-loop decreases-loop
 array-copy-out-at-a-2 c = search rules
@@ -94,10 +94,10 @@ array-copy-out-at-b-2 : tie.Need-array-copy-out-at-b-2 invariant-loop decreases-
 array-copy-out-at-b-2 c = search rules
 
 same-length-2 : tie.Need-same-length-2 invariant-loop decreases-loop
-same-length-2 c = running-long _ _ _ _ _ _ _ _ c.before.before.before.loop.invariant.run
+same-length-2 c = running_long _ _ _ _ _ _ _ _ c.before.before.before.loop.invariant.run
 
 returns-2 : tie.Need-returns-2 invariant-loop decreases-loop
-returns-2 c = running-full _ _ _ _ _ _ _ _ c.before.before.before.loop.invariant.run c.before.before.loop-test.false
+returns-2 c = running_full _ _ _ _ _ _ _ _ c.before.before.before.loop.invariant.run c.before.before.loop-test.false
 
 pub run-on-spec : {M : Type 1} → statement M
 run-on-spec =

@@ -3,9 +3,9 @@ use mathlib.Core.Path.{ap, ◌∙◌}
 use mir.Syntax.{w64}
 use mir.ValLaws.{to_z-of_z}
 use borrow.Author.Rules.{rules}
-use Rattle.blocks.proofs.LoopLaws.{octets-each}
-use Rattle.merging.specs.Run.{beginOf}
-use Rattle.merging.proofs.StepLaws.{at-closed, at-barred, at_ready}
+use Rattle.blocks.proofs.LoopLaws.{octets_each}
+use Rattle.merging.specs.Run.{begin_of}
+use Rattle.merging.proofs.StepLaws.{at_closed, at_barred, at_ready}
 use Rattle.merging.proofs.step.merge_at.Statement.{statement}
 use Rattle.merging.proofs.step.merge_at.Tie as tie
 
@@ -31,13 +31,13 @@ step-from-requires : tie.Need-step-from-requires
 step-from-requires c κs = search rules
 
 returns : tie.Need-returns
-returns c = c.stay.ensures ∙ at-closed c.before.before.before.before.before.before.before.args.log-a.now c.before.before.before.before.before.before.before.args.log-b.now c.before.before.before.before.before.before.before.args.place-a c.before.before.before.before.before.before.before.args.place-b c.before.before.before.before.before.before.before.args.offset (octets-each c.before.before.before.before.before.before.before.args.log-a.now c.before.before.before.before.before.before.shared-slice-known.given) (octets-each c.before.before.before.before.before.before.before.args.log-b.now c.before.before.before.before.before.shared-slice-known2.given) _ (c.before.before.before.before.begin-merge.ensures ∙ ap (beginOf c.before.before.before.before.before.before.before.args.log-a.now c.before.before.before.before.before.before.before.args.log-b.now) (to_z-of_z w64 c.before.before.before.before.before.before.before.args.offset c.before.before.before.before.before.before.before.ranges.offset)) _ _ _ c.before.before.begun.given.1
+returns c = c.stay.ensures ∙ at_closed c.before.before.before.before.before.before.before.args.log-a.now c.before.before.before.before.before.before.before.args.log-b.now c.before.before.before.before.before.before.before.args.place-a c.before.before.before.before.before.before.before.args.place-b c.before.before.before.before.before.before.before.args.offset (octets_each c.before.before.before.before.before.before.before.args.log-a.now c.before.before.before.before.before.before.shared-slice-known.given) (octets_each c.before.before.before.before.before.before.before.args.log-b.now c.before.before.before.before.before.shared-slice-known2.given) _ (c.before.before.before.before.begin-merge.ensures ∙ ap (begin_of c.before.before.before.before.before.before.before.args.log-a.now c.before.before.before.before.before.before.before.args.log-b.now) (to_z-of_z w64 c.before.before.before.before.before.before.before.args.offset c.before.before.before.before.before.before.before.ranges.offset)) _ _ _ c.before.before.begun.given.1
 
 returns-2 : tie.Need-returns-2
-returns-2 c = c.stay2.ensures ∙ at-barred c.before.before.before.before.before.before.before.args.log-a.now c.before.before.before.before.before.before.before.args.log-b.now c.before.before.before.before.before.before.before.args.place-a c.before.before.before.before.before.before.before.args.place-b c.before.before.before.before.before.before.before.args.offset (octets-each c.before.before.before.before.before.before.before.args.log-a.now c.before.before.before.before.before.before.shared-slice-known.given) (octets-each c.before.before.before.before.before.before.before.args.log-b.now c.before.before.before.before.before.shared-slice-known2.given) _ (c.before.before.before.before.begin-merge.ensures ∙ ap (beginOf c.before.before.before.before.before.before.before.args.log-a.now c.before.before.before.before.before.before.before.args.log-b.now) (to_z-of_z w64 c.before.before.before.before.before.before.before.args.offset c.before.before.before.before.before.before.before.ranges.offset)) _ c.before.before.begun2.given.1
+returns-2 c = c.stay2.ensures ∙ at_barred c.before.before.before.before.before.before.before.args.log-a.now c.before.before.before.before.before.before.before.args.log-b.now c.before.before.before.before.before.before.before.args.place-a c.before.before.before.before.before.before.before.args.place-b c.before.before.before.before.before.before.before.args.offset (octets_each c.before.before.before.before.before.before.before.args.log-a.now c.before.before.before.before.before.before.shared-slice-known.given) (octets_each c.before.before.before.before.before.before.before.args.log-b.now c.before.before.before.before.before.shared-slice-known2.given) _ (c.before.before.before.before.begin-merge.ensures ∙ ap (begin_of c.before.before.before.before.before.before.before.args.log-a.now c.before.before.before.before.before.before.before.args.log-b.now) (to_z-of_z w64 c.before.before.before.before.before.before.before.args.offset c.before.before.before.before.before.before.before.ranges.offset)) _ c.before.before.begun2.given.1
 
 returns-3 : tie.Need-returns-3
-returns-3 c = at_ready c.before.before.before.before.before.before.before.args.log-a.now c.before.before.before.before.before.before.before.args.log-b.now c.before.before.before.before.before.before.before.args.place-a c.before.before.before.before.before.before.before.args.place-b c.before.before.before.before.before.before.before.args.offset (octets-each c.before.before.before.before.before.before.before.args.log-a.now c.before.before.before.before.before.before.shared-slice-known.given) (octets-each c.before.before.before.before.before.before.before.args.log-b.now c.before.before.before.before.before.shared-slice-known2.given) _ (c.before.before.before.before.begin-merge.ensures ∙ ap (beginOf c.before.before.before.before.before.before.before.args.log-a.now c.before.before.before.before.before.before.before.args.log-b.now) (to_z-of_z w64 c.before.before.before.before.before.before.before.args.offset c.before.before.before.before.before.before.before.ranges.offset)) _ c.before.before.begun3.given.1 _ c.step_from.ensures
+returns-3 c = at_ready c.before.before.before.before.before.before.before.args.log-a.now c.before.before.before.before.before.before.before.args.log-b.now c.before.before.before.before.before.before.before.args.place-a c.before.before.before.before.before.before.before.args.place-b c.before.before.before.before.before.before.before.args.offset (octets_each c.before.before.before.before.before.before.before.args.log-a.now c.before.before.before.before.before.before.shared-slice-known.given) (octets_each c.before.before.before.before.before.before.before.args.log-b.now c.before.before.before.before.before.shared-slice-known2.given) _ (c.before.before.before.before.begin-merge.ensures ∙ ap (begin_of c.before.before.before.before.before.before.before.args.log-a.now c.before.before.before.before.before.before.before.args.log-b.now) (to_z-of_z w64 c.before.before.before.before.before.before.before.args.offset c.before.before.before.before.before.before.before.ranges.offset)) _ c.before.before.begun3.given.1 _ c.step_from.ensures
 
 pub merge-at-spec : {M : Type 1} → statement M
 merge-at-spec =

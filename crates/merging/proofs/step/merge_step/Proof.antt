@@ -4,10 +4,10 @@ use mir.Syntax.{w64}
 use mir.ValLaws.{to_z-of_z}
 use borrow.Author.Rules.{rules}
 use Rattle.rules.specs.Catalogue.{categories}
-use Rattle.rules.specs.Merge.{logA, logB, mergeStep}
-use Rattle.blocks.proofs.LoopLaws.{octets-each}
-use Rattle.merging.specs.Step.{mergedOf}
-use Rattle.merging.proofs.PartLaws.{step-inside, part-here, part-inside}
+use Rattle.rules.specs.Merge.{log_a, log_b, merge_step}
+use Rattle.blocks.proofs.LoopLaws.{octets_each}
+use Rattle.merging.specs.Step.{merged_of}
+use Rattle.merging.proofs.PartLaws.{step_inside, part_here, part_inside}
 use Rattle.merging.proofs.step.merge_step.Statement.{statement}
 use Rattle.merging.proofs.step.merge_step.Tie as tie
 
@@ -21,19 +21,19 @@ enum_told : tie.Need-enum-told
 enum_told c = search rules
 
 part-of-requires : tie.Need-part-of-requires
-part-of-requires c κs = part-inside (mergeStep categories c.before.before.before.before.before.before.args.log-a.now c.before.before.before.before.before.before.args.log-b.now c.before.before.before.before.before.before.args.place-a c.before.before.before.before.before.before.args.place-b c.before.before.before.before.before.before.args.offset) _ (c.before.before.before.merge-at.ensures ∙ ap (λ o. mergedOf (mergeStep categories c.before.before.before.before.before.before.args.log-a.now c.before.before.before.before.before.before.args.log-b.now c.before.before.before.before.before.before.args.place-a c.before.before.before.before.before.before.args.place-b o)) (to_z-of_z w64 c.before.before.before.before.before.before.args.offset c.before.before.before.before.before.before.ranges.offset)) _ c.before.before.Part-log.ensures logA c.enum_told.given.1 _ _ (step-inside c.before.before.before.before.before.before.args.log-a.now c.before.before.before.before.before.before.args.log-b.now c.before.before.before.before.before.before.args.place-a c.before.before.before.before.before.before.args.place-b c.before.before.before.before.before.before.args.offset (octets-each c.before.before.before.before.before.before.args.log-a.now c.before.before.before.before.before.shared-slice-known.given) (octets-each c.before.before.before.before.before.before.args.log-b.now c.before.before.before.before.shared-slice-known2.given))
+part-of-requires c κs = part_inside (merge_step categories c.before.before.before.before.before.before.args.log-a.now c.before.before.before.before.before.before.args.log-b.now c.before.before.before.before.before.before.args.place-a c.before.before.before.before.before.before.args.place-b c.before.before.before.before.before.before.args.offset) _ (c.before.before.before.merge-at.ensures ∙ ap (λ o. merged_of (merge_step categories c.before.before.before.before.before.before.args.log-a.now c.before.before.before.before.before.before.args.log-b.now c.before.before.before.before.before.before.args.place-a c.before.before.before.before.before.before.args.place-b o)) (to_z-of_z w64 c.before.before.before.before.before.before.args.offset c.before.before.before.before.before.before.ranges.offset)) _ c.before.before.Part-log.ensures log_a c.enum_told.given.1 _ _ (step_inside c.before.before.before.before.before.before.args.log-a.now c.before.before.before.before.before.before.args.log-b.now c.before.before.before.before.before.before.args.place-a c.before.before.before.before.before.before.args.place-b c.before.before.before.before.before.before.args.offset (octets_each c.before.before.before.before.before.before.args.log-a.now c.before.before.before.before.before.shared-slice-known.given) (octets_each c.before.before.before.before.before.before.args.log-b.now c.before.before.before.before.shared-slice-known2.given))
 
 enum-told-2 : tie.Need-enum-told-2
 enum-told-2 c = search rules
 
 part-of-requires-2 : tie.Need-part-of-requires-2
-part-of-requires-2 c κs = part-inside (mergeStep categories c.before.before.before.before.before.before.args.log-a.now c.before.before.before.before.before.before.args.log-b.now c.before.before.before.before.before.before.args.place-a c.before.before.before.before.before.before.args.place-b c.before.before.before.before.before.before.args.offset) _ (c.before.before.before.merge-at.ensures ∙ ap (λ o. mergedOf (mergeStep categories c.before.before.before.before.before.before.args.log-a.now c.before.before.before.before.before.before.args.log-b.now c.before.before.before.before.before.before.args.place-a c.before.before.before.before.before.before.args.place-b o)) (to_z-of_z w64 c.before.before.before.before.before.before.args.offset c.before.before.before.before.before.before.ranges.offset)) _ c.before.before.Part-log.ensures logB c.enum-told2.given.1 _ _ (step-inside c.before.before.before.before.before.before.args.log-a.now c.before.before.before.before.before.before.args.log-b.now c.before.before.before.before.before.before.args.place-a c.before.before.before.before.before.before.args.place-b c.before.before.before.before.before.before.args.offset (octets-each c.before.before.before.before.before.before.args.log-a.now c.before.before.before.before.before.shared-slice-known.given) (octets-each c.before.before.before.before.before.before.args.log-b.now c.before.before.before.before.shared-slice-known2.given))
+part-of-requires-2 c κs = part_inside (merge_step categories c.before.before.before.before.before.before.args.log-a.now c.before.before.before.before.before.before.args.log-b.now c.before.before.before.before.before.before.args.place-a c.before.before.before.before.before.before.args.place-b c.before.before.before.before.before.before.args.offset) _ (c.before.before.before.merge-at.ensures ∙ ap (λ o. merged_of (merge_step categories c.before.before.before.before.before.before.args.log-a.now c.before.before.before.before.before.before.args.log-b.now c.before.before.before.before.before.before.args.place-a c.before.before.before.before.before.before.args.place-b o)) (to_z-of_z w64 c.before.before.before.before.before.before.args.offset c.before.before.before.before.before.before.ranges.offset)) _ c.before.before.Part-log.ensures log_b c.enum-told2.given.1 _ _ (step_inside c.before.before.before.before.before.before.args.log-a.now c.before.before.before.before.before.before.args.log-b.now c.before.before.before.before.before.before.args.place-a c.before.before.before.before.before.before.args.place-b c.before.before.before.before.before.before.args.offset (octets_each c.before.before.before.before.before.before.args.log-a.now c.before.before.before.before.before.shared-slice-known.given) (octets_each c.before.before.before.before.before.before.args.log-b.now c.before.before.before.before.shared-slice-known2.given))
 
 returns : tie.Need-returns
-returns c = part-here (mergeStep categories c.before.before.before.before.before.before.before.args.log-a.now c.before.before.before.before.before.before.before.args.log-b.now c.before.before.before.before.before.before.before.args.place-a c.before.before.before.before.before.before.before.args.place-b c.before.before.before.before.before.before.before.args.offset) _ (c.before.before.before.before.merge-at.ensures ∙ ap (λ o. mergedOf (mergeStep categories c.before.before.before.before.before.before.before.args.log-a.now c.before.before.before.before.before.before.before.args.log-b.now c.before.before.before.before.before.before.before.args.place-a c.before.before.before.before.before.before.before.args.place-b o)) (to_z-of_z w64 c.before.before.before.before.before.before.before.args.offset c.before.before.before.before.before.before.before.ranges.offset)) _ c.before.before.before.Part-log.ensures logA c.before.enum_told.given.1 _ _ _ c.part_of.ensures
+returns c = part_here (merge_step categories c.before.before.before.before.before.before.before.args.log-a.now c.before.before.before.before.before.before.before.args.log-b.now c.before.before.before.before.before.before.before.args.place-a c.before.before.before.before.before.before.before.args.place-b c.before.before.before.before.before.before.before.args.offset) _ (c.before.before.before.before.merge-at.ensures ∙ ap (λ o. merged_of (merge_step categories c.before.before.before.before.before.before.before.args.log-a.now c.before.before.before.before.before.before.before.args.log-b.now c.before.before.before.before.before.before.before.args.place-a c.before.before.before.before.before.before.before.args.place-b o)) (to_z-of_z w64 c.before.before.before.before.before.before.before.args.offset c.before.before.before.before.before.before.before.ranges.offset)) _ c.before.before.before.Part-log.ensures log_a c.before.enum_told.given.1 _ _ _ c.part_of.ensures
 
 returns-2 : tie.Need-returns-2
-returns-2 c = part-here (mergeStep categories c.before.before.before.before.before.before.before.args.log-a.now c.before.before.before.before.before.before.before.args.log-b.now c.before.before.before.before.before.before.before.args.place-a c.before.before.before.before.before.before.before.args.place-b c.before.before.before.before.before.before.before.args.offset) _ (c.before.before.before.before.merge-at.ensures ∙ ap (λ o. mergedOf (mergeStep categories c.before.before.before.before.before.before.before.args.log-a.now c.before.before.before.before.before.before.before.args.log-b.now c.before.before.before.before.before.before.before.args.place-a c.before.before.before.before.before.before.before.args.place-b o)) (to_z-of_z w64 c.before.before.before.before.before.before.before.args.offset c.before.before.before.before.before.before.before.ranges.offset)) _ c.before.before.before.Part-log.ensures logB c.before.enum-told2.given.1 _ _ _ c.part-of2.ensures
+returns-2 c = part_here (merge_step categories c.before.before.before.before.before.before.before.args.log-a.now c.before.before.before.before.before.before.before.args.log-b.now c.before.before.before.before.before.before.before.args.place-a c.before.before.before.before.before.before.before.args.place-b c.before.before.before.before.before.before.before.args.offset) _ (c.before.before.before.before.merge-at.ensures ∙ ap (λ o. merged_of (merge_step categories c.before.before.before.before.before.before.before.args.log-a.now c.before.before.before.before.before.before.before.args.log-b.now c.before.before.before.before.before.before.before.args.place-a c.before.before.before.before.before.before.before.args.place-b o)) (to_z-of_z w64 c.before.before.before.before.before.before.before.args.offset c.before.before.before.before.before.before.before.ranges.offset)) _ c.before.before.before.Part-log.ensures log_b c.before.enum-told2.given.1 _ _ _ c.part-of2.ensures
 
 pub merge-step-spec : {M : Type 1} → statement M
 merge-step-spec =

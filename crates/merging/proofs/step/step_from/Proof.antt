@@ -1,8 +1,8 @@
 -- `step::step_from` meets its contract: by what is found in each log, at the offset that the turn is of. Assumes nothing.
 use mathlib.Core.Path.{◌∙◌}
 use borrow.Author.Rules.{rules}
-use Rattle.blocks.proofs.LoopLaws.{octets-each}
-use Rattle.merging.proofs.StepLaws.{at-23a, at-23b, at_next}
+use Rattle.blocks.proofs.LoopLaws.{octets_each}
+use Rattle.merging.proofs.StepLaws.{at_23a, at_23b, at_next}
 use Rattle.merging.proofs.step.step_from.Statement.{statement}
 use Rattle.merging.proofs.step.step_from.Tie as tie
 
@@ -19,7 +19,7 @@ stay-requires : tie.Need-stay-requires
 stay-requires c κs = search rules
 
 returns : tie.Need-returns
-returns c = λ o t. c.stay.ensures ∙ at-23a c.before.before.before.before.before.before.args.log-a.now c.before.before.before.before.before.before.args.log-b.now c.before.before.before.before.before.before.args.place-a c.before.before.before.before.before.before.args.place-b _ c.before.before.before.seek.ensures o c.before.enum_told.given.1
+returns c = λ o t. c.stay.ensures ∙ at_23a c.before.before.before.before.before.before.args.log-a.now c.before.before.before.before.before.before.args.log-b.now c.before.before.before.before.before.before.args.place-a c.before.before.before.before.before.before.args.place-b _ c.before.before.before.seek.ensures o c.before.enum_told.given.1
 
 seek-requires-2 : tie.Need-seek-requires-2
 seek-requires-2 c κs = search rules
@@ -34,13 +34,13 @@ stay-requires-2 : tie.Need-stay-requires-2
 stay-requires-2 c κs = search rules
 
 returns-2 : tie.Need-returns-2
-returns-2 c = λ o t. c.stay2.ensures ∙ at-23b c.before.before.before.before.before.before.before.before.before.before.args.log-a.now c.before.before.before.before.before.before.before.before.before.before.args.log-b.now c.before.before.before.before.before.before.before.before.before.before.args.place-a c.before.before.before.before.before.before.before.before.before.before.args.place-b _ c.before.before.before.before.before.before.before.seek.ensures o _ c.before.before.before.before.before.found-a.given.1 _ c.before.before.before.seek2.ensures c.before.enum-told2.given.1
+returns-2 c = λ o t. c.stay2.ensures ∙ at_23b c.before.before.before.before.before.before.before.before.before.before.args.log-a.now c.before.before.before.before.before.before.before.before.before.before.args.log-b.now c.before.before.before.before.before.before.before.before.before.before.args.place-a c.before.before.before.before.before.before.before.before.before.before.args.place-b _ c.before.before.before.before.before.before.before.seek.ensures o _ c.before.before.before.before.before.found-a.given.1 _ c.before.before.before.seek2.ensures c.before.enum-told2.given.1
 
 step-requires : tie.Need-step-requires
 step-requires c κs = search rules
 
 returns-3 : tie.Need-returns-3
-returns-3 c = λ o t. at_next c.before.before.before.before.before.before.before.before.before.before.before.args.log-a.now c.before.before.before.before.before.before.before.before.before.before.before.args.log-b.now c.before.before.before.before.before.before.before.before.before.before.before.args.place-a c.before.before.before.before.before.before.before.before.before.before.before.args.place-b _ c.before.before.before.before.before.before.before.before.seek.ensures o _ c.before.before.before.before.before.before.found-a.given.1 _ c.before.before.before.before.seek2.ensures (octets-each c.before.before.before.before.before.before.before.before.before.before.before.args.log-a.now c.before.before.before.before.before.before.before.before.before.before.shared-slice-known.given) (octets-each c.before.before.before.before.before.before.before.before.before.before.before.args.log-b.now c.before.before.before.before.before.before.before.before.before.shared-slice-known2.given) _ c.before.before.found-b.given.1 _ t _ c.step.ensures
+returns-3 c = λ o t. at_next c.before.before.before.before.before.before.before.before.before.before.before.args.log-a.now c.before.before.before.before.before.before.before.before.before.before.before.args.log-b.now c.before.before.before.before.before.before.before.before.before.before.before.args.place-a c.before.before.before.before.before.before.before.before.before.before.before.args.place-b _ c.before.before.before.before.before.before.before.before.seek.ensures o _ c.before.before.before.before.before.before.found-a.given.1 _ c.before.before.before.before.seek2.ensures (octets_each c.before.before.before.before.before.before.before.before.before.before.before.args.log-a.now c.before.before.before.before.before.before.before.before.before.before.shared-slice-known.given) (octets_each c.before.before.before.before.before.before.before.before.before.before.before.args.log-b.now c.before.before.before.before.before.before.before.before.before.shared-slice-known2.given) _ c.before.before.found-b.given.1 _ t _ c.step.ensures
 
 pub step-from-spec : {M : Type 1} → statement M
 step-from-spec =

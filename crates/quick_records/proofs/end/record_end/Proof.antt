@@ -11,7 +11,7 @@ use Rattle.rules.specs.Answer.{ok}
 use Rattle.quick_items.specs.Item.{Plainly}
 use Rattle.quick_records.specs.Record.{end_at}
 use Rattle.quick_items.proofs.ItemLaws.{told}
-use Rattle.quick_records.proofs.RecordLaws.{end-anywhere, end-within}
+use Rattle.quick_records.proofs.RecordLaws.{end_anywhere, end_within}
 use Rattle.quick_records.proofs.end.record_end.Statement.{statement}
 use Rattle.quick_records.proofs.end.record_end.Tie as tie
 
@@ -23,10 +23,10 @@ module _ (i at : ℕ) (bs : List ℕ) (known : (j : ℕ) → Fits w8 (get_or bs 
   ends = told n (end_at i 0 bs) p z
 
   sum_fits : Fits w64 (at + n)
-  sum_fits = record { fits = omega (arith, end-within i bs known few n ends, l) }
+  sum_fits = record { fits = omega (arith, end_within i bs known few n ends, l) }
 
   anywhere : ok (at + n) ≡ end_at i at bs
-  anywhere = sym (end-anywhere i bs known few at n ends)
+  anywhere = sym (end_anywhere i bs known few at n ends)
 
 shaped-record-requires : tie.Need-shaped-record-requires
 shaped-record-requires c κs = search rules

@@ -5,9 +5,9 @@ use native.Mathlib.Omega.{arith}
 use lib.ListN.{get_or}
 use Rattle.rules.specs.Answer.{ok}
 use Rattle.sets.specs.Steps.{row_at}
-use Rattle.quick_records.specs.Record.{kindCount, rowCount}
-use Rattle.quick_records.proofs.RecordLaws.{row-few, row_read, content}
-use Rattle.quick_records.proofs.ShapeLaws.{sets-read}
+use Rattle.quick_records.specs.Record.{kind_count, row_count}
+use Rattle.quick_records.proofs.RecordLaws.{row_few, row_read, content}
+use Rattle.quick_records.proofs.ShapeLaws.{sets_read}
 use borrow.Author.Rules.{rules}
 use Rattle.quick_records.proofs.record.is_content.Statement.{statement}
 use Rattle.quick_records.proofs.record.is_content.Tie as tie
@@ -46,10 +46,10 @@ mul-t11 : tie.Need-overflow-mul-t11
 mul-t11 c = search rules
 
 -- the row that the table has for the type
-few : (c : tie.Else2) → c.before.octet2.result < rowCount
+few : (c : tie.Else2) → c.before.octet2.result < row_count
 few c =
-    row-few c.before.before.before.before.before.args.types.now _ c.before.before.before.before.before.requires.0 c.before.before.before.before.before.requires.2 c.before.before.before.before.before.args.kind _ (omega (arith, c.before.before.before.before.octet.ensures.0, c.before.before.before.if1.false))
-    (ap (λ x. get_or c.before.before.before.before.before.args.types.now (c.before.before.before.before.before.args.profile * kindCount + x) 0) (sym c.before.before.before.before.octet.ensures.0) ∙ sym c.before.octet2.ensures.0) c.if2.false
+    row_few c.before.before.before.before.before.args.types.now _ c.before.before.before.before.before.requires.0 c.before.before.before.before.before.requires.2 c.before.before.before.before.before.args.kind _ (omega (arith, c.before.before.before.before.octet.ensures.0, c.before.before.before.if1.false))
+    (ap (λ x. get_or c.before.before.before.before.before.args.types.now (c.before.before.before.before.before.args.profile * kind_count + x) 0) (sym c.before.before.before.before.octet.ensures.0) ∙ sym c.before.octet2.ensures.0) c.if2.false
 
 element-copy-out-t18 : tie.Need-element-copy-out-t18
 element-copy-out-t18 c = omega (arith, few c, c.before.before.before.before.before.requires.2)
@@ -75,11 +75,11 @@ is-within-requires-2 c κs = search rules
 -- the row, in the rules' terms
 row : (c : tie.After-is-within2)
     → row_at c.before.before.before.before.before.before.before.before.before.before.args.profile c.before.before.before.before.before.before.before.before.before.before.args.kind
-    ≡ ok (get_or c.before.before.before.before.before.before.before.before.before.before.args.sets.now (2 * (c.before.before.before.before.before.before.before.before.before.before.args.profile * rowCount + c.before.before.before.before.before.before.octet2.result)) 0, get_or c.before.before.before.before.before.before.before.before.before.before.args.sets.now (2 * (c.before.before.before.before.before.before.before.before.before.before.args.profile * rowCount + c.before.before.before.before.before.before.octet2.result) + 1) 0)
+    ≡ ok (get_or c.before.before.before.before.before.before.before.before.before.before.args.sets.now (2 * (c.before.before.before.before.before.before.before.before.before.before.args.profile * row_count + c.before.before.before.before.before.before.octet2.result)) 0, get_or c.before.before.before.before.before.before.before.before.before.before.args.sets.now (2 * (c.before.before.before.before.before.before.before.before.before.before.args.profile * row_count + c.before.before.before.before.before.before.octet2.result) + 1) 0)
 row c =
     row_read c.before.before.before.before.before.before.before.before.before.before.args.types.now _ c.before.before.before.before.before.before.before.before.before.before.requires.0 c.before.before.before.before.before.before.before.before.before.before.requires.2 _ _ (omega (arith, c.before.before.before.before.before.before.before.before.before.octet.ensures.0, c.before.before.before.before.before.before.before.before.if1.false))
-    (ap (λ x. get_or c.before.before.before.before.before.before.before.before.before.before.args.types.now (c.before.before.before.before.before.before.before.before.before.before.args.profile * kindCount + x) 0) (sym c.before.before.before.before.before.before.before.before.before.octet.ensures.0) ∙ sym c.before.before.before.before.before.before.octet2.ensures.0) c.before.before.before.before.before.if2.false
-    ∙ ap₂ (λ x y. ok (x, y)) (sym (sets-read _ c.before.before.before.before.before.before.before.before.before.before.requires.1 _ (omega (arith, few c.before.before.before.before.before, c.before.before.before.before.before.before.before.before.before.before.requires.2)))) (sym (sets-read _ c.before.before.before.before.before.before.before.before.before.before.requires.1 _ (omega (arith, few c.before.before.before.before.before, c.before.before.before.before.before.before.before.before.before.before.requires.2))))
+    (ap (λ x. get_or c.before.before.before.before.before.before.before.before.before.before.args.types.now (c.before.before.before.before.before.before.before.before.before.before.args.profile * kind_count + x) 0) (sym c.before.before.before.before.before.before.before.before.before.octet.ensures.0) ∙ sym c.before.before.before.before.before.before.octet2.ensures.0) c.before.before.before.before.before.if2.false
+    ∙ ap₂ (λ x y. ok (x, y)) (sym (sets_read _ c.before.before.before.before.before.before.before.before.before.before.requires.1 _ (omega (arith, few c.before.before.before.before.before, c.before.before.before.before.before.before.before.before.before.before.requires.2)))) (sym (sets_read _ c.before.before.before.before.before.before.before.before.before.before.requires.1 _ (omega (arith, few c.before.before.before.before.before, c.before.before.before.before.before.before.before.before.before.before.requires.2))))
 
 returns-4 : tie.Need-returns-4
 returns-4 c = content _ _ _ _ _ c.before.before.before.before.before.before.before.before.before.before.requires.3 c.before.before.before.before.before.before.before.before.before.before.requires.4 (row c) c.before.before.before.is_Within.ensures c.before.before.if3.false c.is-within2.ensures

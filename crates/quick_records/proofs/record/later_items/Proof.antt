@@ -7,11 +7,11 @@ use lib.Pow.{pow_pos}
 use lib.ListN.{length}
 use borrow.Author.Rules.{rules}
 use Rattle.rules.specs.Answer.{ok}
-use Rattle.items.specs.Answers.{checkAt}
-use Rattle.records.proofs.PlaceLaws.{check-within}
+use Rattle.items.specs.Answers.{check_at}
+use Rattle.records.proofs.PlaceLaws.{check_within}
 use Rattle.quick_items.proofs.ItemLaws.{told}
 use Rattle.sets.proofs.FlagLaws.{First, first}
-use Rattle.quick_records.proofs.RecordLaws.{Standing, stand-first, stand-next, stand-end}
+use Rattle.quick_records.proofs.RecordLaws.{Standing, stand_first, stand_next, stand_end}
 use Rattle.quick_records.proofs.record.later_items.Statement.{statement}
 use Rattle.quick_records.proofs.record.later_items.Tie as tie
 
@@ -22,7 +22,7 @@ abbrev decreases-loop : tie.decreases-loop
 decreases-loop steps profile bits part left₀ rest₀ left rest = left
 
 loop-holds : tie.Need-loop-init invariant-loop decreases-loop
-loop-holds c = stand-first _ _ _ c.before.requires.2
+loop-holds c = stand_first _ _ _ c.before.requires.2
 
 -- the item with the highest bit that is left
 of : (c : tie.In-loop invariant-loop decreases-loop) → First c.before.loop.left (count_leading_zeros 64 c.before.loop.left)
@@ -37,11 +37,11 @@ quick-item-requires c κs = c.before.before.before.requires.0
 returns : tie.Need-returns invariant-loop decreases-loop
 returns c = search rules
 
-item : (c : tie.Else1 invariant-loop decreases-loop) → checkAt c.before.before.before.before.before.args.profile (count_leading_zeros 64 c.before.before.before.loop.left) c.before.before.before.loop.rest.now ≡ ok c.before.quick-item.result
+item : (c : tie.Else1 invariant-loop decreases-loop) → check_at c.before.before.before.before.before.args.profile (count_leading_zeros 64 c.before.before.before.loop.left) c.before.before.before.loop.rest.now ≡ ok c.before.quick-item.result
 item c = told _ _ c.before.quick-item.ensures c.if1.false
 
 within : (c : tie.Else1 invariant-loop decreases-loop) → c.before.quick-item.result ≤ length c.before.before.before.loop.rest.now
-within c = check-within _ _ _ _ (item c)
+within c = check_within _ _ _ _ (item c)
 
 sub-rest : tie.Need-overflow-sub-rest invariant-loop decreases-loop
 sub-rest c = within c
@@ -65,7 +65,7 @@ loop-less : tie.Need-loop-smaller invariant-loop decreases-loop
 loop-less c = omega (arith, there c, c.weight.ensures, pow_pos (63 - count_leading_zeros 64 c.before.before.before.before.before.loop.left))
 
 loop-again : tie.Need-loop-preserved invariant-loop decreases-loop
-loop-again c = rw c.weight.ensures (stand-next _ _ _ _ _ c.before.before.before.before.before.loop.invariant _ (of c.before.before.before.before) _ (item c.before.before))
+loop-again c = rw c.weight.ensures (stand_next _ _ _ _ _ c.before.before.before.before.before.loop.invariant _ (of c.before.before.before.before) _ (item c.before.before))
 
 sub-result : tie.Need-overflow-sub-result invariant-loop decreases-loop
 sub-result c = omega (arith, c.before.loop.invariant.fewer)
@@ -74,7 +74,7 @@ add-result : tie.Need-overflow-add-result invariant-loop decreases-loop
 add-result c = record { fits = omega (arith, c.before.before.before.requires.3) }
 
 returns-2 : tie.Need-returns-2 invariant-loop decreases-loop
-returns-2 c = stand-end _ _ _ _ _ _ c.before.loop.invariant c.loop-test.false refl
+returns-2 c = stand_end _ _ _ _ _ _ c.before.loop.invariant c.loop-test.false refl
 
 pub later-items-spec : {M : Type 1} → statement M
 later-items-spec =

@@ -2,8 +2,8 @@
 use mathlib.Core.Path.{refl}
 use native.Mathlib.Omega.{arith}
 use borrow.Author.Rules.{rules}
-use Rattle.sets.proofs.SetLaws.{octets-all}
-use Rattle.quick_records.proofs.RecordLaws.{later-within, pass-three, pass-sum}
+use Rattle.sets.proofs.SetLaws.{octets_all}
+use Rattle.quick_records.proofs.RecordLaws.{later_within, pass_three, pass_sum}
 use Rattle.quick_records.proofs.record.quick_items.Statement.{statement}
 use Rattle.quick_records.proofs.record.quick_items.Tie as tie
 
@@ -41,13 +41,13 @@ returns-2 : tie.Need-returns-2
 returns-2 c = search rules
 
 add-result : tie.Need-overflow-add-result
-add-result c = record { fits = omega (arith, later-within _ _ _ _ c.before.later-items.ensures c.if3.false, c.before.before.before.before.before.before.before.before.requires.6, c.before.before.later-items-arg.given.2) }
+add-result c = record { fits = omega (arith, later_within _ _ _ _ c.before.later-items.ensures c.if3.false, c.before.before.before.before.before.before.before.before.requires.6, c.before.before.later-items-arg.given.2) }
 
 sub-result : tie.Need-overflow-sub-result
 sub-result c = search rules
 
 returns-3 : tie.Need-returns-3
-returns-3 c = pass-three _ _ _ c.before.before.before.before.before.before.before.before.requires.2 c.before.before.before.before.before.before.before.before.requires.3 (octets-all c.before.before.before.before.before.before.before.before.args.part.now c.before.before.before.before.before.before.before.shared-slice-known.given) c.before.before.before.before.before.before.before.before.requires.5 _ _ c.before.before.before.before.before.before.before.before.requires.4 c.before.before.before.if2.false c.before.later-items.ensures c.if3.false
+returns-3 c = pass_three _ _ _ c.before.before.before.before.before.before.before.before.requires.2 c.before.before.before.before.before.before.before.before.requires.3 (octets_all c.before.before.before.before.before.before.before.before.args.part.now c.before.before.before.before.before.before.before.shared-slice-known.given) c.before.before.before.before.before.before.before.before.requires.5 _ _ c.before.before.before.before.before.before.before.before.requires.4 c.before.before.before.if2.false c.before.later-items.ensures c.if3.false
 
 returns-4 : tie.Need-returns-4
 returns-4 c = search rules
@@ -68,14 +68,14 @@ returns-5 : tie.Need-returns-5
 returns-5 c = search rules
 
 add-result-2 : tie.Need-overflow-add-result-2
-add-result-2 c = record { fits = omega (arith, later-within _ _ _ _ c.before.later-items2.ensures c.if5.false, c.before.before.before.before.before.before.before.before.requires.6, c.before.before.later-items-arg2.given.2, c.before.before.before.before.before.octet.ensures.1) }
+add-result-2 c = record { fits = omega (arith, later_within _ _ _ _ c.before.later-items2.ensures c.if5.false, c.before.before.before.before.before.before.before.before.requires.6, c.before.before.later-items-arg2.given.2, c.before.before.before.before.before.octet.ensures.1) }
 
 sub-result-2 : tie.Need-overflow-sub-result-2
 sub-result-2 c = search rules
 
 returns-6 : tie.Need-returns-6
 returns-6 c =
-    pass-sum _ _ _ c.before.before.before.before.before.before.before.before.requires.2 c.before.before.before.before.before.before.before.before.requires.3 (octets-all c.before.before.before.before.before.before.before.before.args.part.now c.before.before.before.before.before.before.before.shared-slice-known.given) c.before.before.before.before.before.before.before.before.requires.5 _ _ _ _ c.before.before.before.before.before.before.before.before.requires.1 refl c.before.before.before.before.before.octet.ensures.0 c.before.before.before.before.if1.false c.before.before.before.if4.false
+    pass_sum _ _ _ c.before.before.before.before.before.before.before.before.requires.2 c.before.before.before.before.before.before.before.before.requires.3 (octets_all c.before.before.before.before.before.before.before.before.args.part.now c.before.before.before.before.before.before.before.shared-slice-known.given) c.before.before.before.before.before.before.before.before.requires.5 _ _ _ _ c.before.before.before.before.before.before.before.before.requires.1 refl c.before.before.before.before.before.octet.ensures.0 c.before.before.before.before.if1.false c.before.before.before.if4.false
     c.before.later-items2.ensures c.if5.false
 
 pub quick-items-spec : {M : Type 1} → statement M

@@ -6,10 +6,10 @@ use native.Mathlib.Omega.{arith}
 use lib.ListN.{length}
 use borrow.Author.Rules.{rules}
 use Rattle.rules.specs.Answer.{ok}
-use Rattle.sets.specs.Answers.{setOf}
-use Rattle.quick_records.specs.Record.{hasFront, frontOctets, type_at, end_at}
-use Rattle.sets.proofs.UsableLaws.{set-bounds}
-use Rattle.quick_records.proofs.RecordLaws.{front-there, front_read, place_read, type-within, tell, right, quick-whole, end-within}
+use Rattle.sets.specs.Answers.{set_of}
+use Rattle.quick_records.specs.Record.{has_front, front_octets, type_at, end_at}
+use Rattle.sets.proofs.UsableLaws.{set_bounds}
+use Rattle.quick_records.proofs.RecordLaws.{front_there, front_read, place_read_lem, type_within, tell, right, quick_whole, end_within}
 use Rattle.quick_records.proofs.record.quick_record.Statement.{statement}
 use Rattle.quick_records.proofs.record.quick_record.Tie as tie
 
@@ -32,10 +32,10 @@ returns-2 : tie.Need-returns-2
 returns-2 c = search rules
 
 -- the front that the table has for the profile
-fronted : (c : tie.Else2) → hasFront c.before.before.before.before.before.args.profile ≡ true
-fronted c = front-there c.before.before.before.before.before.args.types.now _ c.before.before.before.before.before.requires.1 c.before.before.before.if1.false c.before.octet.ensures.0 c.if2.false
+fronted : (c : tie.Else2) → has_front c.before.before.before.before.before.args.profile ≡ true
+fronted c = front_there c.before.before.before.before.before.args.types.now _ c.before.before.before.before.before.requires.1 c.before.before.before.if1.false c.before.octet.ensures.0 c.if2.false
 
-front : (c : tie.Else2) → c.before.octet.result ≡ frontOctets c.before.before.before.before.before.args.profile
+front : (c : tie.Else2) → c.before.octet.result ≡ front_octets c.before.before.before.before.before.args.profile
 front c = front_read c.before.before.before.before.before.args.types.now _ c.before.before.before.before.before.requires.1 c.before.before.before.if1.false c.before.octet.ensures.0 c.if2.false
 
 from-octets-requires : tie.Need-from-octets-requires
@@ -51,7 +51,7 @@ returns-3 : tie.Need-returns-3
 returns-3 c = search rules
 
 bounds : (c : tie.After-known-told) → (c.before.set.given.0.0.bits < 2 ^ 63) × (c.before.set.given.0.1.0 ≤ length c.before.before.before.before.before.before.before.before.before.args.part.now)
-bounds c = set-bounds _ _ _ _ (sym c.before.before.before.from-octets.ensures ∙ ap setOf c.before.set.given.1)
+bounds c = set_bounds _ _ _ _ (sym c.before.before.before.from-octets.ensures ∙ ap set_of c.before.set.given.1)
 
 sub-items : tie.Need-overflow-sub-items
 sub-items c = (bounds c).1
@@ -79,10 +79,10 @@ octet-requires-2 c κs = search rules
 
 -- where the table has the message type
 place : (c : tie.After-octet2) → c.octet2.result ≡ type_at c.before.before.before.before.before.before.before.before.before.before.before.before.before.before.args.profile
-place c = c.octet2.ensures.0 ∙ place_read c.before.before.before.before.before.before.before.before.before.before.before.before.before.before.args.types.now _ c.before.before.before.before.before.before.before.before.before.before.before.before.before.before.requires.1 c.before.before.before.before.before.before.before.before.before.before.before.before.if1.false c.before.before.before.before.before.before.before.before.before.before.octet.ensures.0 c.before.before.before.before.before.before.before.before.before.if2.false
+place c = c.octet2.ensures.0 ∙ place_read_lem c.before.before.before.before.before.before.before.before.before.before.before.before.before.before.args.types.now _ c.before.before.before.before.before.before.before.before.before.before.before.before.before.before.requires.1 c.before.before.before.before.before.before.before.before.before.before.before.before.if1.false c.before.before.before.before.before.before.before.before.before.before.octet.ensures.0 c.before.before.before.before.before.before.before.before.before.if2.false
 
 shared-slice-read-is-content : tie.Need-shared-slice-read-is-content
-shared-slice-read-is-content c = omega (arith, place c.before, front c.before.before.before.before.before.before.before.before.before.before, type-within _ (fronted c.before.before.before.before.before.before.before.before.before.before), c.before.before.before.before.if3.false)
+shared-slice-read-is-content c = omega (arith, place c.before, front c.before.before.before.before.before.before.before.before.before.before, type_within _ (fronted c.before.before.before.before.before.before.before.before.before.before), c.before.before.before.before.if3.false)
 
 is-content-requires : tie.Need-is-content-requires
 is-content-requires c κs = (c.before.before.before.before.before.before.before.before.before.before.before.before.before.before.before.requires.1, c.before.before.before.before.before.before.before.before.before.before.before.before.before.before.before.requires.2, c.before.before.before.before.before.before.before.before.before.before.before.before.before.if1.false, fronted c.before.before.before.before.before.before.before.before.before.before, c.before.before.before.if4.false)
@@ -98,11 +98,11 @@ returns-7 c = search rules
 
 whole : (c : tie.Else6) → end_at c.before.before.before.before.before.before.before.before.before.before.before.before.before.before.before.before.before.before.before.args.profile 0 c.before.before.before.before.before.before.before.before.before.before.before.before.before.before.before.before.before.before.before.args.part.now ≡ ok (c.before.before.before.before.before.before.before.before.before.before.before.set.given.0.1.0 + c.before.quick-items.result)
 whole c =
-    quick-whole _ _ c.before.before.before.before.before.before.before.before.before.before.before.before.before.before.before.before.before.before.shared-slice-known.given c.before.before.before.before.before.before.before.before.before.before.before.before.before.before.before.before.before.before.before.requires.3 _ _ _ _ c.before.before.before.before.before.before.before.before.before.before.before.before.before.from-octets.ensures c.before.before.before.before.before.before.before.before.before.before.before.set.given.1
+    quick_whole _ _ c.before.before.before.before.before.before.before.before.before.before.before.before.before.before.before.before.before.before.shared-slice-known.given c.before.before.before.before.before.before.before.before.before.before.before.before.before.before.before.before.before.before.before.requires.3 _ _ _ _ c.before.before.before.before.before.before.before.before.before.before.before.before.before.from-octets.ensures c.before.before.before.before.before.before.before.before.before.before.before.set.given.1
     _ _ refl (place c.before.before.before.before.before) (right c.before.before.before.is-content.result _ c.before.before.before.is-content.ensures c.before.before.if5.false) c.if6.false c.before.quick-items.ensures
 
 add-result : tie.Need-overflow-add-result
-add-result c = record { fits = omega (arith, end-within _ _ c.before.before.before.before.before.before.before.before.before.before.before.before.before.before.before.before.before.before.shared-slice-known.given c.before.before.before.before.before.before.before.before.before.before.before.before.before.before.before.before.before.before.before.requires.3 _ (whole c), c.before.before.before.before.before.before.before.before.before.before.before.before.before.before.before.before.before.before.before.requires.3) }
+add-result c = record { fits = omega (arith, end_within _ _ c.before.before.before.before.before.before.before.before.before.before.before.before.before.before.before.before.before.before.shared-slice-known.given c.before.before.before.before.before.before.before.before.before.before.before.before.before.before.before.before.before.before.before.requires.3 _ (whole c), c.before.before.before.before.before.before.before.before.before.before.before.before.before.before.before.before.before.before.before.requires.3) }
 
 returns-8 : tie.Need-returns-8
 returns-8 c = tell _ _ (whole c)

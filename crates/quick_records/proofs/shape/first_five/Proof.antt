@@ -1,6 +1,6 @@
 -- `quick_records::shape::first_five` meets its contract. Assumes nothing.
 use native.Mathlib.Omega.{arith}
-use Rattle.quick_records.proofs.ShapeLaws.{five-is}
+use Rattle.quick_records.proofs.ShapeLaws.{five_is}
 use borrow.Author.Rules.{rules}
 use Rattle.quick_records.proofs.shape.first_five.Statement.{statement}
 use Rattle.quick_records.proofs.shape.first_five.Tie as tie
@@ -60,7 +60,7 @@ add-result-4 : tie.Need-overflow-add-result-4
 add-result-4 c = search rules
 
 returns : tie.Need-returns
-returns c = omega (arith, five-is c.before.before.before.before.before.before.before.before.before.before.before.args.part.now c.before.before.before.before.before.before.before.before.before.before.before.requires, c.before.before.before.before.before.before.before.before.octet.ensures.0, c.before.before.before.before.before.before.octet2.ensures.0, c.before.before.before.before.octet3.ensures.0, c.before.before.octet4.ensures.0, c.octet5.ensures.0)
+returns c = omega (arith, five_is c.before.before.before.before.before.before.before.before.before.before.before.args.part.now c.before.before.before.before.before.before.before.before.before.before.before.requires, c.before.before.before.before.before.before.before.before.octet.ensures.0, c.before.before.before.before.before.before.octet2.ensures.0, c.before.before.before.before.octet3.ensures.0, c.before.before.octet4.ensures.0, c.octet5.ensures.0)
 
 pub first-five-spec : {M : Type 1} → statement M
 first-five-spec =

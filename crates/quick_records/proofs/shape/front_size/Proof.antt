@@ -1,7 +1,7 @@
 -- `quick_records::shape::front_size` meets its contract. Assumes nothing.
 use native.Mathlib.Omega.{arith}
-use Rattle.quick_items.proofs.ItemLaws.{product-fits}
-use Rattle.quick_records.proofs.ShapeLaws.{fronts-of, front-told}
+use Rattle.quick_items.proofs.ItemLaws.{product_fits}
+use Rattle.quick_records.proofs.ShapeLaws.{fronts_of, front_told}
 use borrow.Author.Rules.{rules}
 use Rattle.quick_records.proofs.shape.front_size.Statement.{statement}
 use Rattle.quick_records.proofs.shape.front_size.Tie as tie
@@ -28,10 +28,10 @@ add-size-2 : tie.Need-overflow-add-size-2
 add-size-2 c = search rules
 
 mul-size : tie.Need-overflow-mul-size
-mul-size c = record { fits = omega (arith, product-fits _ c.before.before.before.before.before.args.word c.before.octet.ensures.1) }
+mul-size c = record { fits = omega (arith, product_fits _ c.before.before.before.before.before.args.word c.before.octet.ensures.1) }
 
 add-size-3 : tie.Need-overflow-add-size-3
-add-size-3 c = record { fits = omega (arith, product-fits _ c.before.before.before.before.before.args.word c.before.octet.ensures.1) }
+add-size-3 c = record { fits = omega (arith, product_fits _ c.before.before.before.before.before.args.word c.before.octet.ensures.1) }
 
 returns-3 : tie.Need-returns-3
 returns-3 c = search rules
@@ -71,8 +71,8 @@ is-kept-requires c κs = search rules
 
 returns-4 : tie.Need-returns-4
 returns-4 c =
-    fronts-of c.before.before.before.before.before.before.before.before.before.before.before.before.args.shape c.before.before.before.before.before.before.before.before.before.before.before.before.args.word c.before.before.before.before.before.before.before.before.before.before.before.before.args.rule c.before.before.before.before.before.before.before.before.before.before.before.before.args.part.now _
-    (front-told c.before.before.before.before.before.before.before.before.before.before.before.before.args.shape c.before.before.before.before.before.before.before.before.before.before.before.before.args.word c.before.before.before.before.before.before.before.before.before.before.before.before.args.rule c.before.before.before.before.before.before.before.before.before.before.before.before.args.part.now c.before.before.before.before.before.before.before.before.before.before.if1.false c.before.before.before.before.before.before.if3.false c.before.before.before.before.before.before.before.if2.false c.before.before.before.before.before.before.before.before.octet.ensures.0 c.before.before.before.before.octet2.ensures.0 c.before.before.octet3.ensures.0 c.before.is-kept.ensures c.if4.true)
+    fronts_of c.before.before.before.before.before.before.before.before.before.before.before.before.args.shape c.before.before.before.before.before.before.before.before.before.before.before.before.args.word c.before.before.before.before.before.before.before.before.before.before.before.before.args.rule c.before.before.before.before.before.before.before.before.before.before.before.before.args.part.now _
+    (front_told c.before.before.before.before.before.before.before.before.before.before.before.before.args.shape c.before.before.before.before.before.before.before.before.before.before.before.before.args.word c.before.before.before.before.before.before.before.before.before.before.before.before.args.rule c.before.before.before.before.before.before.before.before.before.before.before.before.args.part.now c.before.before.before.before.before.before.before.before.before.before.if1.false c.before.before.before.before.before.before.if3.false c.before.before.before.before.before.before.before.if2.false c.before.before.before.before.before.before.before.before.octet.ensures.0 c.before.before.before.before.octet2.ensures.0 c.before.before.octet3.ensures.0 c.before.is-kept.ensures c.if4.true)
 
 returns-5 : tie.Need-returns-5
 returns-5 c = search rules

@@ -1,6 +1,6 @@
 -- `quick_records::shape::shaped_record` meets its contract: the shape is one of the table's. Assumes nothing.
 use mathlib.Core.Path.{refl}
-use Rattle.quick_records.proofs.ShapeLaws.{shape-read}
+use Rattle.quick_records.proofs.ShapeLaws.{shape_read}
 use borrow.Author.Rules.{rules}
 use Rattle.quick_records.proofs.shape.shaped_record.Statement.{statement}
 use Rattle.quick_records.proofs.shape.shaped_record.Tie as tie
@@ -29,8 +29,8 @@ element-copy-out-long c = search rules
 long-requires : tie.Need-long-requires
 long-requires c κs = search rules
 
-add-long : tie.Need-overflow-add-long
-add-long c = search rules
+add_long : tie.Need-overflow-add-long
+add_long c = search rules
 
 mul-long-2 : tie.Need-overflow-mul-long-2
 mul-long-2 c = search rules
@@ -63,7 +63,7 @@ element-copy-out-by-shape : tie.Need-element-copy-out-by-shape
 element-copy-out-by-shape c = search rules
 
 by-shape-requires : tie.Need-by-shape-requires
-by-shape-requires c κs = (c.before.before.before.before.before.before.before.before.before.before.before.requires.0, c.before.before.before.before.before.before.before.before.before.before.before.requires.1, shape-read c.before.before.before.before.before.before.before.before.before.before.before.args.sets.now c.before.before.before.before.before.before.before.before.before.before.before.requires.2 _ c.before.before.before.before.before.before.before.slot_of.ensures c.before.before.before.before.before.long.ensures c.before.before.before.long2.ensures c.before.long3.ensures refl, c.before.before.before.before.before.before.before.before.first-five.ensures, c.before.before.before.before.before.before.before.before.before.if1.false, c.before.before.before.before.before.before.before.before.before.before.before.requires.3)
+by-shape-requires c κs = (c.before.before.before.before.before.before.before.before.before.before.before.requires.0, c.before.before.before.before.before.before.before.before.before.before.before.requires.1, shape_read c.before.before.before.before.before.before.before.before.before.before.before.args.sets.now c.before.before.before.before.before.before.before.before.before.before.before.requires.2 _ c.before.before.before.before.before.before.before.slot_of.ensures c.before.before.before.before.before.long.ensures c.before.before.before.long2.ensures c.before.long3.ensures refl, c.before.before.before.before.before.before.before.before.first-five.ensures, c.before.before.before.before.before.before.before.before.before.if1.false, c.before.before.before.before.before.before.before.before.before.before.before.requires.3)
 
 returns-2 : tie.Need-returns-2
 returns-2 c = search rules
@@ -80,7 +80,7 @@ shaped-record-spec =
     mul-long
     element-copy-out-long
     long-requires
-    add-long
+    add_long
     mul-long-2
     element-copy-out-long-2
     long-requires-2

@@ -2,8 +2,8 @@
 use mathlib.Core.Path.{sym, ap, ◌∙◌}
 use borrow.Author.Rules.{rules}
 use Rattle.recordings.specs.Feed.{fed}
-use Rattle.recordings.specs.Answers.{countsOf, state_of}
-use Rattle.recordings.proofs.FeedLaws.{fed-stop, fed-on, fed-off}
+use Rattle.recordings.specs.Answers.{counts_of, state_of}
+use Rattle.recordings.proofs.FeedLaws.{fed_stop, fed_on, fed_off}
 use Rattle.recordings.proofs.RecordingState.feed.Statement.{statement}
 use Rattle.recordings.proofs.RecordingState.feed.Tie as tie
 
@@ -14,7 +14,7 @@ enum_told : tie.Need-enum-told
 enum_told c = search rules
 
 returns : tie.Need-returns
-returns c = ap state_of c.enum_told.given.1 ∙ sym (ap (λ s. fed s c.before.before.before.args.piece.now) (ap state_of c.enum_told.given.1) ∙ fed-stop _ _ _)
+returns c = ap state_of c.enum_told.given.1 ∙ sym (ap (λ s. fed s c.before.before.before.args.piece.now) (ap state_of c.enum_told.given.1) ∙ fed_stop _ _ _)
 
 check-recording-requires : tie.Need-check-recording-requires
 check-recording-requires c κs = search rules
@@ -39,11 +39,11 @@ add-requires-4 c κs = search rules
 
 returns-2 : tie.Need-returns-2
 returns-2 c =
-    fed-on _ _ _ _ _ _ _ (ap state_of c.before.before.before.before.before.before.before.before.state.given.1) (sym c.before.before.before.before.before.before.check-recording.ensures ∙ ap countsOf c.before.before.before.before.checked.given.1) c.before.before.add.ensures c.before.add2.ensures c.add3.ensures
+    fed_on _ _ _ _ _ _ _ (ap state_of c.before.before.before.before.before.before.before.before.state.given.1) (sym c.before.before.before.before.before.before.check-recording.ensures ∙ ap counts_of c.before.before.before.before.checked.given.1) c.before.before.add.ensures c.before.add2.ensures c.add3.ensures
 
 returns-3 : tie.Need-returns-3
 returns-3 c =
-    fed-off _ _ _ _ _ _ (ap state_of c.before.before.before.before.before.before.state.given.1) (sym c.before.before.before.before.check-recording.ensures ∙ ap countsOf c.before.before.checked2.given.1) c.add4.ensures
+    fed_off _ _ _ _ _ _ (ap state_of c.before.before.before.before.before.before.state.given.1) (sym c.before.before.before.before.check-recording.ensures ∙ ap counts_of c.before.before.checked2.given.1) c.add4.ensures
 
 pub feed-spec : {M : Type 1} → statement M
 feed-spec =

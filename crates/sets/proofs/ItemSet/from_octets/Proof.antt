@@ -4,15 +4,15 @@ use mathlib.Core.Path.{◌≡◌, sym, ◌∙◌}
 use native.Mathlib.Omega.{arith}
 use borrow.Author.Rules.{rules}
 use Rattle.sets.specs.Sets.{set_at}
-use Rattle.sets.specs.Steps.{setFrom}
-use Rattle.sets.proofs.ProfileLaws.{profile-short}
-use Rattle.sets.proofs.SetLaws.{octets-all, set-begin, set-cut, set_past, set_last, set_more, set_room}
+use Rattle.sets.specs.Steps.{set_from}
+use Rattle.sets.proofs.ProfileLaws.{profile_short}
+use Rattle.sets.proofs.SetLaws.{octets_all, set_begin, set_cut, set_past, set_last, set_more, set_room}
 use Rattle.sets.proofs.ItemSet.from_octets.Statement.{statement}
 use Rattle.sets.proofs.ItemSet.from_octets.Tie as tie
 
 abbrev invariant-loop : tie.invariant-loop
 invariant-loop profile part most rest₀ bits₀ used₀ rest bits used =
-    (used ≤ most) × (most ≤ 8) × (bits + 2 ^ (63 - 7 * used) ≤ 2 ^ 63) × (setFrom profile (most - used) rest bits used ≡ set_at profile part)
+    (used ≤ most) × (most ≤ 8) × (bits + 2 ^ (63 - 7 * used) ≤ 2 ^ 63) × (set_from profile (most - used) rest bits used ≡ set_at profile part)
 
 abbrev decreases-loop : tie.decreases-loop
 decreases-loop profile part most rest₀ bits₀ used₀ rest bits used = most - used
@@ -21,10 +21,10 @@ fspec-most-requires : tie.Need-fspec-most-requires invariant-loop decreases-loop
 fspec-most-requires c κs = search rules
 
 loop-holds : tie.Need-loop-init invariant-loop decreases-loop
-loop-holds c = (omega arith, omega (arith, profile-short c.before.before.args.profile, c.fspec-most.ensures), omega arith, set-begin _ _ _ c.fspec-most.ensures (octets-all c.before.before.args.part.now c.before.shared-slice-known.given))
+loop-holds c = (omega arith, omega (arith, profile_short c.before.before.args.profile, c.fspec-most.ensures), omega arith, set_begin _ _ _ c.fspec-most.ensures (octets_all c.before.before.args.part.now c.before.shared-slice-known.given))
 
 returns : tie.Need-returns invariant-loop decreases-loop
-returns c = sym (set-cut _ _ _ _ _ c.before.loop-test.true c.if1.true) ∙ c.before.before.loop.invariant.3
+returns c = sym (set_cut _ _ _ _ _ c.before.loop-test.true c.if1.true) ∙ c.before.before.loop.invariant.3
 
 shared-slice-read-wide : tie.Need-shared-slice-read-wide invariant-loop decreases-loop
 shared-slice-read-wide c = omega arith

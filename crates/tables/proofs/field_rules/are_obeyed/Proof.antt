@@ -3,7 +3,7 @@ use Prim.Native.Nat.{◌-◌}
 use mathlib.Core.Path.{refl}
 use native.Mathlib.Omega.{arith}
 use borrow.Author.Tests.{not-true, not-false}
-use Rattle.tables.proofs.RuleLaws.{Asking, asked-bad, asked-good, asked-none}
+use Rattle.tables.proofs.RuleLaws.{Asking, asked_bad, asked_good, asked_none}
 use Rattle.tables.proofs.field_rules.are_obeyed.Statement.{statement}
 use Rattle.tables.proofs.field_rules.are_obeyed.Tie as tie
 
@@ -20,7 +20,7 @@ is-obeyed-requires : tie.Need-is-obeyed-requires invariant-loop decreases-loop
 is-obeyed-requires c κs = omega arith
 
 returns : tie.Need-returns invariant-loop decreases-loop
-returns c = asked-bad _ _ _ _ c.before.before.before.loop.invariant c.before.before.loop-test.true c.before.before.before.before.requires c.before.is-obeyed.ensures (not-true _ c.if1.true)
+returns c = asked_bad _ _ _ _ c.before.before.before.loop.invariant c.before.before.loop-test.true c.before.before.before.before.requires c.before.is-obeyed.ensures (not-true _ c.if1.true)
 
 add-i : tie.Need-overflow-add-i invariant-loop decreases-loop
 add-i c = omega arith
@@ -29,10 +29,10 @@ loop-less : tie.Need-loop-smaller invariant-loop decreases-loop
 loop-less c = omega arith
 
 loop-again : tie.Need-loop-preserved invariant-loop decreases-loop
-loop-again c = asked-good _ _ _ _ c.before.before.before.loop.invariant c.before.before.loop-test.true c.before.before.before.before.requires c.before.is-obeyed.ensures (not-false _ c.if1.false)
+loop-again c = asked_good _ _ _ _ c.before.before.before.loop.invariant c.before.before.loop-test.true c.before.before.before.before.requires c.before.is-obeyed.ensures (not-false _ c.if1.false)
 
 returns-2 : tie.Need-returns-2 invariant-loop decreases-loop
-returns-2 c = asked-none _ _ _ _ c.before.loop.invariant c.loop-test.false c.before.before.requires
+returns-2 c = asked_none _ _ _ _ c.before.loop.invariant c.loop-test.false c.before.before.requires
 
 pub are-obeyed-spec : {M : Type 1} → statement M
 are-obeyed-spec =

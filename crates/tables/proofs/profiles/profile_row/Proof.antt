@@ -4,9 +4,9 @@ use borrow.Author.Rules.{rules}
 use Rattle.rules.specs.Answer.{if◌then◌else◌}
 use Rattle.rules.specs.Presence.{number}
 use Rattle.rules.specs.Catalogue.{categories}
-use Rattle.tables.specs.Places.{frnAs}
-use Rattle.tables.specs.Profiles.{bits_of, profileRowAt}
-use Rattle.tables.proofs.ProfileLaws.{row-past}
+use Rattle.tables.specs.Places.{frn_as}
+use Rattle.tables.specs.Profiles.{bits_of, profile_row_at}
+use Rattle.tables.proofs.ProfileLaws.{row_past}
 use Rattle.tables.proofs.profiles.profile_row.Statement.{statement}
 use Rattle.tables.proofs.profiles.profile_row.Tie as tie
 
@@ -32,12 +32,12 @@ array-read-t27 : tie.Need-array-read-t27
 array-read-t27 c = search rules
 
 returns : tie.Need-returns
-unfolding profileRowAt categories bits_of number frnAs if◌then◌else◌
+unfolding profile_row_at categories bits_of number frn_as if◌then◌else◌
 returns c = refl
 
 returns-2 : tie.Need-returns-2
 unfolding categories
-returns-2 c = row-past _ c.if1.false
+returns-2 c = row_past _ c.if1.false
 
 pub profile-row-spec : {M : Type 1} → statement M
 profile-row-spec =

@@ -1,6 +1,6 @@
--- `tables::tables::group_at` meets its contract: the row is read from its digits. Assumes nothing.
+-- `tables::tables::group_at_lem` meets its contract: the row is read from its digits. Assumes nothing.
 use mathlib.Core.Path.{ap, ◌∙◌}
-use Rattle.tables.proofs.TableLaws.{groupDigits, group-digits}
+use Rattle.tables.proofs.TableLaws.{group_digits, group_digits_lem}
 use borrow.Author.Rules.{rules}
 use Rattle.tables.proofs.tables.group_at.Statement.{statement}
 use Rattle.tables.proofs.tables.group_at.Tie as tie
@@ -24,7 +24,7 @@ cast-t12 : tie.Need-overflow-cast-t12
 cast-t12 c = search rules
 
 returns : tie.Need-returns
-returns c = ap groupDigits c.group-word.ensures ∙ group-digits c.before.args.place c.before.requires
+returns c = ap group_digits c.group-word.ensures ∙ group_digits_lem c.before.args.place c.before.requires
 
 pub group-at-spec : {M : Type 1} → statement M
 group-at-spec =

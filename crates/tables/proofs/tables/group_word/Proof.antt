@@ -1,8 +1,8 @@
 -- `tables::tables::group_word` meets its contract: the code's table, in two parts, is, row by row, the one that the rules' profiles give. Assumes nothing.
 use borrow.Author.Rules.{rules}
 use Rattle.rules.specs.Catalogue.{categories}
-use Rattle.tables.specs.Tables.{groupWords, groups, layouts}
-use Rattle.tables.proofs.TableLaws.{first_part, last-part}
+use Rattle.tables.specs.Tables.{group_words, groups, layouts}
+use Rattle.tables.proofs.TableLaws.{first_part, last_part}
 use Rattle.tables.proofs.tables.group_word.Statement.{statement}
 use Rattle.tables.proofs.tables.group_word.Tie as tie
 
@@ -14,8 +14,8 @@ array-read-result c = search rules
 
 -- a row of the categories before the last
 returns : tie.Need-returns
-unfolding groupWords groups layouts categories
-returns c = first_part _ groupWords _ c.if1.true
+unfolding group_words groups layouts categories
+returns c = first_part _ group_words _ c.if1.true
 
 mul-result-2 : tie.Need-overflow-mul-result-2
 unfolding groups layouts categories
@@ -27,8 +27,8 @@ array-read-result-2 c = search rules
 
 -- one of the last
 returns-2 : tie.Need-returns-2
-unfolding groupWords groups layouts categories
-returns-2 c = last-part _ groupWords _ c.if1.false
+unfolding group_words groups layouts categories
+returns-2 c = last_part _ group_words _ c.if1.false
 
 pub group-word-spec : {M : Type 1} → statement M
 group-word-spec = tie.close (tie.spec mul-result array-read-result returns mul-result-2 array-read-result-2 returns-2)

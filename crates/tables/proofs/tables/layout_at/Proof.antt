@@ -1,6 +1,6 @@
 -- `tables::tables::layout_at` meets its contract: the row is read from its digits. Assumes nothing.
 use mathlib.Core.Path.{ap, ◌∙◌}
-use Rattle.tables.proofs.TableLaws.{layoutDigits, layout-digits}
+use Rattle.tables.proofs.TableLaws.{layout_digits, layout_digits_lem}
 use borrow.Author.Rules.{rules}
 use Rattle.tables.proofs.tables.layout_at.Statement.{statement}
 use Rattle.tables.proofs.tables.layout_at.Tie as tie
@@ -27,7 +27,7 @@ add-t14 : tie.Need-overflow-add-t14
 add-t14 c = search rules
 
 returns : tie.Need-returns
-returns c = ap layoutDigits c.layout-word.ensures ∙ layout-digits c.before.args.place c.before.requires
+returns c = ap layout_digits c.layout-word.ensures ∙ layout_digits_lem c.before.args.place c.before.requires
 
 pub layout-at-spec : {M : Type 1} → statement M
 layout-at-spec =

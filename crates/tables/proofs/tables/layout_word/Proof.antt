@@ -1,8 +1,8 @@
 -- `tables::tables::layout_word` meets its contract: the code's table, in two parts, is, row by row, the one that the rules' profiles give. Assumes nothing.
 use borrow.Author.Rules.{rules}
 use Rattle.rules.specs.Catalogue.{categories}
-use Rattle.tables.specs.Tables.{layoutWords, layouts}
-use Rattle.tables.proofs.TableLaws.{first_part, last-part}
+use Rattle.tables.specs.Tables.{layout_words, layouts}
+use Rattle.tables.proofs.TableLaws.{first_part, last_part}
 use Rattle.tables.proofs.tables.layout_word.Statement.{statement}
 use Rattle.tables.proofs.tables.layout_word.Tie as tie
 
@@ -14,8 +14,8 @@ array-read-result c = search rules
 
 -- a row of the categories before the last
 returns : tie.Need-returns
-unfolding layoutWords layouts categories
-returns c = first_part _ layoutWords _ c.if1.true
+unfolding layout_words layouts categories
+returns c = first_part _ layout_words _ c.if1.true
 
 mul-result-2 : tie.Need-overflow-mul-result-2
 unfolding layouts categories
@@ -27,8 +27,8 @@ array-read-result-2 c = search rules
 
 -- one of the last
 returns-2 : tie.Need-returns-2
-unfolding layoutWords layouts categories
-returns-2 c = last-part _ layoutWords _ c.if1.false
+unfolding layout_words layouts categories
+returns-2 c = last_part _ layout_words _ c.if1.false
 
 pub layout-word-spec : {M : Type 1} → statement M
 layout-word-spec = tie.close (tie.spec mul-result array-read-result returns mul-result-2 array-read-result-2 returns-2)

@@ -1,5 +1,5 @@
 -- `tables::tables::primary_at` meets its contract. Assumes nothing.
-use Rattle.tables.specs.Tables.{primaryAt}
+use Rattle.tables.specs.Tables.{primary_at}
 use borrow.Author.Rules.{rules}
 use Rattle.tables.proofs.tables.primary_at.Statement.{statement}
 use Rattle.tables.proofs.tables.primary_at.Tie as tie
@@ -8,7 +8,7 @@ primary-in-requires : tie.Need-primary-in-requires
 primary-in-requires c κs = search rules
 
 returns : tie.Need-returns
-unfolding primaryAt
+unfolding primary_at
 returns c = c.primary-in.ensures
 
 pub primary-at-spec : {M : Type 1} → statement M

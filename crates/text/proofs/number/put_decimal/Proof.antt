@@ -1,7 +1,7 @@
 -- `number::put_decimal` meets its contract: the digits that `io::decimal` gives, the fewest, are the number's text. Assumes nothing.
 use Rattle.text.proofs.PageLaws.{instead}
 use mathlib.Core.Path.{◌∙◌}
-use Rattle.text.proofs.NumberLaws.{text-is}
+use Rattle.text.proofs.NumberLaws.{text_is}
 use borrow.Author.Rules.{rules}
 use Rattle.text.proofs.number.put_decimal.Statement.{statement}
 use Rattle.text.proofs.number.put_decimal.Tie as tie
@@ -32,7 +32,7 @@ same_length c = search rules
 
 -- src/number.rt:8:1
 returns : tie.Need-returns
-returns c = instead _ c.before.before.put-text.ensures (c.before.before.before.before.before.decimal.ensures.1.1 ∙ text-is _ _ c.before.before.before.before.before.decimal.ensures.1.0)
+returns c = instead _ c.before.before.put-text.ensures (c.before.before.before.before.before.decimal.ensures.1.1 ∙ text_is _ _ c.before.before.before.before.before.decimal.ensures.1.0)
 
 pub put-decimal-spec : {M : Type 1} → statement M
 put-decimal-spec =

@@ -2,10 +2,10 @@
 use borrow.Author.Rules.{rules}
 use lib.ListN.{length}
 use Prim.Native.Nat.{◌-◌}
-use Rattle.text.specs.Octet.{octetText, hexText}
+use Rattle.text.specs.Octet.{octet_text, hex_text}
 use Rattle.text.specs.Page.{page, puts}
-use Rattle.text.proofs.OctetLaws.{hex-step, hex-nil, octets-none, octets-some}
-use Rattle.text.proofs.PageLaws.{instead, Spelling, spelling-first, spelling-next, spelling-last}
+use Rattle.text.proofs.OctetLaws.{hex_step, hex_nil, octets_none, octets_some}
+use Rattle.text.proofs.PageLaws.{instead, Spelling, spelling_first, spelling_next, spelling_last}
 use Rattle.text.proofs.octet.put_octets.Statement.{statement}
 use Rattle.text.proofs.octet.put_octets.Tie as tie
 use Rattle.text.proofs.octet.put_octets.Reads as reads
@@ -14,7 +14,7 @@ use Rattle.text.proofs.octet.put_octet.Reads as put-octet-reads
 use Rattle.text.proofs.page.put.Reads as put_reads
 
 abbrev invariant-loop : tie.invariant-loop
-invariant-loop out₀ at octets i₀ p₀ out i p = Spelling hexText octets out₀ (puts (hexText octets) (page out₀ at)) out p i
+invariant-loop out₀ at octets i₀ p₀ out i p = Spelling hex_text octets out₀ (puts (hex_text octets) (page out₀ at)) out p i
 
 abbrev decreases-loop : tie.decreases-loop
 decreases-loop out₀ at octets i₀ p₀ out i p = length octets - i
@@ -29,11 +29,11 @@ same_length c = search rules
 
 -- src/octet.rt:29:9
 returns : tie.Need-returns invariant-loop decreases-loop
-returns c = instead _ c.before.before.put.ensures (octets-none _ c.before.before.before.before.if1.true)
+returns c = instead _ c.before.before.put.ensures (octets_none _ c.before.before.before.before.if1.true)
 
 -- src/octet.rt:33:5
 loop-holds : tie.Need-loop-init invariant-loop decreases-loop
-loop-holds c = spelling-first _ _ _ _
+loop-holds c = spelling_first _ _ _ _
 
 -- src/octet.rt:34:31
 shared-slice-read-put-octet : tie.Need-shared-slice-read-put-octet invariant-loop decreases-loop
@@ -53,7 +53,7 @@ loop-less c = search rules
 
 -- src/octet.rt:33:5
 loop-again : tie.Need-loop-preserved invariant-loop decreases-loop
-loop-again c = spelling-next _ _ _ _ octetText hex-step _ _ _ _ _ 0 c.before.before.before.before.before.before.loop.invariant c.before.before.before.before.before.loop-test.true c.before.before.put-octet.auto.0 c.before.before.put-octet.ensures
+loop-again c = spelling_next _ _ _ _ octet_text hex_step _ _ _ _ _ 0 c.before.before.before.before.before.before.loop.invariant c.before.before.before.before.before.loop-test.true c.before.before.put-octet.auto.0 c.before.before.put-octet.ensures
 
 -- src/octet.rt:25:1
 same-length-2 : tie.Need-same-length-2 invariant-loop decreases-loop
@@ -61,7 +61,7 @@ same-length-2 c = c.before.loop.invariant.size
 
 -- src/octet.rt:25:1
 returns-2 : tie.Need-returns-2 invariant-loop decreases-loop
-returns-2 c = instead _ (spelling-last _ _ _ _ hex-nil _ _ _ c.before.loop.invariant c.loop-test.false) (octets-some _ c.before.before.if1.false)
+returns-2 c = instead _ (spelling_last _ _ _ _ hex_nil _ _ _ c.before.loop.invariant c.loop-test.false) (octets_some _ c.before.before.if1.false)
 
 pub put-octets-spec : {M : Type 1} → statement M
 put-octets-spec =

@@ -1,5 +1,5 @@
 -- `page::put` meets its contract: the test says whether the page has the place. Assumes nothing.
-use Rattle.text.proofs.PageLaws.{put-room, put_full}
+use Rattle.text.proofs.PageLaws.{put_room, put_full}
 use borrow.Author.Rules.{rules}
 use Rattle.text.proofs.page.put.Statement.{statement}
 use Rattle.text.proofs.page.put.Tie as tie
@@ -20,7 +20,7 @@ same_length c = search rules
 
 -- src/page.rt:13:9
 returns : tie.Need-returns
-returns c = put-room _ _ _ c.if1.true
+returns c = put_room _ _ _ c.if1.true
 
 -- src/page.rt:8:1
 returns-2 : tie.Need-returns-2

@@ -2,7 +2,7 @@
 use Rattle.text.specs.Page.{page, puts}
 use mathlib.Core.List.{[], ◌∷◌}
 use mathlib.Core.Path.{refl}
-use Rattle.text.proofs.PageLaws.{Spelling, spelling-first, spelling-next, spelling-last}
+use Rattle.text.proofs.PageLaws.{Spelling, spelling_first, spelling_next, spelling_last}
 use borrow.Author.Rules.{rules}
 use Prim.Native.Nat.{◌-◌}
 use lib.ListN.{length}
@@ -20,7 +20,7 @@ decreases-loop out₀ at text i₀ p₀ out i p = length text - i
 
 -- src/page.rt:24:5
 loop-holds : tie.Need-loop-init invariant-loop decreases-loop
-loop-holds c = spelling-first _ _ _ _
+loop-holds c = spelling_first _ _ _ _
 
 -- src/page.rt:25:25
 shared-slice-read-put : tie.Need-shared-slice-read-put invariant-loop decreases-loop
@@ -40,7 +40,7 @@ loop-less c = search rules
 
 -- src/page.rt:24:5
 loop-again : tie.Need-loop-preserved invariant-loop decreases-loop
-loop-again c = spelling-next _ _ _ _ (λ b. b ∷ []) (λ b bs. refl) _ _ _ _ _ 0 c.before.before.before.before.before.before.loop.invariant c.before.before.before.before.before.loop-test.true c.before.before.put.auto.0 c.before.before.put.ensures
+loop-again c = spelling_next _ _ _ _ (λ b. b ∷ []) (λ b bs. refl) _ _ _ _ _ 0 c.before.before.before.before.before.before.loop.invariant c.before.before.before.before.before.loop-test.true c.before.before.put.auto.0 c.before.before.put.ensures
 
 -- src/page.rt:19:1
 same_length : tie.Need-same-length invariant-loop decreases-loop
@@ -48,7 +48,7 @@ same_length c = c.before.loop.invariant.size
 
 -- src/page.rt:19:1
 returns : tie.Need-returns invariant-loop decreases-loop
-returns c = spelling-last _ _ _ _ refl _ _ _ c.before.loop.invariant c.loop-test.false
+returns c = spelling_last _ _ _ _ refl _ _ _ c.before.loop.invariant c.loop-test.false
 
 pub put-text-spec : {M : Type 1} → statement M
 put-text-spec =

@@ -5,8 +5,8 @@ use mathlib.Core.Path.{sym, subst}
 use native.Mathlib.Omega.{arith}
 use borrow.Author.Rules.{rules}
 use lib.Dec.{ltb}
-use Rattle.writing.proofs.BitTurns.{sub-many}
-use Rattle.writing.proofs.PrimaryTurns.{Filling, filling, fill-all, fill, fill-in, fill-fits, fill-place}
+use Rattle.writing.proofs.BitTurns.{sub_many}
+use Rattle.writing.proofs.PrimaryTurns.{Filling, filling, fill_all, fill, fill_in, fill_fits, fill_place}
 use Rattle.writing.proofs.compound.lay_rows.Statement.{statement}
 use Rattle.writing.proofs.compound.lay_rows.Tie as tie
 
@@ -23,33 +23,33 @@ loop-holds : tie.Need-loop-init invariant-loop decreases-loop
 loop-holds c = filling _ _ _ _ c.layout-at.ensures c.before.before.requires.0.1.1 c.before.before.requires.1
 
 add-lay-row : tie.Need-overflow-add-lay-row invariant-loop decreases-loop
-add-lay-row c = omega (arith, fill-in _ _ _ _ _ _ _ _ _ c.before.loop.invariant c.loop-test.true c.before.before.before.before.requires.0.1.0, sub-many)
+add-lay-row c = omega (arith, fill_in _ _ _ _ _ _ _ _ _ c.before.loop.invariant c.loop-test.true c.before.before.before.before.requires.0.1.0, sub_many)
 
 mul-lay-row : tie.Need-overflow-mul-lay-row invariant-loop decreases-loop
-mul-lay-row c = omega (arith, fill-in _ _ _ _ _ _ _ _ _ c.before.loop.invariant c.loop-test.true c.before.before.before.before.requires.0.1.0, sub-many)
+mul-lay-row c = omega (arith, fill_in _ _ _ _ _ _ _ _ _ c.before.loop.invariant c.loop-test.true c.before.before.before.before.requires.0.1.0, sub_many)
 
 lay-row-requires : tie.Need-lay-row-requires invariant-loop decreases-loop
 lay-row-requires c κs =
     let t = fill _ _ _ _ _ _ _ _ _ c.before.before.loop.invariant c.before.loop-test.true in
-    ((fill-in _ _ _ _ _ _ _ _ _ c.before.before.loop.invariant c.before.loop-test.true c.before.before.before.before.before.requires.0.1.0, t.passes), t.fit)
+    ((fill_in _ _ _ _ _ _ _ _ _ c.before.before.loop.invariant c.before.loop-test.true c.before.before.before.before.before.requires.0.1.0, t.passes), t.fit)
 
 add-mark : tie.Need-overflow-add-mark invariant-loop decreases-loop
-add-mark c = omega (arith, fill-in _ _ _ _ _ _ _ _ _ c.before.before.before.before.before.loop.invariant c.before.before.before.before.loop-test.true c.before.before.before.before.before.before.before.before.requires.0.1.0, sub-many)
+add-mark c = omega (arith, fill_in _ _ _ _ _ _ _ _ _ c.before.before.before.before.before.loop.invariant c.before.before.before.before.loop-test.true c.before.before.before.before.before.before.before.before.requires.0.1.0, sub_many)
 
 mark-requires : tie.Need-mark-requires invariant-loop decreases-loop
 mark-requires c κs =
-    omega (arith, fill-fits _ _ _ _ _ _ _ _ _ c.before.before.before.before.before.loop.invariant c.before.before.before.before.loop-test.true (ltb (c.before.before.before.before.before.loop.row + 1) c.before.before.before.before.before.before.before.before.args.count) c.before.before.lay-row.ensures.1.0)
+    omega (arith, fill_fits _ _ _ _ _ _ _ _ _ c.before.before.before.before.before.loop.invariant c.before.before.before.before.loop-test.true (ltb (c.before.before.before.before.before.loop.row + 1) c.before.before.before.before.before.before.before.before.args.count) c.before.before.lay-row.ensures.1.0)
 
 lay-number-requires : tie.Need-lay-number-requires invariant-loop decreases-loop
 lay-number-requires c κs =
     let i = c.before.before.before.before.before.before.before.loop.invariant in
     let h = c.before.before.before.before.before.before.loop-test.true in (
-      (omega arith, subst (λ x. x < 256) (sym c.before.mark.ensures) (fill-fits _ _ _ _ _ _ _ _ _ i h (ltb (c.before.before.before.before.before.before.before.loop.row + 1) c.before.before.before.before.before.before.before.before.before.before.args.count) c.before.before.before.before.lay-row.ensures.1.0)),
-      fill-place _ _ _ _ _ _ _ _ _ i h c.before.before.before.before.lay-row.ensures.0,
+      (omega arith, subst (λ x. x < 256) (sym c.before.mark.ensures) (fill_fits _ _ _ _ _ _ _ _ _ i h (ltb (c.before.before.before.before.before.before.before.loop.row + 1) c.before.before.before.before.before.before.before.before.before.before.args.count) c.before.before.before.before.lay-row.ensures.1.0)),
+      fill_place _ _ _ _ _ _ _ _ _ i h c.before.before.before.before.lay-row.ensures.0,
     )
 
 add_row : tie.Need-overflow-add-row invariant-loop decreases-loop
-add_row c = omega (arith, fill-in _ _ _ _ _ _ _ _ _ c.before.before.before.before.before.before.before.before.before.before.loop.invariant c.before.before.before.before.before.before.before.before.before.loop-test.true c.before.before.before.before.before.before.before.before.before.before.before.before.before.requires.0.1.0, sub-many)
+add_row c = omega (arith, fill_in _ _ _ _ _ _ _ _ _ c.before.before.before.before.before.before.before.before.before.before.loop.invariant c.before.before.before.before.before.before.before.before.before.loop-test.true c.before.before.before.before.before.before.before.before.before.before.before.before.before.requires.0.1.0, sub_many)
 
 loop-less : tie.Need-loop-smaller invariant-loop decreases-loop
 loop-less c = omega (arith, c.before.before.before.before.before.before.before.before.before.loop-test.true)
@@ -63,7 +63,7 @@ same_length c = c.before.loop.invariant.long
 
 -- all is laid
 returns : tie.Need-returns invariant-loop decreases-loop
-returns c = fill-all _ _ _ _ _ _ _ _ _ c.before.loop.invariant c.loop-test.false
+returns c = fill_all _ _ _ _ _ _ _ _ _ c.before.loop.invariant c.loop-test.false
 
 pub lay-rows-spec : {M : Type 1} → statement M
 lay-rows-spec =

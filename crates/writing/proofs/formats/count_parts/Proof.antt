@@ -4,8 +4,8 @@ use Prim.Native.Nat.{◌+◌, ◌-◌, ◌*◌, ◌≤◌, ◌<◌}
 use mathlib.Core.Path.{sym, ap, ◌∙◌}
 use native.Mathlib.Omega.{arith}
 use borrow.Author.Rules.{rules}
-use Rattle.writing.specs.Write.{packedAs}
-use Rattle.writing.proofs.PartTurns.{Counting, counting, count-all, count-over, part_in, count_no, size_fits, counted}
+use Rattle.writing.specs.Write.{packed_as}
+use Rattle.writing.proofs.PartTurns.{Counting, counting, count_all, count_over, part_in_lem, count_no, size_fits, counted}
 use Rattle.writing.proofs.formats.count_parts.Statement.{statement}
 use Rattle.writing.proofs.formats.count_parts.Tie as tie
 
@@ -16,10 +16,10 @@ abbrev decreases-loop : tie.decreases-loop
 decreases-loop layout values most count₀ size₀ at₀ count size at = most - count
 
 -- the sizes of the parts so far
-fits-at : (c : tie.After-struct-known invariant-loop decreases-loop)
+fits_at : (c : tie.After-struct-known invariant-loop decreases-loop)
     → (c.before.before.before.before.before.before.before.before.before.loop.size + c.before.group_at.result.octets ≤ 8 * (c.before.before.before.before.before.before.before.before.before.loop.count + 1))
     × (c.before.before.before.before.before.before.before.before.before.loop.count < 255)
-fits-at c =
+fits_at c =
     size_fits _ _ _ _ _ _ c.before.before.before.before.before.before.before.before.before.loop.invariant
     c.before.before.before.before.before.before.before.before.loop-test.true c.before.before.before.before.before.before.before.if1.false _
     c.before.before.before.before.before.before.part-group.ensures.1 c.before.group_at.ensures
@@ -35,11 +35,11 @@ loop-holds c =
 -- more values than parts
 returns : tie.Need-returns invariant-loop decreases-loop
 returns c =
-    count-over _ _ _ _ _ _ c.before.before.loop.invariant c.before.loop-test.true c.if1.true
+    count_over _ _ _ _ _ _ c.before.before.loop.invariant c.before.loop-test.true c.if1.true
 
 part-group-requires : tie.Need-part-group-requires invariant-loop decreases-loop
 part-group-requires c κs =
-    (c.before.before.before.before.requires, part_in _ _ _ _ _ _ c.before.before.loop.invariant c.before.loop-test.true c.if1.false)
+    (c.before.before.before.before.requires, part_in_lem _ _ _ _ _ _ c.before.before.loop.invariant c.before.loop-test.true c.if1.false)
 
 pack-part-requires : tie.Need-pack-part-requires invariant-loop decreases-loop
 pack-part-requires c κs =
@@ -54,7 +54,7 @@ returns-2 : tie.Need-returns-2 invariant-loop decreases-loop
 returns-2 c =
     count_no _ _ _ _ _ _ c.before.before.before.before.before.before.before.loop.invariant c.before.before.before.before.before.before.loop-test.true
     c.before.before.before.before.before.if1.false _ c.before.before.before.before.part-group.ensures.1
-    (sym (ap packedAs c.before.number.given.1) ∙ c.before.before.before.pack-part.ensures)
+    (sym (ap packed_as c.before.number.given.1) ∙ c.before.before.before.pack-part.ensures)
 
 enum-known-next : tie.Need-enum-known-next invariant-loop decreases-loop
 enum-known-next c =
@@ -66,11 +66,11 @@ group-at-requires c κs =
 
 add-size : tie.Need-overflow-add-size invariant-loop decreases-loop
 add-size c =
-    omega (arith, fits-at c)
+    omega (arith, fits_at c)
 
 add-count : tie.Need-overflow-add-count invariant-loop decreases-loop
 add-count c =
-    omega (arith, fits-at c)
+    omega (arith, fits_at c)
 
 loop-less : tie.Need-loop-smaller invariant-loop decreases-loop
 loop-less c =
@@ -81,12 +81,12 @@ loop-again c =
     counted _ _ _ _ _ _ c.before.before.before.before.before.before.before.before.before.loop.invariant
     c.before.before.before.before.before.before.before.before.loop-test.true c.before.before.before.before.before.before.before.if1.false _
     c.before.before.before.before.before.before.part-group.ensures.1 c.before.group_at.ensures
-    (sym (ap packedAs c.before.before.before.next.given.1) ∙ c.before.before.before.before.before.pack-part.ensures)
+    (sym (ap packed_as c.before.before.before.next.given.1) ∙ c.before.before.before.before.before.pack-part.ensures)
 
 -- no value is left
 returns-3 : tie.Need-returns-3 invariant-loop decreases-loop
 returns-3 c =
-    count-all _ _ _ _ _ _ c.before.loop.invariant c.loop-test.false
+    count_all _ _ _ _ _ _ c.before.loop.invariant c.loop-test.false
 
 pub count-parts-spec : {M : Type 1} → statement M
 count-parts-spec =

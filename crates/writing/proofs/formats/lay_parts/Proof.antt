@@ -5,8 +5,8 @@ use mathlib.Core.Path.{sym, ap, ◌∙◌, subst}
 use native.Mathlib.Omega.{arith}
 use borrow.Author.Rules.{rules}
 use lib.Dec.{eqb}
-use Rattle.writing.specs.Write.{packedAs}
-use Rattle.writing.proofs.PartTurns.{Placing, placing, group-in, packs, Placed, placed, placed-all}
+use Rattle.writing.specs.Write.{packed_as}
+use Rattle.writing.proofs.PartTurns.{Placing, placing, group_in_lem, packs, Placed, placed, placed_all}
 use Rattle.writing.proofs.formats.lay_parts.Statement.{statement}
 use Rattle.writing.proofs.formats.lay_parts.Tie as tie
 
@@ -31,7 +31,7 @@ placed_at : (c : tie.After-group-at invariant-loop decreases-loop)
 placed_at c =
     placed _ _ _ _ _ _ _ _ _ _ c.before.before.before.before.before.before.before.loop.invariant c.before.before.before.before.before.before.loop-test.true _
     c.before.before.before.before.before.part-group.ensures.1 c.group_at.ensures
-    (sym (ap packedAs c.before.before.number.given.1) ∙ c.before.before.before.before.pack-part.ensures)
+    (sym (ap packed_as c.before.before.number.given.1) ∙ c.before.before.before.before.pack-part.ensures)
 
 layout-at-requires : tie.Need-layout-at-requires invariant-loop decreases-loop
 layout-at-requires c κs =
@@ -43,7 +43,7 @@ loop-holds c =
 
 part-group-requires : tie.Need-part-group-requires invariant-loop decreases-loop
 part-group-requires c κs =
-    (c.before.before.before.before.before.requires.0, group-in _ _ _ _ _ _ _ _ _ _ c.before.loop.invariant c.loop-test.true)
+    (c.before.before.before.before.before.requires.0, group_in_lem _ _ _ _ _ _ _ _ _ _ c.before.loop.invariant c.loop-test.true)
 
 pack-part-requires : tie.Need-pack-part-requires invariant-loop decreases-loop
 pack-part-requires c κs =
@@ -60,13 +60,13 @@ enum_told c =
 same_length : tie.Need-same-length invariant-loop decreases-loop
 same_length c =
     packs _ _ _ _ _ _ _ _ _ _ c.before.before.before.before.before.loop.invariant c.before.before.before.before.loop-test.true _
-    c.before.before.before.part-group.ensures.1 (sym (ap packedAs c.enum_told.given.1) ∙ c.before.before.pack-part.ensures)
+    c.before.before.before.part-group.ensures.1 (sym (ap packed_as c.enum_told.given.1) ∙ c.before.before.pack-part.ensures)
 
 -- every part was packed before: this does not happen
 returns : tie.Need-returns invariant-loop decreases-loop
 returns c =
     packs _ _ _ _ _ _ _ _ _ _ c.before.before.before.before.before.loop.invariant c.before.before.before.before.loop-test.true _
-    c.before.before.before.part-group.ensures.1 (sym (ap packedAs c.enum_told.given.1) ∙ c.before.before.pack-part.ensures)
+    c.before.before.before.part-group.ensures.1 (sym (ap packed_as c.enum_told.given.1) ∙ c.before.before.pack-part.ensures)
 
 group-at-requires : tie.Need-group-at-requires invariant-loop decreases-loop
 group-at-requires c κs =
@@ -105,7 +105,7 @@ same-length-2 c =
 -- all parts are laid
 returns-2 : tie.Need-returns-2 invariant-loop decreases-loop
 returns-2 c =
-    placed-all _ _ _ _ _ _ _ _ _ _ c.before.loop.invariant c.loop-test.false
+    placed_all _ _ _ _ _ _ _ _ _ _ c.before.loop.invariant c.loop-test.false
 
 pub lay-parts-spec : {M : Type 1} → statement M
 lay-parts-spec =

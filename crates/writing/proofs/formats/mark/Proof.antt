@@ -1,13 +1,13 @@
 -- `writing::formats::mark` meets its contract: the FX bit is the lowest, and set where another part follows. Assumes nothing.
 use native.Mathlib.Omega.{arith}
-use Rattle.writing.proofs.PartLaws.{marked-plain, marked_more, marked-last}
+use Rattle.writing.proofs.PartLaws.{marked_plain, marked_more, marked_last}
 use Rattle.writing.proofs.formats.mark.Statement.{statement}
 use Rattle.writing.proofs.formats.mark.Tie as tie
 
 -- no FX bit
 returns : tie.Need-returns
 returns c =
-    marked-plain c.before.args.chained c.before.args.more c.before.args.n c.if1.true
+    marked_plain c.before.args.chained c.before.args.more c.before.args.n c.if1.true
 
 mul-result : tie.Need-overflow-mul-result
 mul-result c =
@@ -24,12 +24,12 @@ returns-2 c =
 
 mul-result-2 : tie.Need-overflow-mul-result-2
 mul-result-2 c =
-    omega (arith, c.before.before.requires, marked-last c.before.before.args.chained c.before.before.args.more c.before.before.args.n c.before.if1.false c.if2.false)
+    omega (arith, c.before.before.requires, marked_last c.before.before.args.chained c.before.before.args.more c.before.before.args.n c.before.if1.false c.if2.false)
 
 -- the last part
 returns-3 : tie.Need-returns-3
 returns-3 c =
-    marked-last c.before.before.args.chained c.before.before.args.more c.before.before.args.n c.before.if1.false c.if2.false
+    marked_last c.before.before.args.chained c.before.before.args.more c.before.before.args.n c.before.if1.false c.if2.false
 
 pub mark_spec : {M : Type 1} → statement M
 mark_spec = tie.close (tie.spec returns mul-result add-result returns-2 mul-result-2 returns-3)

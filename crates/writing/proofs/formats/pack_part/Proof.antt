@@ -5,32 +5,32 @@ use mathlib.Core.Path.{sym, ap, ◌∙◌}
 use native.Mathlib.Omega.{arith}
 use borrow.Author.Rules.{rules}
 use lib.ListN.{length}
-use Rattle.writing.specs.Write.{groupIn, codedAs}
-use Rattle.writing.proofs.PartLaws.{Packing, packing, in_place, Added, turn-spare, turn-value, turn-no, packed_all}
+use Rattle.writing.specs.Write.{group_in, coded_as}
+use Rattle.writing.proofs.PartLaws.{Packing, packing, in_place, Added, turn_spare, turn_value, turn_no, packed_all}
 use Rattle.writing.proofs.formats.pack_part.Statement.{statement}
 use Rattle.writing.proofs.formats.pack_part.Tie as tie
 
 abbrev invariant-loop : tie.invariant-loop
-invariant-loop group values at end i₀ n₀ k₀ i n k = Packing (groupIn group).fields values at end i n k
+invariant-loop group values at end i₀ n₀ k₀ i n k = Packing (group_in group).fields values at end i n k
 
 abbrev decreases-loop : tie.decreases-loop
 decreases-loop group values at end i₀ n₀ k₀ i n k = end - i
 
 -- a value was coded
-value-at : (c : tie.After-known-told2 invariant-loop decreases-loop)
+value_at : (c : tie.After-known-told2 invariant-loop decreases-loop)
     → (c.before.before.before.before.before.before.before.before.loop.k < length c.before.before.before.before.before.before.before.before.before.before.args.values.now)
-    × Added (groupIn c.before.before.before.before.before.before.before.before.before.before.args.group).fields
+    × Added (group_in c.before.before.before.before.before.before.before.before.before.before.args.group).fields
     c.before.before.before.before.before.before.before.before.before.before.args.values.now
     c.before.before.before.before.before.before.before.before.before.before.args.at
     c.before.before.before.before.before.before.before.before.before.group_at.result.end
     c.before.before.before.before.before.before.before.before.loop.i c.before.before.before.before.before.before.before.before.loop.n
     c.before.before.before.before.before.before.before.before.loop.k c.before.before.before.before.before.before.field_at.result.bits
     c.before.code.given.0.0 (c.before.before.before.before.before.before.before.before.loop.k + 1)
-value-at c =
-    turn-value _ _ _ _ _ _ _ c.before.before.before.before.before.before.before.before.loop.invariant
+value_at c =
+    turn_value _ _ _ _ _ _ _ c.before.before.before.before.before.before.before.before.loop.invariant
     c.before.before.before.before.before.before.before.loop-test.true c.before.before.before.before.before.before.field_at.ensures
     c.before.before.before.before.if1.false
-    (sym (ap codedAs c.before.code.given.1) ∙ c.before.before.before.code_at.ensures)
+    (sym (ap coded_as c.before.code.given.1) ∙ c.before.before.before.code_at.ensures)
 
 group-at-requires : tie.Need-group-at-requires invariant-loop decreases-loop
 group-at-requires c κs =
@@ -46,7 +46,7 @@ field-at-requires c κs =
 
 append-bits-requires : tie.Need-append-bits-requires invariant-loop decreases-loop
 append-bits-requires c κs =
-    (turn-spare _ _ _ _ _ _ _ c.before.before.before.before.loop.invariant c.before.before.before.loop-test.true c.before.before.field_at.ensures c.if1.true).fits
+    (turn_spare _ _ _ _ _ _ _ c.before.before.before.before.loop.invariant c.before.before.before.loop-test.true c.before.before.field_at.ensures c.if1.true).fits
 
 add-i : tie.Need-overflow-add-i invariant-loop decreases-loop
 add-i c =
@@ -59,7 +59,7 @@ loop-less c =
 -- a spare field
 loop-again : tie.Need-loop-preserved invariant-loop decreases-loop
 loop-again c =
-    (turn-spare _ _ _ _ _ _ _ c.before.before.before.before.before.loop.invariant c.before.before.before.before.loop-test.true
+    (turn_spare _ _ _ _ _ _ _ c.before.before.before.before.before.loop.invariant c.before.before.before.before.loop-test.true
     c.before.before.before.field_at.ensures c.before.if1.true).next c.append-IsBits.ensures
 
 code-at-requires : tie.Need-code-at-requires invariant-loop decreases-loop
@@ -73,9 +73,9 @@ enum-known-number c =
 -- no value, or one outside its range
 returns : tie.Need-returns invariant-loop decreases-loop
 returns c =
-    turn-no _ _ _ _ _ _ _ c.before.before.before.before.before.before.before.before.loop.invariant c.before.before.before.before.before.before.before.loop-test.true
+    turn_no _ _ _ _ _ _ _ c.before.before.before.before.before.before.before.before.loop.invariant c.before.before.before.before.before.before.before.loop-test.true
     c.before.before.before.before.before.before.field_at.ensures c.before.before.before.before.if1.false
-    (sym (ap codedAs c.before.number.given.1) ∙ c.before.before.before.code_at.ensures)
+    (sym (ap coded_as c.before.number.given.1) ∙ c.before.before.before.code_at.ensures)
 
 enum-known-code : tie.Need-enum-known-code invariant-loop decreases-loop
 enum-known-code c =
@@ -83,11 +83,11 @@ enum-known-code c =
 
 append-bits-requires-2 : tie.Need-append-bits-requires-2 invariant-loop decreases-loop
 append-bits-requires-2 c κs =
-    (value-at c).1.fits
+    (value_at c).1.fits
 
 add-k : tie.Need-overflow-add-k invariant-loop decreases-loop
 add-k c =
-    omega (arith, (value-at c.before).0)
+    omega (arith, (value_at c.before).0)
 
 add-i-2 : tie.Need-overflow-add-i-2 invariant-loop decreases-loop
 add-i-2 c =
@@ -100,7 +100,7 @@ loop-less-2 c =
 -- a value
 loop-again-2 : tie.Need-loop-preserved-2 invariant-loop decreases-loop
 loop-again-2 c =
-    (value-at c.before).1.next c.append-bits2.ensures
+    (value_at c.before).1.next c.append-bits2.ensures
 
 -- all fields are packed
 returns-2 : tie.Need-returns-2 invariant-loop decreases-loop

@@ -2,8 +2,8 @@
 use mathlib.Core.Path.{sym, ap, ◌∙◌}
 use native.Mathlib.Omega.{arith}
 use borrow.Author.Rules.{rules}
-use Rattle.writing.specs.Write.{countedAs}
-use Rattle.writing.proofs.RowLaws.{size-no, size-short, size_few, size-yes}
+use Rattle.writing.specs.Write.{counted_as}
+use Rattle.writing.proofs.RowLaws.{size_no, size_short, size_few, size_yes}
 use Rattle.writing.proofs.formats.size_of.Statement.{statement}
 use Rattle.writing.proofs.formats.size_of.Tie as tie
 
@@ -21,21 +21,21 @@ layout-at-requires c κs = search rules
 
 -- too few parts
 returns : tie.Need-returns
-returns c = size_few _ _ _ _ (sym (ap countedAs c.before.before.before.before.count.given.1) ∙ c.before.before.before.before.before.before.count-parts.ensures) c.before.before.layout-at.ensures c.if1.true
+returns c = size_few _ _ _ _ (sym (ap counted_as c.before.before.before.before.count.given.1) ∙ c.before.before.before.before.before.before.count-parts.ensures) c.before.before.layout-at.ensures c.if1.true
 
 head-size-requires : tie.Need-head-size-requires
 head-size-requires c κs = search rules
 
 add-t12 : tie.Need-overflow-add-t12
-add-t12 c = omega (arith, size-short _ _ _ _ (sym (ap countedAs c.before.before.before.before.before.count.given.1) ∙ c.before.before.before.before.before.before.before.count-parts.ensures), c.head-size.ensures.0)
+add-t12 c = omega (arith, size_short _ _ _ _ (sym (ap counted_as c.before.before.before.before.before.count.given.1) ∙ c.before.before.before.before.before.before.before.count-parts.ensures), c.head-size.ensures.0)
 
 -- as it was handed back
 returns-2 : tie.Need-returns-2
-returns-2 c = size-no _ _ (sym (ap countedAs c.before.number.given.1) ∙ c.before.before.before.count-parts.ensures)
+returns-2 c = size_no _ _ (sym (ap counted_as c.before.number.given.1) ∙ c.before.before.before.count-parts.ensures)
 
 returns-3 : tie.Need-returns-3
 returns-3 c =
-    size-yes _ _ _ _ (sym (ap countedAs c.before.before.before.before.before.count.given.1) ∙ c.before.before.before.before.before.before.before.count-parts.ensures) c.before.before.before.layout-at.ensures c.before.if1.false c.head-size.ensures.1
+    size_yes _ _ _ _ (sym (ap counted_as c.before.before.before.before.before.count.given.1) ∙ c.before.before.before.before.before.before.before.count-parts.ensures) c.before.before.before.layout-at.ensures c.before.if1.false c.head-size.ensures.1
 
 pub size-of-spec : {M : Type 1} → statement M
 size-of-spec =

@@ -1,4 +1,4 @@
--- `writing::write::front_of` meets its contract. The loop's invariant: all numbers from place n on say that something is absent (`Trimming`). The measure
+-- `writing::write::front_of_lem` meets its contract. The loop's invariant: all numbers from place n on say that something is absent (`Trimming`). The measure
 -- is n. Assumes nothing.
 use Prim.Native.Nat.{◌-◌}
 use mathlib.Core.Path.{sym, ◌∙◌}
@@ -6,7 +6,7 @@ use native.Mathlib.Omega.{arith}
 use borrow.Author.Rules.{rules}
 use lib.IntN.{pos}
 use lib.ListN.{get_or}
-use Rattle.writing.proofs.AbsentLaws.{absent-again, Trimming, trimming, trimmed, trim_end, trim-none}
+use Rattle.writing.proofs.AbsentLaws.{absent_again, Trimming, trimming, trimmed, trim_end, trim_none}
 use Rattle.writing.proofs.write.front_of.Statement.{statement}
 use Rattle.writing.proofs.write.front_of.Tie as tie
 
@@ -38,15 +38,15 @@ loop-less : tie.Need-loop-smaller invariant-loop decreases-loop
 loop-less c = omega arith
 
 loop-again : tie.Need-loop-preserved invariant-loop decreases-loop
-loop-again c = trimmed _ _ c.before.before.before.before.loop.invariant c.before.before.before.loop-test.true (sym (absent-again (get_or c.before.before.before.before.before.args.fields.now (c.before.before.before.before.loop.n - 1) (pos 0)) (record { sfits = c.before.before.is-absent-arg.given }) c.before.is-absent.ensures) ∙ c.if1.true)
+loop-again c = trimmed _ _ c.before.before.before.before.loop.invariant c.before.before.before.loop-test.true (sym (absent_again (get_or c.before.before.before.before.before.args.fields.now (c.before.before.before.before.loop.n - 1) (pos 0)) (record { sfits = c.before.before.is-absent-arg.given }) c.before.is-absent.ensures) ∙ c.if1.true)
 
 -- a value
 returns : tie.Need-returns invariant-loop decreases-loop
-returns c = trim_end _ _ c.before.before.before.before.loop.invariant (sym (absent-again (get_or c.before.before.before.before.before.args.fields.now (c.before.before.before.before.loop.n - 1) (pos 0)) (record { sfits = c.before.before.is-absent-arg.given }) c.before.is-absent.ensures) ∙ c.if1.false)
+returns c = trim_end _ _ c.before.before.before.before.loop.invariant (sym (absent_again (get_or c.before.before.before.before.before.args.fields.now (c.before.before.before.before.loop.n - 1) (pos 0)) (record { sfits = c.before.before.is-absent-arg.given }) c.before.is-absent.ensures) ∙ c.if1.false)
 
 -- no value
 returns-2 : tie.Need-returns-2 invariant-loop decreases-loop
-returns-2 c = trim-none _ _ c.before.loop.invariant c.loop-test.false
+returns-2 c = trim_none _ _ c.before.loop.invariant c.loop-test.false
 
 pub front-of-spec : {M : Type 1} → statement M
 front-of-spec =
