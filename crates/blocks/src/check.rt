@@ -15,7 +15,7 @@ use quick_records::{Sets, Types};
 use records::RecordChecked;
 
 // A block's count of records, or a refusal's number and place, counted from the block's start.
-#[derive(Drop)]
+#[derive(Clone, Copy)]
 pub enum BlockChecked {
     Accepted { records: usize },
     Refused { number: u8, place: usize },
@@ -143,7 +143,7 @@ pub fn check_block(block: &[u8]) -> BlockChecked
 }
 
 // The block at the front of a recording: how many bytes it takes and its count of records, or a refusal, its place counted from the block's start.
-#[derive(Drop)]
+#[derive(Clone, Copy)]
 pub enum FrontChecked {
     Block { len: usize, records: usize },
     Refused { number: u8, place: usize },

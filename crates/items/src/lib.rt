@@ -81,7 +81,7 @@ pub fn frn_of(profile: usize, reference: u16) -> FrnFound
 // ---- checking an item
 
 // What checking an item answers.
-#[derive(Drop)]
+#[derive(Clone, Copy)]
 pub enum ItemCheck {
     // Its octets are there and its fields are legal: how many octets it takes.
     Whole(usize),

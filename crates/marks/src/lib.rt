@@ -167,7 +167,7 @@ pub fn both_tallies(low: Tally, high: Tally) -> Tally
 
 // Where marks lie in lent bytes: in one list of whole marks from a place on; or in two, log 0's from there on and log 1's three bytes after it.
 // How many the first list has, and how many there are.
-#[derive(Drop)]
+#[derive(Clone, Copy)]
 pub struct Lists {
     pub split: bool,
     pub base: usize,
@@ -224,7 +224,7 @@ pub fn mark_at(s: &[u8], lists: Lists, i: usize) -> Mark
 // ---- a changed list by its numbers
 
 // What is done to a list of marks.
-#[derive(Drop)]
+#[derive(Clone, Copy)]
 pub enum Change {
     Keep,
     Insert(usize, Mark),

@@ -11,7 +11,7 @@ use walking::{BlockFound, Cursor};
 
 // The record that comes next: the walk at it, whose place is its first byte, how many bytes it has, and its time where it counts as timed. At the
 // recording's end the size is 0 and the place the recording's length.
-#[derive(Drop)]
+#[derive(Clone, Copy)]
 pub struct Standing {
     pub at: Cursor,
     pub size: usize,

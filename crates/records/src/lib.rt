@@ -61,7 +61,7 @@ impl RecordMap {
 }
 
 // What checking a record answers.
-#[derive(Drop)]
+#[derive(Clone, Copy)]
 pub enum RecordChecked {
     // It is whole: where it ends.
     Ends { end: usize },

@@ -13,7 +13,7 @@ use numbers::wide;
 use tables::profile_row;
 
 // A set of FRNs: FRN f, 0 to 63, is bit 63 - f. FRN 0 is none, and no profile has one above 35.
-#[derive(Drop)]
+#[derive(Clone, Copy)]
 pub struct ItemSet {
     pub bits: u64,
 }

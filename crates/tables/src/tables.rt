@@ -12,7 +12,7 @@ pub const TWOS: u8 = 1;
 pub const SPARE: u8 = 2;
 
 // A field: how many bits, what it holds, its least and its greatest value.
-#[derive(Drop)]
+#[derive(Clone, Copy)]
 pub struct FieldRow {
     pub bits: u64,
     pub holds: u8,
@@ -48,7 +48,7 @@ pub const COMPOUND: u8 = 5;
 // A layout: how its parts lie; the least and the greatest number of parts; the place of its first group and the one past its last.
 // The parts of an extended item have a group each, those of any other item share one. A compound item has no parts of its own: the places are
 // those of its first primary octet and past its last.
-#[derive(Drop)]
+#[derive(Clone, Copy)]
 pub struct LayoutRow {
     pub kind: u8,
     pub least: usize,

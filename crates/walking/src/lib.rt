@@ -11,7 +11,7 @@ use records::{RecordChecked, RecordMap};
 use tables::PROFILES;
 
 // Where a walk stands: in the block that starts at `block` and ends before `end`, of a category, at `place`; all counted from the recording's start.
-#[derive(Drop)]
+#[derive(Clone, Copy)]
 pub struct Cursor {
     pub block: usize,
     pub place: usize,
