@@ -1,4 +1,6 @@
 // Adding a record to a block (document 01, "Refusal numbers and their order").
+#![tactic(auto)]
+
 mod add;
 
 pub use add::{RecordAdded, add_record};

@@ -3,6 +3,8 @@
 // members are 0 on refusal (but for a walk's `next`, and a step's places).
 //
 // In order, as in the header: checking; finding; walking a log; two logs on one line; one item; adding a record; lengths. Exercise sheets: `sheet`.
+#![tactic(auto)]
+
 mod sheet;
 
 ghost use Rattle.std.specs.Prelude.{◌≡◌, length, ◌/◌};

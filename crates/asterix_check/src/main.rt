@@ -1,6 +1,8 @@
 // asterix_check: a recording of ASTERIX blocks on standard input, of any length; one line on standard output, `accepted B blocks R records` or
 // `refused N at P`, with P counted from the recording's start (document 01, "What the reader and writer cover"). Memory is one buffer. Where a read
 // fails there is no verdict, and a line on standard error says so.
+#![tactic(auto)]
+
 ghost use Rattle.std.specs.Prelude.{◌≡◌, ◌≤◌, length};
 ghost use Rattle.rules.specs.Entry.{over};
 ghost use Rattle.recordings.specs.Answers.{counts_of, state_of};

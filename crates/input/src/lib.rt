@@ -1,4 +1,6 @@
 // Standard input through a buffer: what is still wanted of it moves to the front, and what comes next is read behind that.
+#![tactic(auto)]
+
 ghost use Rattle.std.specs.Prelude.{◌≡◌, ◌+◌, ◌-◌, ◌<◌, ◌≤◌, length, take, drop};
 ghost use Rattle.input.specs.Filled.{Comes, Fills, Keeps};
 

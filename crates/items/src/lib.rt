@@ -1,4 +1,6 @@
 // One item of categories 017, 018 and 061, over its layout: where a profile has it, its check, and its fields read.
+#![tactic(auto)]
+
 ghost use Rattle.std.specs.Prelude.{◌≡◌, true, ◌<◌, ◌+◌};
 ghost use Rattle.rules.specs.Chain.{flatten};
 ghost use Rattle.rules.specs.Presence.{place_at};

@@ -1,5 +1,7 @@
 // A sheet laid into a lent output (document 02, W-203, W-208, W-211): its fields one after another, from marks that lie in other bytes, changed or
 // not. All is checked before the first byte is laid.
+#![tactic(auto)]
+
 ghost use Rattle.std.specs.Prelude.{◌≡◌, [], ◌∷◌, ◌++◌, ◌+◌, ◌-◌, ◌*◌, ◌<◌, ◌≤◌, length};
 ghost use Rattle.std.proofs.lemmas.List.Edits.{sets};
 ghost use Rattle.rules.specs.Answer.{ok};

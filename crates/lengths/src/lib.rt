@@ -1,5 +1,7 @@
 // The fewest octets that the items named by an octet of an FSPEC take (document 02, W-204): of a fixed item its length; of a list or a led item its
 // first octet; of an extended item its first part. They are looked up.
+#![tactic(auto)]
+
 mod sums;
 
 ghost use Rattle.std.specs.Prelude.{◌≡◌};

@@ -1,4 +1,6 @@
 // Marks in lent bytes (document 02, W-203, W-211): one mark, a pass over a list of them, the mark with a number, and a changed list by its numbers.
+#![tactic(auto)]
+
 ghost use Rattle.std.specs.Prelude.{◌≡◌, ℕ, ◌+◌, ◌*◌, ◌<◌, ◌≤◌, ◌^◌, ◌||◌, ltb, length};
 ghost use Rattle.rules.specs.Mark.{key, size, number4, log_in, mark_in, fits, count, plus};
 ghost use Rattle.marks.specs.Lists.{passing, tally, both_tallies, shape_for, place_for, mark_at, end_of, Held, held_in, span, new_count, new_at, Sound, found_mark};

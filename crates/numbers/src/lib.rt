@@ -1,4 +1,6 @@
 // Numbers, as the crates above need them: an octet as a wider number, a signed number made, and one taken apart. The one place for each.
+#![tactic(auto)]
+
 ghost use Rattle.std.specs.Prelude.{◌≡◌, ◌<◌, ◌^◌, pos, negsuc};
 ghost use Rattle.std.specs.Int.Signed.{mag};
 

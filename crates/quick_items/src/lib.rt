@@ -1,5 +1,7 @@
 // The check of an item that accepts only, with few looks: by a table that the caller lends, since a constant is written out where it is read. What it
 // does not tell is left to the exact check. The same table says how many octets an item has that was checked, where its first octet tells.
+#![tactic(auto)]
+
 ghost use Rattle.std.specs.Prelude.{◌≡◌, true, ◌≤◌, ◌<◌, ◌^◌, length, get_or};
 ghost use Rattle.items.specs.Answers.{check_at};
 ghost use Rattle.quick_items.specs.Item.{Plainly, rule_rows, step_count, first_three, asks, asked, sound_free, sound_ruled, sound_counted, sound_extended, sound_twice, sound_steps, exact_steps, word_for};

@@ -1,5 +1,7 @@
 // One record: its items end to end, the record map, and a new record (document 01, "Block, record, item" and "Refusal numbers and their order"). A
 // profile is a category by its index, as `sets` has them.
+#![tactic(auto)]
+
 ghost use Rattle.std.specs.Prelude.{◌≡◌, true, ◌+◌, ◌^◌, ◌<◌, length, get_or, eqb};
 ghost use Rattle.rules.specs.Answer.{if◌then◌else◌};
 ghost use Rattle.rules.specs.Presence.{flags};

@@ -1,5 +1,7 @@
 // The set of a record's items: the FSPEC that names them, read and laid down, and the row of a message type, which tells what a record of it has
 // (document 01, "Block, record, item"). A profile is a category by its index: 0 is 017, edition 1.3; 1 is 018, edition 1.6; 2 is 061, edition 1.2.
+#![tactic(auto)]
+
 mod messages;
 
 ghost use Rattle.std.specs.Prelude.{◌≡◌, true, false, ◌+◌, ◌-◌, ◌*◌, ◌/◌, ◌^◌, ◌<◌, ◌≤◌, min, length, get_or, set, replicate};

@@ -1,5 +1,7 @@
 // Exercise sheets (document 02, W-203): read, written and changed. A changed sheet goes to a second lent buffer, which a refusal leaves as it was. The bytes
 // of a sheet are passed over once to read it, and once more to lay the changed one.
+#![tactic(auto)]
+
 ghost use Rattle.std.specs.Prelude.{◌≡◌, length};
 ghost use Rattle.rules.specs.Answer.{ok, need◌or◌then◌};
 ghost use Rattle.rules.specs.Entry.{leaves};

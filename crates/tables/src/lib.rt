@@ -1,5 +1,7 @@
 // The tables of the items of categories 017, 018 and 061, a row as one number, and of the fields that have a rule. The contracts tie each table, whole, to
 // the rules' profiles; what a function requires of a place, its callers meet: they take places from these tables.
+#![tactic(auto)]
+
 mod field_rules;
 mod profiles;
 mod tables;

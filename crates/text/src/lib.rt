@@ -1,4 +1,6 @@
 // Text put into a lent buffer: characters, decimal numbers, octets in hexadecimal. Every function takes any buffer and any place.
+#![tactic(auto)]
+
 mod number;
 mod octet;
 mod page;

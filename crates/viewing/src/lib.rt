@@ -1,5 +1,7 @@
 // A sheet in lent bytes, viewed (document 02, W-203): its fields one after another, its marks passed over once. The form is data: `LIMIT` and the rows of
 // `EDITIONS`.
+#![tactic(auto)]
+
 ghost use Rattle.std.specs.Prelude.{◌≡◌, ℕ, ◌+◌, ◌<◌, ◌≤◌, ◌^◌, true, false, length, get_or};
 ghost use Rattle.rules.specs.Mark.{totals};
 ghost use Rattle.rules.specs.SheetForm.{form};

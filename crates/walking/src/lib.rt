@@ -1,5 +1,7 @@
 // The records of a recording, one at each step: a cursor by value stands in a block, and a step reads the record there, or the next block's head and its
 // first record (document 01, "Block, record, item" and "Refusal numbers and their order"). No block is checked as a whole.
+#![tactic(auto)]
+
 ghost use Rattle.std.specs.Prelude.{◌≡◌, true, ◌≤◌, length};
 ghost use Rattle.quick_items.specs.Item.{sound_steps};
 ghost use Rattle.walking.specs.Walk.{begin, more, Stands, stays, answered, open_at, block_at, record_at, next_record};

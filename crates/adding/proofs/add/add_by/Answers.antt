@@ -1,0 +1,75 @@
+-- `add::add_by` meets its contract: at each `return` the tests that led there say which case of the rule holds, and the output is as it was
+-- until all is checked. Assumes nothing.
+use Prim.Native.Nat.{◌+◌, ◌≤◌, ◌<◌}
+use mathlib.Core.Path.{◌≡◌, refl, sym, ap, ap₂, ◌∙◌}
+use native.Mathlib.Omega.{arith}
+use native.Mathlib.Nat.{sub-zero}
+use mathlib.Core.List.{◌++◌}
+use lib.ListN.{length, take}
+use Rattle.rules.specs.Answer.{ok, refused}
+use Rattle.rules.specs.Entry.{new_record}
+use Rattle.sets.specs.Sets.{category_at, frns_of, fspec_at}
+use Rattle.records.specs.Answers.{checked_number as newNumber, checked_place as newPlace, end_of, new_at}
+use Rattle.blocks.specs.Read.{Opening, open_from}
+use Rattle.blocks.specs.Answers.{checked_number, checked_place, opened_by}
+use Rattle.blocks.proofs.LoopLaws.{octets_each}
+use Rattle.adding.proofs.AddLaws.{add_none, add_old, add_new, old_both, new_both, old_len, new_refused, new_whole, long_both, full_both, added_both}
+use Rattle.adding.proofs.add.add_by.Goals as goal
+
+-- the block that the octets in use are
+abbrev opening : goal.In-Accepted → Opening
+opening c = record { category = category_at c.before.before.open_block.result.profile; count = c.enum_told.given.0.0 }
+
+is_open : (c : goal.In-Accepted) → open_from 3 (take c.args.used c.args.out.now) ≡ ok (opening c)
+is_open c =
+    ap (λ k. open_from 3 (take k c.args.out.now)) (sym (sub-zero c.args.used))
+    ∙ sym c.open_block-old.ensures.answer
+    ∙ ap (opened_by c.open_block-old.result.profile) c.in-Accepted.is
+
+-- how much is in use
+in_use : (c : goal.In-Accepted) → (3 ≤ c.args.used) × (c.args.used < 65_536)
+in_use c = old_len _ _ (opening c) (octets_each c.args.out.now c.type_inv.out) c.if-out-used.false (is_open c)
+
+-- the new record
+checked : (c : goal.In-Ends) → new_at c.open_block-old.result.profile c.args.set.bits c.args.items.now ≡ ok c.in-Ends.n
+checked c = sym c.check_new-new.ensures ∙ ap end_of c.in-Ends.is
+
+whole : (c : goal.In-Ends)
+    → (new_record (opening c.before.before.before.before).category (frns_of c.args.set.bits) c.args.items.now ≡ ok (fspec_at c.open_block-old.result.profile c.args.set.bits ++ c.args.items.now))
+    × (c.in-Ends.n ≡ length (fspec_at c.open_block-old.result.profile c.args.set.bits) + length c.args.items.now)
+whole c = new_whole _ _ _ _ (checked c)
+
+pub returns-then-out-used : goal.returns-then-out-used
+returns-then-out-used c = old_both _ (add_none _ _ _ _ c.if-out-used.true)
+
+pub returns-in_default : goal.returns-in_default
+returns-in_default c =
+    old_both _
+    (add_old _ _ _ _ c.if-out-used.false _ _
+    (ap (λ k. open_from 3 (take k c.args.out.now)) (sym (sub-zero c.args.used))
+    ∙ sym c.open_block-old.ensures.answer
+    ∙ ap (opened_by c.open_block-old.result.profile) c.in_default.is
+    ∙ ap₂ refused (sym (c.number.ensures ∙ ap checked_number c.in_default.is)) (sym (c.place.ensures ∙ ap checked_place c.in_default.is))))
+
+pub returns-in_default-new : goal.returns-in_default-new
+returns-in_default-new c =
+    new_both _
+    (add_new _ _ _ _ c.if-out-used.false (opening c.before.before.before.before.before) _ _ (is_open c.before.before.before.before.before)
+    (new_refused _ _ _ _ _
+    (sym c.check_new-new.ensures ∙ ap end_of c.in_default-new.is
+    ∙ ap₂ refused (sym (c.checked_number.ensures ∙ ap newNumber c.in_default-new.is)) (sym (c.checked_place.ensures ∙ ap newPlace c.in_default-new.is)))))
+
+pub overflow_sub-used : goal.overflow_sub-used
+overflow_sub-used c = omega (arith, (in_use c.before.before.before.before).1)
+
+pub returns-then-used-n : goal.returns-then-used-n
+returns-then-used-n c = long_both _ _ _ _ _ _ (opening c.before.before.before.before.before) refl c.if-out-used.false (is_open c.before.before.before.before.before) (checked c.before) (omega (arith, (in_use c.before.before.before.before.before).1))
+
+pub returns-then-out-len : goal.returns-then-out-len
+returns-then-out-len c = full_both _ _ _ _ _ _ (opening c.before.before.before.before.before.before) refl c.if-out-used.false (is_open c.before.before.before.before.before.before) (checked c.before.before) (omega (arith, (in_use c.before.before.before.before.before.before).1)) c.if-out-len.true
+
+pub lay_record-requires : goal.lay_record-requires
+lay_record-requires c = ((in_use c.before.before.before.before.before.before.before).0, omega (arith, (in_use c.before.before.before.before.before.before.before).1), omega arith, ap (λ k. c.args.used + k) (whole c.before.before.before).1)
+
+pub returns : goal.returns
+returns c = added_both _ _ _ _ _ _ (opening c.before.before.before.before.before.before.before.before.before.before) refl c.if-out-used.false (is_open c.before.before.before.before.before.before.before.before.before.before) (checked c.before.before.before.before.before.before) _ (in_use c.before.before.before.before.before.before.before.before.before.before).0 (omega (arith, (in_use c.before.before.before.before.before.before.before.before.before.before).1)) c.if-out-len.false c.lay_record.ensures

@@ -1,0 +1,21 @@
+-- `add::lay_octets` meets its contract. The loop's invariant: so many octets are laid. The measure is how many are left. Assumes nothing.
+use Prim.Native.Nat.{◌-◌}
+use mathlib.Core.Path.{refl}
+use native.Mathlib.Omega.{arith}
+use Rattle.adding.proofs.AddLaws.{lay_start, lay_length, lay_again, lay_end}
+use Rattle.adding.proofs.add.lay_octets.Goals as goal
+
+pub loop-k-init : goal.loop-k-init
+loop-k-init c = lay_start _ _ _ c.requires
+
+pub bounds-out-at : goal.bounds-out-at
+bounds-out-at c = omega (arith, lay_length c.loop-k.invariant)
+
+pub loop-k-preserved : goal.loop-k-preserved
+loop-k-preserved c = lay_again c.loop-k.invariant c.loop-k-test.true refl
+
+pub shape_of-out : goal.shape_of-out
+shape_of-out c = lay_length c.loop-k.invariant
+
+pub returns : goal.returns
+returns c = lay_end c.loop-k.invariant c.loop-k-test.false

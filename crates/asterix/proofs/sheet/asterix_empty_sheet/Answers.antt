@@ -1,0 +1,6 @@
+-- `asterix_empty_sheet` meets its contract: the struct is that of the answer, and the output is as `empty_sheet` leaves it. Assumes nothing.
+use Rattle.asterix.proofs.SheetStructs.{sheet_written_lem}
+use Rattle.asterix.proofs.sheet.asterix_empty_sheet.Goals as goal
+
+pub returns : goal.returns
+returns c = (sheet_written_lem _ _ _ c.written.ensures c.empty_sheet.ensures.value, c.empty_sheet.ensures.out_after)

@@ -1,0 +1,15 @@
+-- `asterix_read_sheet` meets its contract: in each case of `read_sheet`'s answer the struct is that of the rules' answer. Assumes nothing.
+use mathlib.Core.Path.{◌∙◌, ap₂}
+use mir.Syntax.{w64}
+use mir.ValLaws.{to_z-of_z}
+use Rattle.asterix.proofs.SheetStructs.{sheet_told_lem}
+use borrow.Author.Rules.{rules}
+use Rattle.asterix.proofs.sheet.asterix_read_sheet.Goals as goal
+
+pub returns-in-Accepted : goal.returns-in-Accepted
+returns-in-Accepted c =
+    ap₂ (λ o m. record { number = 0; edition = c.in-Accepted.edition; place = 0; offset = o; marks = m }) (to_z-of_z w64 c.in-Accepted.offset (search rules)) c.marks_out.ensures
+    ∙ sheet_told_lem _ c.read_sheet.ensures c.in-Accepted.is
+
+pub returns-in-Refused : goal.returns-in-Refused
+returns-in-Refused c = sheet_told_lem _ c.read_sheet.ensures c.in-Refused.is

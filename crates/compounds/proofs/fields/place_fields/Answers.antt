@@ -1,0 +1,49 @@
+-- `compounds::fields::place_fields` meets its contract. Assumes nothing.
+use Prim.Native.Nat.{◌+◌, ◌≤◌}
+use mathlib.Core.Path.{◌≡◌, ap, sym, ◌∙◌, subst}
+use mathlib.Core.Bool.{true}
+use lib.ListN.{length}
+use lib.Seq.{sets}
+use Rattle.tables.specs.declared.tables.LayoutRow.{LayoutRow}
+use Rattle.tables.specs.Tables.{subfield_at, layout_at}
+use Rattle.tables.proofs.TableLaws.{subfield_row}
+use Rattle.layouts.specs.Read.{shape_is, whole_of, row_sound}
+use Rattle.layouts.proofs.SoundLaws.{layout_sound}
+use Rattle.compounds.specs.Compound.{most_fields, part_fields}
+use Rattle.compounds.proofs.FieldLaws.{nothing_kept, absent_kept, there_kept, none_kept}
+use Rattle.compounds.proofs.fields.place_fields.Goals as goal
+
+pub returns-then-row-eq0 : goal.returns-then-row-eq0
+returns-then-row-eq0 c = nothing_kept c.before.before.before.before.args.place c.before.before.before.before.args.s.now c.before.before.before.before.args.start c.before.before.before.before.args.out.now {t = c.args.there} c.if-not-there.true c.subfield_at-row.ensures.0 c.if-row-eq0.true
+
+pub returns-then-not-there : goal.returns-then-not-there
+returns-then-not-there c = absent_kept c.before.before.before.before.before.before.args.place c.before.before.before.before.before.before.args.s.now c.before.before.before.before.before.before.args.start c.before.before.before.before.before.before.args.out.now {t = c.args.there} c.if-not-there.true c.subfield_at-row.ensures.0 c.if-row-eq0.false _ _ c.absent_store.ensures
+
+-- the row of the subfield, and its shape
+row_at : (c : goal.After-layout_at-l) → c.layout_at-l.result ≡ layout_at (subfield_at c.args.place)
+row_at c = c.layout_at-l.ensures ∙ ap layout_at c.subfield_at-row.ensures.0
+
+sound-at : (c : goal.After-layout_at-l) → row_sound c.layout_at-l.result ≡ true
+sound-at c = subst (λ (l : LayoutRow). row_sound l ≡ true) (sym (row_at c)) (layout_sound _ (subfield_row _))
+
+pub whole_of-requires : goal.whole_of-requires
+whole_of-requires c = sound-at c
+
+pub parts_fields-requires : goal.parts_fields-requires
+parts_fields-requires c = (
+  sound-at c.before.before.before.before.before,
+  (_, sym c.whole_of.ensures ∙ ap shape_is c.in-Parts.is),
+  subst (λ (l : LayoutRow). c.args.start + most_fields l ≤ 8_192) (sym (row_at c.before.before.before.before.before)) c.requires.1,
+)
+
+pub returns-in-Parts : goal.returns-in-Parts
+returns-in-Parts c =
+    let e = row_at c.before.before.before.before.before.before in
+    there_kept c.args.place c.args.s.now c.args.start c.args.out.now _ {t = c.args.there} c.if-not-there.false _ _ _
+    (sym (ap shape_is c.in-Parts.is) ∙ c.whole_of.ensures ∙ ap (λ (l : LayoutRow). whole_of l c.args.s.now) e)
+    (subst (λ (l : LayoutRow). (c.parts_fields.result ≡ c.args.start + length (part_fields true l c.in-Parts.count c.args.s.now)) × (c.parts_fields.new.1.1.1.1.0 ≡ sets c.args.out.now c.args.start (part_fields true l c.in-Parts.count c.args.s.now))) e c.parts_fields.ensures)
+
+pub returns-in-Refused : goal.returns-in-Refused
+returns-in-Refused c =
+    none_kept c.args.place c.args.s.now c.args.start c.args.out.now _ {t = c.args.there} c.if-not-there.false _ _ _
+    (sym (ap shape_is c.in-Refused.is) ∙ c.whole_of.ensures ∙ ap (λ (l : LayoutRow). whole_of l c.args.s.now) (row_at c.before.before.before))

@@ -1,0 +1,18 @@
+-- `items::check_single` meets its contract. Assumes nothing.
+use lib.Dec.{lit≤}
+use Rattle.items.proofs.CheckLaws.{single_cut, single_legal, single_barred, single_walk}
+use Rattle.items.proofs.check_single.Goals as goal
+
+pub returns-then-part-size : goal.returns-then-part-size
+returns-then-part-size c = single_cut _ _ c.size_at-size.ensures c.if-part-size.true
+
+pub returns-then-part_legal : goal.returns-then-part_legal
+returns-then-part_legal c = single_legal _ _ c.size_at-size.ensures c.if-part-size.false c.part_legal.ensures c.if-part_legal.true
+
+pub fault_at-requires : goal.fault_at-requires
+fault_at-requires c =
+    let w = single_walk _ _ c.size_at-size.ensures c.if-part-size.false c.part_legal.ensures c.requires.1 c.requires.0 in
+    (lit≤ tt, w.0, w.1)
+
+pub returns : goal.returns
+returns c = single_barred _ _ c.size_at-size.ensures c.if-part-size.false c.part_legal.ensures c.if-part_legal.false c.fault_at.ensures

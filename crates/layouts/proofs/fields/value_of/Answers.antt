@@ -1,0 +1,43 @@
+-- `layouts::fields::value_of` meets its contract: each `return` is a case of `value_of`. Assumes nothing.
+use mathlib.Core.Path.{sym, ◌∙◌, ap}
+use Prim.Native.Nat.{◌-◌, ◌^◌}
+use native.Mathlib.Omega.{arith}
+use mir.Syntax.{w64}
+use mir.ValLaws.{to_z-of_z}
+use lib.Pow.{pow_pos}
+use lib.IntN.{negsuc}
+use borrow.Author.Tests.{eq-eqb, ne_eqb}
+use Rattle.layouts.proofs.FieldCodes.{below63, value_plain, value_low, value_high}
+use Rattle.layouts.proofs.fields.value_of.Goals as goal
+
+pub up-requires : goal.up-requires
+up-requires c =
+    let s = c.before.before in
+    below63 _ _ s.requires.0.1 s.requires.1
+
+pub returns-then-f-ne-TWOS : goal.returns-then-f-ne-TWOS
+returns-then-f-ne-TWOS c =
+    let s = c.before.before.before in
+    to_z-of_z w64 _ (record { sfits = c.up.type_inv }) ∙ c.up.ensures ∙ sym (value_plain s.args.f s.args.code (ne_eqb _ 1 c.if-f-ne-TWOS.true))
+
+pub up-requires-then-code-pow2 : goal.up-requires-then-code-pow2
+up-requires-then-code-pow2 c =
+    let s = c.before.before.before.before in
+    below63 _ _ s.requires.0.1 s.requires.1
+
+pub returns-then-code-pow2 : goal.returns-then-code-pow2
+returns-then-code-pow2 c =
+    let s = c.before.before.before.before.before in
+    to_z-of_z w64 _ (record { sfits = c.up-then-code-pow2.type_inv }) ∙ c.up-then-code-pow2.ensures
+    ∙ sym (value_low s.args.f s.args.code (omega (arith, c.if-code-pow2.true, c.pow2.ensures)))
+
+pub down-requires : goal.down-requires
+down-requires c =
+    let s = c.before.before.before.before.before in
+    omega (arith, c.pow2-2.ensures, below63 s.args.f.bits (2 ^ s.args.f.bits - 1) s.requires.0.1 (omega (arith, pow_pos s.args.f.bits)))
+
+pub returns : goal.returns
+returns c =
+    let s = c.before.before.before.before.before.before in
+    to_z-of_z w64 _ (record { sfits = c.down.type_inv }) ∙ c.down.ensures ∙ ap negsuc (omega (arith, c.pow2-2.ensures))
+    ∙ sym (value_high s.args.f s.args.code (eq-eqb _ 1 c.if-f-ne-TWOS.false) (omega (arith, c.if-code-pow2.false, c.pow2.ensures)))

@@ -1,0 +1,34 @@
+-- `layouts::parts::list_of` meets its contract: each `return` is a case of `listShape`. Assumes nothing.
+use Prim.Native.Nat.{◌*◌, ◌≤◌}
+use mathlib.Core.Path.{sym, subst}
+use native.Mathlib.Omega.{arith}
+use native.Mathlib.Nat.{mul-le-mul}
+use Rattle.layouts.proofs.ShapeLaws.{rowed, list_group, list_cut, list_few, list_many, list_there}
+use Rattle.layouts.proofs.parts.list_of.Goals as goal
+
+-- the parts are few octets
+small : (c : goal.After-size_at) → c.args.n * c.size_at.result ≤ 255 * 8
+small c =
+    let g = list_group c.args.l (rowed _ c.requires.0) c.requires.1 in
+    mul-le-mul c.requires.2 (subst (λ m. m ≤ 8) (sym c.size_at.ensures) g.sound.short)
+
+pub size_at-requires : goal.size_at-requires
+size_at-requires c = (list_group c.args.l (rowed _ c.requires.0) c.requires.1).inside
+
+pub overflow_mul-long : goal.overflow_mul-long
+overflow_mul-long c = omega (arith, small c)
+
+pub overflow_add-long : goal.overflow_add-long
+overflow_add-long c = omega (arith, small c)
+
+pub returns-then-have-long : goal.returns-then-have-long
+returns-then-have-long c = list_cut _ _ _ _ _ c.size_at.ensures c.if-have-long.true
+
+pub returns-then-n-l : goal.returns-then-n-l
+returns-then-n-l c = list_few _ _ _ _ _ c.size_at.ensures c.if-have-long.false c.if-n-l.true
+
+pub returns-then-l-n : goal.returns-then-l-n
+returns-then-l-n c = list_many _ _ _ _ _ c.size_at.ensures c.if-have-long.false c.if-n-l.false c.if-l-n.true
+
+pub returns : goal.returns
+returns c = list_there _ _ _ _ _ c.size_at.ensures c.if-have-long.false c.if-n-l.false c.if-l-n.false

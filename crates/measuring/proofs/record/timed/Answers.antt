@@ -1,0 +1,11 @@
+-- `record::timed` meets its contract: three octets, the higher first. Assumes nothing.
+use mathlib.Core.Path.{ap, ◌∙◌}
+use Rattle.measuring.specs.Measure.{sized}
+use Rattle.measuring.proofs.EndLaws.{clock_past, clock_there}
+use Rattle.measuring.proofs.record.timed.Goals as goal
+
+pub returns-then-part-at : goal.returns-then-part-at
+returns-then-part-at c = c.untimed.ensures ∙ ap (sized _) (clock_past _ _ c.if-part-at.true)
+
+pub returns : goal.returns
+returns c = clock_there _ _ _ c.if-part-at.false c.wide.ensures.0 c.wide-2.ensures.0 c.wide-3.ensures.0

@@ -1,0 +1,77 @@
+-- `measuring::shape::measure_shape` meets its contract: the shape is one of the table's. Assumes nothing.
+use Prim.Native.Nat.{ℕ, ◌+◌, ◌*◌, ◌≤◌, ◌<◌}
+use mathlib.Core.Path.{◌≡◌, refl}
+use mathlib.Core.Option.{Option}
+use mathlib.Core.List.{List}
+use native.Mathlib.Omega.{arith}
+use Rattle.quick_records.specs.Shape.{used_of}
+use Rattle.measuring.specs.declared.record.Measured.{Measured}
+use Rattle.measuring.specs.Measure.{sized}
+use Rattle.measuring.specs.Shape.{untimed_of, kind_of, time_of, base_of, part_of, Told}
+use Rattle.measuring.proofs.ShapeLaws.{parts_fit, time_by, time_none, time_untimed, time_clock, told_none, shape_some, shape_few, shape_told}
+use Rattle.measuring.proofs.shape.measure_shape.Goals as goal
+
+pub returns-then-part-lt5 : goal.returns-then-part-lt5
+returns-then-part-lt5 c = told_none _ _ _ c.untimed.ensures
+
+pub returns-then-shape-profile : goal.returns-then-shape-profile
+returns-then-shape-profile c = told_none _ _ _ c.untimed-then-shape-profile.ensures
+
+-- the octets of the shape's FSPEC
+some : (c : goal.Else-shape-profile) → 0 < used_of c.long-shape.result
+some c = shape_some c.args.shapes.now c.requires _ _ _ c.slot_of-at.ensures c.long-shape.ensures refl
+
+few : (c : goal.Else-shape-profile) → used_of c.long-shape.result ≤ 5
+few c = shape_few c.args.shapes.now c.requires _ _ _ c.slot_of-at.ensures c.long-shape.ensures refl
+
+pub overflow_sub-up : goal.overflow_sub-up
+overflow_sub-up c = omega (arith, few c)
+
+pub overflow_shl-five : goal.overflow_shl-five
+overflow_shl-five c = omega (arith, some c, few c)
+
+pub overflow_shl-shape : goal.overflow_shl-shape
+overflow_shl-shape c = omega (arith, some c, few c)
+
+pub returns-then-five-up : goal.returns-then-five-up
+returns-then-five-up c = told_none _ _ _ c.untimed-then-five-up.ensures
+
+pub returns-then-part-place : goal.returns-then-part-place
+returns-then-part-place c = told_none _ _ _ c.untimed-then-part-place.ensures
+
+pub overflow_mul-size : goal.overflow_mul-size
+overflow_mul-size c = record { fits = omega (arith, parts_fit c.octet.result c.long-row.result c.octet.ensures.1) }
+
+pub overflow_add-size : goal.overflow_add-size
+overflow_add-size c = record { fits = omega (arith, parts_fit c.octet.result c.long-row.result c.octet.ensures.1) }
+
+pub returns-then-part-size : goal.returns-then-part-size
+returns-then-part-size c = told_none _ _ _ c.untimed-then-part-size.ensures
+
+-- a record that ends within the part
+module _ (c : tie.Else5) where
+  abbrev profile : ℕ
+  profile = c.before.before.before.before.before.before.before.before.before.before.before.before.before.before.args.profile
+
+  abbrev row : ℕ
+  row = c.before.before.before.before.long2.result
+
+  abbrev octets : List ℕ
+  octets = c.before.before.before.before.before.before.before.before.before.before.before.before.before.before.args.part.now
+
+  told : (t : Option ℕ) (r : Measured) → time_by (time_of row) (kind_of row) (untimed_of row) octets ≡ t → r ≡ sized (base_of row + c.before.octet.result * part_of row) t
+      → Told r profile octets
+  told t r et er =
+      shape_told c.before.before.before.before.before.before.before.before.before.before.before.before.before.before.args.shapes.now c.before.before.before.before.before.before.before.before.before.before.before.before.before.before.requires _ _ _ c.before.before.before.before.before.before.before.before.before.before.slot_of.ensures c.before.before.before.before.before.before.before.before.long.ensures c.before.before.before.before.long2.ensures
+      _ _ _ t octets r c.before.before.before.before.before.before.before.before.before.before.before.before.before.shared-slice-known.given c.before.before.before.before.before.before.before.if2.false c.before.before.before.before.before.before.before.before.before.before.before.before.if1.false c.before.before.before.before.before.before.before.before.before.before.before.first-five.ensures c.before.before.before.before.before.before.if3.false c.before.octet.ensures.0 c.if5.false et er
+
+pub returns-then-time-eq0 : goal.returns-then-time-eq0
+returns-then-time-eq0 c = told c.before.before _ _ (time_none (time_of (row c.before.before)) (kind_of (row c.before.before)) (untimed_of (row c.before.before)) (octets c.before.before) c.if-time-eq0.true) c.untimed-then-time-eq0.ensures
+
+pub returns-then-octet_at-row : goal.returns-then-octet_at-row
+returns-then-octet_at-row c =
+    told c.before.before.before.before _ _ (time_untimed (time_of (row c.before.before.before.before)) (kind_of (row c.before.before.before.before)) (untimed_of (row c.before.before.before.before)) (octets c.before.before.before.before) c.if-time-eq0.false c.octet_at.ensures.0 c.if-octet_at-row.true) c.untimed-then-octet_at-row.ensures
+
+pub returns : goal.returns
+returns c =
+    told c.before.before.before.before _ _ (time_clock (time_of (row c.before.before.before.before)) (kind_of (row c.before.before.before.before)) (untimed_of (row c.before.before.before.before)) (octets c.before.before.before.before) c.if-time-eq0.false c.octet_at.ensures.0 c.if-octet_at-row.false) c.timed.ensures

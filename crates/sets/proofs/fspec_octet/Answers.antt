@@ -1,0 +1,25 @@
+-- `sets::fspec_octet` meets its contract: seven bits of the set, and FX in each octet but the last. Assumes nothing.
+use Prim.Native.Nat.{◌≤◌}
+use native.Mathlib.Omega.{arith}
+use borrow.Author.Rules.{rules}
+use Rattle.sets.proofs.FspecLaws.{octet_none, octet_few, octet_before, octet_at_end}
+use Rattle.sets.proofs.fspec_octet.Goals as goal
+
+pub returns-then-count-place : goal.returns-then-count-place
+returns-then-count-place c = octet_none _ _ _ (search rules) c.fspec_octets-count.ensures c.if-count-place.true
+
+-- an FSPEC has few octets
+few : (c : goal.Else-count-place) → c.args.place ≤ 8
+few c = octet_few _ _ _ (search rules) c.fspec_octets-count.ensures c.if-count-place.false
+
+pub overflow_mul-row : goal.overflow_mul-row
+overflow_mul-row c = omega (arith, few c)
+
+pub overflow_sub-row : goal.overflow_sub-row
+overflow_sub-row c = omega (arith, few c)
+
+pub returns-then-place-count : goal.returns-then-place-count
+returns-then-place-count c = octet_before _ _ _ (search rules) c.fspec_octets-count.ensures c.if-count-place.false c.if-place-count.true
+
+pub returns-else-place-count : goal.returns-else-place-count
+returns-else-place-count c = octet_at_end _ _ _ (search rules) c.fspec_octets-count.ensures c.if-count-place.false c.if-place-count.false

@@ -1,0 +1,28 @@
+-- `sheets::empty_sheet` meets its contract. Assumes nothing.
+use mathlib.Core.Path.{◌∙◌, ap, refl, sym}
+use native.Mathlib.Omega.{arith}
+use Rattle.sheets.proofs.ChangeSteps.{Seen, empty_done, empty_stops, seen}
+use Rattle.viewing.proofs.ListLaws.{are_bytes}
+use Rattle.viewing.specs.Read.{view_answer}
+use Rattle.sheets.proofs.empty_sheet.Goals as goal
+
+-- what is known of the sheet that was read
+seen_at : (c : goal.In-Accepted) → Seen c.args.sheet.now 0 c.in-Accepted.v
+seen_at c =
+    seen c.args.sheet.now _ _ (are_bytes c.args.sheet.now (λ i. omega (arith, (c.type_inv.sheet i)))) (ap view_answer (sym c.in-Accepted.is) ∙ c.view_sheet.ensures)
+
+pub returns-in-Refused : goal.returns-in-Refused
+returns-in-Refused c =
+    empty_stops _ _ _ _ _ (ap view_answer (sym c.in-Refused.is) ∙ c.view_sheet.ensures)
+
+pub slice_bounds-place_in-end : goal.slice_bounds-place_in-end
+slice_bounds-place_in-end c =
+    omega (arith, (seen_at c.before.before).room)
+
+pub lay_sheet-requires : goal.lay_sheet-requires
+lay_sheet-requires c =
+    ((refl, (tt, (seen_at c.before.before.before.before.before).held)), (omega arith, omega arith))
+
+pub returns : goal.returns
+returns c =
+    empty_done _ _ _ (seen_at c.before.before.before.before.before.before.before.before) c.args.out.now _ _ _ _ c.back_of-edition.ensures c.place_in-code.ensures c.lay_sheet.ensures

@@ -1,0 +1,40 @@
+-- `writing::compound::lay_row` meets its contract. The loop's invariant: the subfields that are left, laid where the next one goes, make the output that is
+-- to be (`Stepping`). The measure is how many bits are left. Assumes nothing.
+use Prim.Native.Nat.{◌-◌}
+use native.Mathlib.Omega.{arith}
+use Rattle.writing.proofs.BitTurns.{sub_many, kind_few, stepping, step_all, step_in, step_fits, step}
+use Rattle.writing.proofs.compound.lay_row.Goals as goal
+
+pub overflow_add-end : goal.overflow_add-end
+overflow_add-end c = omega (arith, c.requires.first_bound.0, sub_many)
+
+pub loop-i-init : goal.loop-i-init
+loop-i-init c = stepping _ _ _ _ _ c.requires.first_bound.1 c.requires.at_in_bounds
+
+pub subfield_at-requires : goal.subfield_at-requires
+subfield_at-requires c = step_in _ _ _ _ _ _ _ _ _ _ _ c.loop-i.invariant c.loop-i-test.true c.requires.first_bound.0
+
+pub lay_place-x-requires : goal.lay_place-x-requires
+lay_place-x-requires c =
+    let t = step _ _ _ _ _ _ _ _ _ _ _ c.loop-i.invariant c.loop-i-test.true c.subfield_at.ensures.0 in
+    ((c.subfield_at.ensures.1, (kind_few _ c.subfield_at.ensures.0, t.passes)), t.fit)
+
+pub mark-bits-requires : goal.mark-bits-requires
+mark-bits-requires c = step_fits _ _ _ _ _ _ _ _ _ _ _ c.loop-i.invariant c.loop-i-test.true c.lay_place-x.result.there
+
+pub overflow_add-i : goal.overflow_add-i
+overflow_add-i c = omega (arith, sub_many, c.requires.first_bound.0, c.loop-i.invariant.end_is, c.loop-i-test.true)
+
+pub loop-i-smaller : goal.loop-i-smaller
+loop-i-smaller c = omega (arith, c.loop-i-test.true)
+
+pub loop-i-preserved : goal.loop-i-preserved
+loop-i-preserved c =
+    (step _ _ _ _ _ _ _ _ _ _ _ c.loop-i.invariant c.loop-i-test.true c.subfield_at.ensures.0).next c.lay_place-x.ensures.laid c.lay_place-x.ensures.told c.mark-bits.ensures
+
+pub shape_of-out : goal.shape_of-out
+shape_of-out c = c.loop-i.invariant.long
+
+-- all bits are laid
+pub returns : goal.returns
+returns c = step_all _ _ _ _ _ _ _ _ _ _ _ c.loop-i.invariant c.loop-i-test.false

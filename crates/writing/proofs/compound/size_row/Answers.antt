@@ -1,0 +1,54 @@
+-- `writing::compound::size_row` meets its contract. The loop's invariant: the bits and octets so far, with those that are left, are those of the primary
+-- octet (`Summing`). The measure is how many bits are left. Assumes nothing.
+use Prim.Native.Nat.{◌-◌}
+use mathlib.Core.Path.{◌≡◌, sym, ap, ◌∙◌}
+use native.Mathlib.Omega.{arith}
+use Rattle.rules.specs.Answer.{ok}
+use Rattle.tables.specs.Tables.{subfield_at}
+use Rattle.writing.specs.Compound.{place_size, place_as}
+use Rattle.writing.proofs.BitTurns.{sub_many, kind_few, summing, sum_all, bit_in, sum_no, mark_fits_lem, sum_short, sum_next}
+use Rattle.writing.proofs.compound.size_row.Goals as goal
+
+-- the subfield was sized
+sized-at : (c : goal.In-Sized invariant-loop decreases-loop)
+    → ok (record { there = c.in-Sized.there; size = c.in-Sized.more; next = c.in-Sized.next })
+    ≡ place_size (subfield_at c.loop-i.i) c.args.values.now c.loop-i.k
+sized-at c =
+    sym (ap place_as c.in-Sized.is) ∙ c.size_place.ensures ∙ ap (λ x. place_size x c.args.values.now c.loop-i.k) c.subfield_at.ensures.0
+
+pub overflow_add-end : goal.overflow_add-end
+overflow_add-end c = omega (arith, c.requires, sub_many)
+
+pub loop-i-init : goal.loop-i-init
+loop-i-init c = summing _ _ _
+
+pub subfield_at-requires : goal.subfield_at-requires
+subfield_at-requires c = bit_in _ _ _ _ _ _ _ _ c.loop-i.invariant c.loop-i-test.true c.requires
+
+pub size_place-requires : goal.size_place-requires
+size_place-requires c = (c.subfield_at.ensures.1, kind_few _ c.subfield_at.ensures.0)
+
+-- no values of a subfield
+pub returns-in-Refused : goal.returns-in-Refused
+returns-in-Refused c =
+    sum_no _ _ _ _ _ _ _ _ c.loop-i.invariant c.loop-i-test.true
+    (sym (ap place_as c.in-Refused.is) ∙ c.size_place.ensures ∙ ap (λ x. place_size x c.args.values.now c.loop-i.k) c.subfield_at.ensures.0)
+
+pub mark-bits-requires : goal.mark-bits-requires
+mark-bits-requires c = mark_fits_lem _ _ _ _ _ _ _ _ c.loop-i.invariant c.loop-i-test.true c.in-Sized.there
+
+pub overflow_add-size : goal.overflow_add-size
+overflow_add-size c = omega (arith, sum_short _ _ _ _ _ _ _ _ c.loop-i.invariant c.loop-i-test.true (sized-at c.before), c.loop-i.invariant.end_is, c.loop-i-test.true)
+
+pub overflow_add-i : goal.overflow_add-i
+overflow_add-i c = omega (arith, sub_many, c.requires, c.loop-i.invariant.end_is, c.loop-i-test.true)
+
+pub loop-i-smaller : goal.loop-i-smaller
+loop-i-smaller c = omega (arith, c.loop-i-test.true)
+
+pub loop-i-preserved : goal.loop-i-preserved
+loop-i-preserved c = sum_next _ _ _ _ _ _ _ _ c.loop-i.invariant c.loop-i-test.true (sized-at c.before) c.mark-bits.ensures
+
+-- all bits are summed
+pub returns : goal.returns
+returns c = sum_all _ _ _ _ _ _ _ _ c.loop-i.invariant c.loop-i-test.false

@@ -1,0 +1,62 @@
+-- `writing::compound::size_rows` meets its contract. The loop's invariant: the primary octets and the octets so far, with those that are left, are those of
+-- the item (`Adding`). The measure is how many primary octets are left. Assumes nothing.
+use Prim.Native.Nat.{◌-◌, ◌*◌, ◌+◌}
+use mathlib.Core.Path.{◌≡◌, sym, ap, ◌∙◌}
+use native.Mathlib.Omega.{arith}
+use Rattle.rules.specs.Answer.{ok}
+use Rattle.writing.specs.Compound.{row_size, row_as}
+use Rattle.writing.proofs.BitTurns.{sub_many}
+use Rattle.writing.proofs.PrimaryTurns.{compound_order, adding, adding_in, rows_few, add_no, add_short, add_next, add_more, add_none, add_all}
+use Rattle.writing.proofs.compound.size_rows.Goals as goal
+
+-- a primary octet was sized
+sized-at : (c : goal.In-Row invariant-loop decreases-loop)
+    → ok (record { bits = c.in-Row.bits; size = c.in-Row.more; next = c.in-Row.next })
+    ≡ row_size (7 * (c.layout_at-l.result.first + c.loop-row.row)) c.args.values.now c.loop-row.at
+sized-at c = sym (ap row_as c.in-Row.is) ∙ c.size_row.ensures
+
+pub overflow_sub-rows : goal.overflow_sub-rows
+overflow_sub-rows c = compound_order _ c.layout_at-l.ensures c.requires.1
+
+pub loop-row-init : goal.loop-row-init
+loop-row-init c = adding _ _ c.layout_at-l.ensures
+
+pub overflow_add-first : goal.overflow_add-first
+overflow_add-first c = omega (arith, adding_in _ _ _ _ _ _ _ _ c.loop-row.invariant c.requires.1 c.loop-row-test.true, sub_many)
+
+pub overflow_mul-first : goal.overflow_mul-first
+overflow_mul-first c = omega (arith, adding_in _ _ _ _ _ _ _ _ c.loop-row.invariant c.requires.1 c.loop-row-test.true, sub_many)
+
+pub size_row-requires : goal.size_row-requires
+size_row-requires c = adding_in _ _ _ _ _ _ _ _ c.loop-row.invariant c.requires.1 c.loop-row-test.true
+
+-- no values of a subfield
+pub returns-in-Refused : goal.returns-in-Refused
+returns-in-Refused c = add_no _ _ _ _ _ _ _ _ c.loop-row.invariant c.loop-row-test.true (sym (ap row_as c.in-Refused.is) ∙ c.size_row.ensures)
+
+pub overflow_add-row : goal.overflow_add-row
+overflow_add-row c = omega (arith, adding_in _ _ _ _ _ _ _ _ c.loop-row.invariant c.requires.1 c.loop-row-test.true, sub_many)
+
+pub overflow_add-size : goal.overflow_add-size
+overflow_add-size c =
+    omega (arith, add_short _ _ _ _ _ _ _ _ c.loop-row.invariant c.loop-row-test.true (sized-at c.before), adding_in _ _ _ _ _ _ _ _ c.loop-row.invariant c.requires.1 c.loop-row-test.true, sub_many)
+
+pub loop-row-smaller : goal.loop-row-smaller
+loop-row-smaller c = omega (arith, c.loop-row-test.true)
+
+pub loop-row-preserved : goal.loop-row-preserved
+loop-row-preserved c = add_next _ _ _ _ _ _ _ _ c.loop-row.invariant c.loop-row-test.true (sized-at c.before) c.rows_to-count.ensures
+
+-- a number is left
+pub returns-then-at-values : goal.returns-then-at-values
+returns-then-at-values c = add_more _ _ _ _ _ _ _ _ c.loop-row.invariant c.loop-row-test.false c.if-at-values.true
+
+-- no subfield is there
+pub returns-then-count-eq0 : goal.returns-then-count-eq0
+returns-then-count-eq0 c = add_none _ _ _ _ _ _ _ _ c.loop-row.invariant c.loop-row-test.false c.if-at-values.false c.if-count-eq0.true
+
+pub overflow_add-result : goal.overflow_add-result
+overflow_add-result c = omega (arith, c.loop-row.invariant.kept, c.loop-row.invariant.short, c.loop-row.invariant.few, rows_few _ _ _ _ _ _ _ _ c.loop-row.invariant c.requires.1)
+
+pub returns : goal.returns
+returns c = add_all _ _ _ _ _ _ _ _ c.loop-row.invariant c.loop-row-test.false c.if-at-values.false c.if-count-eq0.false

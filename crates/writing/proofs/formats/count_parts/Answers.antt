@@ -1,0 +1,69 @@
+-- `writing::formats::count_parts` meets its contract. The loop's invariant: the parts so far and those that are left make the count of all (`Counting`).
+-- The measure is how many parts there may still be. Assumes nothing.
+use Prim.Native.Nat.{◌+◌, ◌-◌, ◌*◌, ◌≤◌, ◌<◌}
+use mathlib.Core.Path.{sym, ap, ◌∙◌}
+use native.Mathlib.Omega.{arith}
+use Rattle.writing.specs.Write.{packed_as}
+use Rattle.writing.proofs.PartTurns.{counting, count_all, count_over, part_in_lem, count_no, size_fits, counted}
+use Rattle.writing.proofs.formats.count_parts.Goals as goal
+
+-- the sizes of the parts so far
+fits_at : (c : goal.After-struct_known-1 invariant-loop decreases-loop)
+    → (c.loop-at.size + c.group_at-g.result.octets ≤ 8 * (c.loop-at.count + 1))
+    × (c.loop-at.count < 255)
+fits_at c =
+    size_fits _ _ _ _ _ _ c.loop-at.invariant
+    c.loop-at-test.true c.if-most-count.false _
+    c.part_group-group.ensures.1 c.group_at-g.ensures
+
+pub loop-at-init : goal.loop-at-init
+loop-at-init c =
+    counting _ _ c.layout_at-l.ensures
+
+-- more values than parts
+pub returns-then-most-count : goal.returns-then-most-count
+returns-then-most-count c =
+    count_over _ _ _ _ _ _ c.loop-at.invariant c.loop-at-test.true c.if-most-count.true
+
+pub part_group-group-requires : goal.part_group-group-requires
+part_group-group-requires c =
+    (c.requires, part_in_lem _ _ _ _ _ _ c.loop-at.invariant c.loop-at-test.true c.if-most-count.false)
+
+pub pack_part-requires : goal.pack_part-requires
+pack_part-requires c =
+    c.part_group-group.ensures.0
+
+-- a part that cannot be packed
+pub returns-in-Refused : goal.returns-in-Refused
+returns-in-Refused c =
+    count_no _ _ _ _ _ _ c.loop-at.invariant c.loop-at-test.true
+    c.if-most-count.false _ c.part_group-group.ensures.1
+    (sym (ap packed_as c.in-Refused.is) ∙ c.pack_part.ensures)
+
+pub group_at-g-requires : goal.group_at-g-requires
+group_at-g-requires c =
+    c.part_group-group.ensures.0
+
+pub overflow_add-size : goal.overflow_add-size
+overflow_add-size c =
+    omega (arith, fits_at c)
+
+pub overflow_add-count : goal.overflow_add-count
+overflow_add-count c =
+    omega (arith, fits_at c)
+
+pub loop-at-smaller : goal.loop-at-smaller
+loop-at-smaller c =
+    omega (arith, c.if-most-count.false)
+
+pub loop-at-preserved : goal.loop-at-preserved
+loop-at-preserved c =
+    counted _ _ _ _ _ _ c.loop-at.invariant
+    c.loop-at-test.true c.if-most-count.false _
+    c.part_group-group.ensures.1 c.group_at-g.ensures
+    (sym (ap packed_as c.in-Number.is) ∙ c.pack_part.ensures)
+
+-- no value is left
+pub returns : goal.returns
+returns c =
+    count_all _ _ _ _ _ _ c.loop-at.invariant c.loop-at-test.false

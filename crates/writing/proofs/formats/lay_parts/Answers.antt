@@ -1,0 +1,88 @@
+-- `writing::formats::lay_parts` meets its contract. The loop's invariant: the parts that are left, laid at the place where the next one goes, make the output
+-- that is to be (`Placing`). The measure is how many parts are left. Assumes nothing.
+use Prim.Native.Nat.{◌-◌, ◌*◌, ◌^◌, ◌<◌}
+use mathlib.Core.Path.{sym, ap, ◌∙◌, subst}
+use native.Mathlib.Omega.{arith}
+use lib.Dec.{eqb}
+use Rattle.writing.specs.Write.{packed_as}
+use Rattle.writing.proofs.PartTurns.{placing, group_in_lem, packs, Placed, placed, placed_all}
+use Rattle.writing.proofs.formats.lay_parts.Goals as goal
+
+-- a part was packed
+placed_at : (c : goal.After-group_at-g invariant-loop decreases-loop)
+    → Placed c.args.layout
+    c.args.values.now
+    c.args.count
+    c.args.start
+    c.args.out.now
+    (eqb c.layout_at-l.result.kind 4)
+    c.loop-part.out
+    c.loop-part.part c.loop-part.from
+    c.loop-part.at c.in-Number.number c.in-Number.next
+    c.group_at-g.result.octets
+placed_at c =
+    placed _ _ _ _ _ _ _ _ _ _ c.loop-part.invariant c.loop-part-test.true _
+    c.part_group-group.ensures.1 c.group_at-g.ensures
+    (sym (ap packed_as c.in-Number.is) ∙ c.pack_part.ensures)
+
+pub loop-part-init : goal.loop-part-init
+loop-part-init c =
+    placing _ _ _ _ _ _ c.layout_at-l.ensures c.requires.values_value.0 c.requires.values_value.1
+
+pub part_group-group-requires : goal.part_group-group-requires
+part_group-group-requires c =
+    (c.requires.layout_lt_layout_count, group_in_lem _ _ _ _ _ _ _ _ _ _ c.loop-part.invariant c.loop-part-test.true)
+
+pub pack_part-requires : goal.pack_part-requires
+pack_part-requires c =
+    c.part_group-group.ensures.0
+
+pub shape_of-out-in_default : goal.shape_of-out-in_default
+shape_of-out-in_default c =
+    packs _ _ _ _ _ _ _ _ _ _ c.loop-part.invariant c.loop-part-test.true _
+    c.part_group-group.ensures.1 (sym (ap packed_as c.in_default.is) ∙ c.pack_part.ensures)
+
+-- every part was packed before: this does not happen
+pub returns-in_default : goal.returns-in_default
+returns-in_default c =
+    packs _ _ _ _ _ _ _ _ _ _ c.loop-part.invariant c.loop-part-test.true _
+    c.part_group-group.ensures.1 (sym (ap packed_as c.in_default.is) ∙ c.pack_part.ensures)
+
+pub group_at-g-requires : goal.group_at-g-requires
+group_at-g-requires c =
+    c.part_group-group.ensures.0
+
+pub overflow_add-part : goal.overflow_add-part
+overflow_add-part c =
+    omega (arith, c.loop-part-test.true)
+
+pub mark-requires : goal.mark-requires
+mark-requires c =
+    (placed_at c).wide
+
+pub lay_number-requires : goal.lay_number-requires
+lay_number-requires c =
+    let t = placed_at c.before.before in
+    ((t.short, subst (λ x. x < 2 ^ (8 * c.group_at-g.result.octets)) (sym c.mark.ensures) t.fits), t.fit)
+
+pub overflow_add-at : goal.overflow_add-at
+overflow_add-at c =
+    let g = c.before.before.before.before.before.before in
+    omega (arith, (placed_at g).fit, g.before.before.before.before.before.before.before.loop.invariant.long, g.before.before.before.before.before.before.before.before.before.before.before.well-formed)
+
+pub loop-part-smaller : goal.loop-part-smaller
+loop-part-smaller c =
+    omega (arith, c.loop-part-test.true)
+
+pub loop-part-preserved : goal.loop-part-preserved
+loop-part-preserved c =
+    (placed_at c.before.before.before.before.before.before).next c.mark.ensures c.lay_number.ensures
+
+pub shape_of-out : goal.shape_of-out
+shape_of-out c =
+    c.loop-part.invariant.long
+
+-- all parts are laid
+pub returns : goal.returns
+returns c =
+    placed_all _ _ _ _ _ _ _ _ _ _ c.loop-part.invariant c.loop-part-test.false
