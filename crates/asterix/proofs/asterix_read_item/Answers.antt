@@ -3,7 +3,7 @@ use Rattle.asterix.proofs.StructLaws.{item_read_lem}
 use Rattle.asterix.proofs.asterix_read_item.Goals as goal
 
 pub returns-in-Fields : goal.returns-in-Fields
-returns-in-Fields c = (item_read_lem _ c.read_item.ensures.answer c.in-Fields.is, c.read_item.ensures.left)
+returns-in-Fields c = record { answer = item_read_lem _ c.read_item.ensures.answer c.in-Fields.is; left = c.read_item.ensures.left }
 
 pub returns-in-Refused : goal.returns-in-Refused
-returns-in-Refused c = (item_read_lem _ c.read_item.ensures.answer c.in-Refused.is, c.read_item.ensures.left)
+returns-in-Refused c = record { answer = item_read_lem _ c.read_item.ensures.answer c.in-Refused.is; left = c.read_item.ensures.left }

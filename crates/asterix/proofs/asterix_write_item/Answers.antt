@@ -3,7 +3,7 @@ use Rattle.asterix.proofs.StructLaws.{item_written_lem}
 use Rattle.asterix.proofs.asterix_write_item.Goals as goal
 
 pub returns-in-Length : goal.returns-in-Length
-returns-in-Length c = (item_written_lem _ c.write_item.ensures.answer c.in-Length.is, c.write_item.ensures.left)
+returns-in-Length c = record { answer = item_written_lem _ c.write_item.ensures.answer c.in-Length.is; left = c.write_item.ensures.left }
 
 pub returns-in-Refused : goal.returns-in-Refused
-returns-in-Refused c = (item_written_lem _ c.write_item.ensures.answer c.in-Refused.is, c.write_item.ensures.left)
+returns-in-Refused c = record { answer = item_written_lem _ c.write_item.ensures.answer c.in-Refused.is; left = c.write_item.ensures.left }

@@ -11,9 +11,10 @@ use Rattle.compounds.specs.Compound.{item_sound}
 use Rattle.compounds.proofs.ItemLaws.{row_item}
 use Rattle.items.proofs.OneLaws.{one_refused, one_longer, one_whole}
 use Rattle.items.proofs.read_item.Goals as goal
+use Rattle.items.proofs.read_item.Goals.{After-shared_slice_known-1}
 
 -- the octets of the item
-octets_at_lem : (c : goal.After-shared_slice_known-1) → Octets c.args.item.now
+octets_at_lem : (c : After-shared_slice_known-1) → Octets c.args.item.now
 octets_at_lem c = octets_known c.args.item.now (λ i. omega (arith, c.type_inv.item i))
 
 pub item_of-requires : goal.item_of-requires
@@ -22,8 +23,8 @@ item_of-requires c =
 
 pub returns-then-long-item : goal.returns-then-long-item
 returns-then-long-item c =
-    let a = one_longer _ _ _ _ c.layout_of.ensures.1 c.layout_of.ensures.0 (octets_at_lem c.before.before.before.before.before.before.before) _ c.layout_at-l.ensures _ _ (sym (ap shape_is c.in-Parts.is) ∙ c.item_of.ensures) c.if-long-item.true in
-    (a.answer, a.left)
+    let a = one_longer _ _ _ _ c.layout_of.ensures.1 c.layout_of.ensures.0 (octets_at_lem (goal.at.returns-then-long-item c).After-shared_slice_known-1) _ c.layout_at-l.ensures _ _ (sym (ap shape_is c.in-Parts.is) ∙ c.item_of.ensures) c.if-long-item.true in
+    record { answer = a.answer; left = a.left }
 
 pub item_fields-requires : goal.item_fields-requires
 item_fields-requires c =
@@ -34,10 +35,10 @@ item_fields-requires c =
 
 pub returns-in-Refused : goal.returns-in-Refused
 returns-in-Refused c =
-    let a = one_refused _ _ _ _ c.layout_of.ensures.1 c.layout_of.ensures.0 (octets_at_lem c.before.before.before.before.before.before) _ c.layout_at-l.ensures _ _ (sym (ap shape_is c.in-Refused.is) ∙ c.item_of.ensures) in
-    (a.answer, a.left)
+    let a = one_refused _ _ _ _ c.layout_of.ensures.1 c.layout_of.ensures.0 (octets_at_lem (goal.at.returns-in-Refused c).After-shared_slice_known-1) _ c.layout_at-l.ensures _ _ (sym (ap shape_is c.in-Refused.is) ∙ c.item_of.ensures) in
+    record { answer = a.answer; left = a.left }
 
 pub returns-else-long-item : goal.returns-else-long-item
 returns-else-long-item c =
-    let a = one_whole _ _ _ _ c.layout_of.ensures.1 c.layout_of.ensures.0 (octets_at_lem c.before.before.before.before.before.before.before.before.before) _ c.layout_at-l.ensures _ _ (sym (ap shape_is c.in-Parts.is) ∙ c.item_of.ensures) c.if-long-item.false _ _ c.item_fields.ensures in
-    (a.answer, a.left)
+    let a = one_whole _ _ _ _ c.layout_of.ensures.1 c.layout_of.ensures.0 (octets_at_lem (goal.at.returns-else-long-item c).After-shared_slice_known-1) _ c.layout_at-l.ensures _ _ (sym (ap shape_is c.in-Parts.is) ∙ c.item_of.ensures) c.if-long-item.false _ _ c.item_fields.ensures in
+    record { answer = a.answer; left = a.left }

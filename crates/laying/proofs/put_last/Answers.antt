@@ -4,7 +4,7 @@ use Rattle.laying.proofs.put_last.Goals as goal
 
 pub put_totals-requires : goal.put_totals-requires
 put_totals-requires c =
-    (c.requires.n_value, (c.requires.n_bound.0, last_room _ _ c.args.out.now c.if-totals.true c.requires.n_bound.1))
+    record { n_value = c.requires.n_value; n_bound = (c.requires.n_bound.0, last_room _ _ c.args.out.now c.if-totals.true c.requires.n_bound.1) }
 
 pub returns-then-totals : goal.returns-then-totals
 returns-then-totals c =

@@ -14,7 +14,7 @@ put_head-requires c =
 
 pub put_marks-requires : goal.put_marks-requires
 put_marks-requires c =
-    (c.requires.a_le_b, list_room _ _ _ _ _ _ c.put_head.ensures c.requires.shape_bound.1)
+    record { a_le_b = c.requires.a_le_b; shape_in_bounds = list_room _ _ _ _ _ _ c.put_head.ensures c.requires.shape_bound.1 }
 
 pub returns : goal.returns
 returns c =

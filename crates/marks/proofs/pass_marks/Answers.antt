@@ -2,7 +2,6 @@
 use mathlib.Core.Path.{◌∙◌, sym}
 use Prim.Native.Nat.{◌-◌}
 use native.Mathlib.Omega.{arith}
-use borrow.Author.Tests.{not-false, not-true}
 use Rattle.marks.proofs.MarkSteps.{passed_all, passed_at, passed_fault, passed_more, passed_none, passed_size, size_least}
 use Rattle.marks.proofs.pass_marks.Goals as goal
 
@@ -28,7 +27,7 @@ bounds-rest-size c =
 
 pub returns-then-not-mark_fits : goal.returns-then-not-mark_fits
 returns-then-not-mark_fits c =
-    passed_fault _ _ _ _ _ _ _ _ _ _ c.loop-i.invariant _ _ c.loop-i-test.true c.size_of-size.ensures.0 c.mark_in-m.ensures (sym c.mark_fits.ensures ∙ not-true _ c.if-not-mark_fits.true)
+    passed_fault _ _ _ _ _ _ _ _ _ _ c.loop-i.invariant _ _ c.loop-i-test.true c.size_of-size.ensures.0 c.mark_in-m.ensures (sym c.mark_fits.ensures ∙ c.if-not-mark_fits.true)
 
 pub overflow_add-first : goal.overflow_add-first
 overflow_add-first c =
@@ -56,7 +55,7 @@ loop-i-smaller c =
 
 pub loop-i-preserved : goal.loop-i-preserved
 loop-i-preserved c =
-    passed_more _ _ _ _ _ _ _ _ _ _ c.loop-i.invariant _ _ _ _ _ _ c.loop-i-test.true c.size_of-size.ensures.0 c.mark_in-m.ensures (sym c.mark_fits.ensures ∙ not-false _ c.if-not-mark_fits.false) c.key_of-k.ensures.0
+    passed_more _ _ _ _ _ _ _ _ _ _ c.loop-i.invariant _ _ _ _ _ _ c.loop-i-test.true c.size_of-size.ensures.0 c.mark_in-m.ensures (sym c.mark_fits.ensures ∙ c.if-not-mark_fits.false) c.key_of-k.ensures.0
     c.one_if-first.ensures c.one_if-below.ensures c.either-found.ensures
 
 pub returns : goal.returns

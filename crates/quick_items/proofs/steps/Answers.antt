@@ -9,4 +9,4 @@ use Rattle.quick_items.proofs.steps.Goals as goal
 
 pub returns : goal.returns
 unfolding down_of added_of up_of limit_of sound_rule sound_single sound_counted sound_extended sound_twice sound_word sound_words sound_steps word_octets exact_steps if◌then◌else◌ first_rule rules group_at layout_at place_row_at groups layouts categories
-returns c = (refl, refl)
+returns c = record { result_value = refl; result_value_2 = refl }

@@ -11,17 +11,18 @@ use Rattle.blocks.proofs.InsideLaws.{front_inside}
 use Rattle.recordings.specs.Answers.{front_number, front_place}
 use Rattle.recordings.proofs.CountLaws.{FrontTaken, front_taken, counts_end, counts_stop, check_start, check_again}
 use Rattle.recordings.proofs.check_blocks.Goals as goal
+use Rattle.recordings.proofs.check_blocks.Goals.{After-front_place, In-Block}
 
 -- the block of this turn
-abbrev front_of_lem : goal.In-Block invariant-loop decreases-loop → Front
+abbrev front_of_lem : In-Block → Front
 front_of_lem c = record { len = c.before.front.given.0.0; records = c.before.front.given.0.1.0 }
 
-accepted : (c : goal.In-Block invariant-loop decreases-loop) → FrontTaken c.loop-rest.rest.now (front_of_lem c)
+accepted : (c : In-Block) → FrontTaken c.loop-rest.rest.now (front_of_lem c)
 accepted c =
     front_taken c.loop-rest.rest.now (front_of_lem c) c.loop-rest.invariant.octets (sym c.check_front-front.ensures ∙ ap front_of c.in-Block.is)
 
 -- the refusal that ends the loop
-barred : (c : goal.After-front_place invariant-loop decreases-loop) → check_front c.loop-rest.rest.now ≡ refused c.front_number.result c.front_place.result
+barred : (c : After-front_place) → check_front c.loop-rest.rest.now ≡ refused c.front_number.result c.front_place.result
 barred c =
     sym c.check_front-front.ensures
     ∙ ap front_of c.in_default.is
@@ -34,31 +35,31 @@ pub check_front-front-requires : goal.check_front-front-requires
 check_front-front-requires c = c.requires
 
 pub overflow_add-result : goal.overflow_add-result
-overflow_add-result c = omega (arith, front_inside c.loop-rest.rest.now c.loop-rest.invariant.octets _ _ (barred c))
+overflow_add-result c = omega (arith, front_inside c.loop-rest.rest.now c.loop-rest.invariant.octets _ _ (barred (goal.at.overflow_add-result c).After-front_place))
 
 pub returns-in_default : goal.returns-in_default
-returns-in_default c = sym (counts_stop _ _ _ _ _ _ c.loop-rest-test.true (barred c)) ∙ c.loop-rest.invariant.same
+returns-in_default c = sym (counts_stop _ _ _ _ _ _ c.loop-rest-test.true (barred (goal.at.returns-in_default c).After-front_place)) ∙ c.loop-rest.invariant.same
 
 pub slice_bounds-rest-count : goal.slice_bounds-rest-count
-slice_bounds-rest-count c = omega (arith, (accepted c).within)
+slice_bounds-rest-count c = omega (arith, (accepted (goal.at.slice_bounds-rest-count c).In-Block).within)
 
 pub slice_bounds-rest-start : goal.slice_bounds-rest-start
-slice_bounds-rest-start c = omega (arith, (accepted c).within)
+slice_bounds-rest-start c = omega (arith, (accepted (goal.at.slice_bounds-rest-start c).In-Block).within)
 
 pub slice_bounds-rest-end : goal.slice_bounds-rest-end
-slice_bounds-rest-end c = omega (arith, (accepted c).within)
+slice_bounds-rest-end c = omega (arith, (accepted (goal.at.slice_bounds-rest-end c).In-Block).within)
 
 pub overflow_add-place : goal.overflow_add-place
-overflow_add-place c = omega (arith, (accepted c.before).within)
+overflow_add-place c = omega (arith, (accepted (goal.at.overflow_add-place c).In-Block).within)
 
 pub overflow_add-total : goal.overflow_add-total
-overflow_add-total c = omega (arith, (accepted c.before).within, (accepted c.before).few)
+overflow_add-total c = omega (arith, (accepted (goal.at.overflow_add-total c).In-Block).within, (accepted (goal.at.overflow_add-total c).In-Block).few)
 
 pub loop-rest-smaller : goal.loop-rest-smaller
-loop-rest-smaller c = omega (arith, (accepted c.before).within, (accepted c.before).some, c.rest-1.given.2)
+loop-rest-smaller c = omega (arith, (accepted (goal.at.loop-rest-smaller c).In-Block).within, (accepted (goal.at.loop-rest-smaller c).In-Block).some, c.rest-1.given.2)
 
 pub loop-rest-preserved : goal.loop-rest-preserved
-loop-rest-preserved c = check_again _ c.loop-rest.rest.now _ _ _ _ (front_of_lem c.before) c.loop-rest.invariant (accepted c.before) (to_end c.loop-rest.rest.now (front_of_lem c.before).len)
+loop-rest-preserved c = check_again _ c.loop-rest.rest.now _ _ _ _ (front_of_lem (goal.at.loop-rest-preserved c).In-Block) c.loop-rest.invariant (accepted (goal.at.loop-rest-preserved c).In-Block) (to_end c.loop-rest.rest.now (front_of_lem (goal.at.loop-rest-preserved c).In-Block).len)
 
 pub returns : goal.returns
 returns c = sym (counts_end _ _ _ _ (omega arith)) ∙ c.loop-rest.invariant.same

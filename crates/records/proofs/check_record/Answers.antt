@@ -9,6 +9,7 @@ use Rattle.sets.specs.Answers.{set_of}
 use Rattle.sets.proofs.UsableLaws.{set_bounds}
 use Rattle.records.proofs.RecordLaws.{step_set, step_walk, step_judge, step_whole}
 use Rattle.records.proofs.check_record.Goals as goal
+use Rattle.records.proofs.check_record.Goals.{In-Items}
 
 -- the FSPEC is refused
 pub returns-in_default : goal.returns-in_default
@@ -17,24 +18,24 @@ returns-in_default c =
     c.from_octets-s.ensures c.in_default.is c.set_number.ensures c.refused.ensures
 
 -- the set and its octets, in the rules' terms
-found : (c : goal.In-Items)
+found : (c : In-Items)
     → set_at c.args.profile c.args.part.now ≡ ok (c.in-Items.set.bits, c.in-Items.octets)
 found c = sym c.from_octets-s.ensures ∙ ap set_of c.in-Items.is
 
-bounds : (c : goal.In-Items) → (c.in-Items.set.bits < 2 ^ 63) × (c.in-Items.octets ≤ length c.args.part.now)
+bounds : (c : In-Items) → (c.in-Items.set.bits < 2 ^ 63) × (c.in-Items.octets ≤ length c.args.part.now)
 bounds c = set_bounds _ _ _ _ (found c)
 
 pub slice_bounds-walk_items-count : goal.slice_bounds-walk_items-count
-slice_bounds-walk_items-count c = (bounds c).1
+slice_bounds-walk_items-count c = (bounds (goal.at.slice_bounds-walk_items-count c).In-Items).1
 
 pub slice_bounds-walk_items-start : goal.slice_bounds-walk_items-start
-slice_bounds-walk_items-start c = (bounds c).1
+slice_bounds-walk_items-start c = (bounds (goal.at.slice_bounds-walk_items-start c).In-Items).1
 
 pub overflow_add-at : goal.overflow_add-at
-overflow_add-at c = omega (arith, (bounds c.before).1)
+overflow_add-at c = omega (arith, (bounds (goal.at.overflow_add-at c).In-Items).1)
 
 pub walk_items-w-requires : goal.walk_items-w-requires
-walk_items-w-requires c = ((bounds c.before).0, omega (arith, (bounds c.before).1, c.walk_items-arg-1.given.2), c.requires.0)
+walk_items-w-requires c = ((bounds (goal.at.walk_items-w-requires c).In-Items).0, omega (arith, (bounds (goal.at.walk_items-w-requires c).In-Items).1, c.walk_items-arg-1.given.2), c.requires.0)
 
 -- an item is refused
 pub returns-in_default-c : goal.returns-in_default-c

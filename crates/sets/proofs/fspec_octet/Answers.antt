@@ -4,19 +4,20 @@ use native.Mathlib.Omega.{arith}
 use borrow.Author.Rules.{rules}
 use Rattle.sets.proofs.FspecLaws.{octet_none, octet_few, octet_before, octet_at_end}
 use Rattle.sets.proofs.fspec_octet.Goals as goal
+use Rattle.sets.proofs.fspec_octet.Goals.{Else-count-place}
 
 pub returns-then-count-place : goal.returns-then-count-place
 returns-then-count-place c = octet_none _ _ _ (search rules) c.fspec_octets-count.ensures c.if-count-place.true
 
 -- an FSPEC has few octets
-few : (c : goal.Else-count-place) → c.args.place ≤ 8
+few : (c : Else-count-place) → c.args.place ≤ 8
 few c = octet_few _ _ _ (search rules) c.fspec_octets-count.ensures c.if-count-place.false
 
 pub overflow_mul-row : goal.overflow_mul-row
-overflow_mul-row c = omega (arith, few c)
+overflow_mul-row c = omega (arith, few (goal.at.overflow_mul-row c).Else-count-place)
 
 pub overflow_sub-row : goal.overflow_sub-row
-overflow_sub-row c = omega (arith, few c)
+overflow_sub-row c = omega (arith, few (goal.at.overflow_sub-row c).Else-count-place)
 
 pub returns-then-place-count : goal.returns-then-place-count
 returns-then-place-count c = octet_before _ _ _ (search rules) c.fspec_octets-count.ensures c.if-count-place.false c.if-place-count.true

@@ -1,46 +1,51 @@
 -- `sheets::add_mark` meets its contract: what the pass over the sheet told decides, and the mark goes after those below it. Assumes nothing.
 use mathlib.Core.Path.{◌∙◌, ap, refl, sym}
 use native.Mathlib.Omega.{arith}
-use borrow.Author.Tests.{not-false, not-true}
 use Rattle.sheets.proofs.ChangeSteps.{Seen, add_barred, add_done, add_full, add_stops, add_twice, below_fits, first_few, refused_by_lem, seen}
 use Rattle.viewing.proofs.ListLaws.{are_bytes}
 use Rattle.viewing.specs.Read.{view_answer}
 use Rattle.sheets.proofs.add_mark.Goals as goal
+use Rattle.sheets.proofs.add_mark.Goals.{In-Accepted}
 
 -- what is known of the sheet that was read
-seen_at : (c : goal.In-Accepted) → Seen c.args.sheet.now c.key_of-key.result c.in-Accepted.v
+seen_at : (c : In-Accepted) → Seen c.args.sheet.now c.key_of-key.result c.in-Accepted.v
 seen_at c =
     seen c.args.sheet.now _ _ (are_bytes c.args.sheet.now (λ i. omega (arith, (c.type_inv.sheet i)))) (ap view_answer (sym c.in-Accepted.is) ∙ c.view_sheet.ensures)
 
 pub returns-in-Refused : goal.returns-in-Refused
 returns-in-Refused c =
-    add_stops _ _ _ _ _ _ (ap view_answer (sym c.in-Refused.is) ∙ c.view_sheet.ensures)
+    let told = add_stops _ _ _ _ _ _ (ap view_answer (sym c.in-Refused.is) ∙ c.view_sheet.ensures) in
+    record { value = told.0; out_after = told.1 }
 
 pub returns-then-not-mark_ok : goal.returns-then-not-mark_ok
 returns-then-not-mark_ok c =
-    refused_by_lem 33 0 _ _ (add_barred _ _ _ (seen_at c.before.before) _ c.key_of-key.ensures.0 (sym c.mark_ok.ensures ∙ not-true _ c.if-not-mark_ok.true))
+    let told = refused_by_lem 33 0 _ _ (add_barred _ _ _ (seen_at (goal.at.returns-then-not-mark_ok c).In-Accepted) _ c.key_of-key.ensures.0 (sym c.mark_ok.ensures ∙ c.if-not-mark_ok.true)) in
+    record { value = told.0; out_after = told.1 }
 
 pub returns-then-tally : goal.returns-then-tally
 returns-then-tally c =
-    refused_by_lem 35 0 _ _ (add_twice _ _ _ (seen_at c.before.before.before.before.before) c.args.mark c.key_of-key.ensures.0 (sym c.mark_ok.ensures ∙ not-false _ c.if-not-mark_ok.false) c.if-tally.true)
+    let told = refused_by_lem 35 0 _ _ (add_twice _ _ _ (seen_at (goal.at.returns-then-tally c).In-Accepted) c.args.mark c.key_of-key.ensures.0 (sym c.mark_ok.ensures ∙ c.if-not-mark_ok.false) c.if-tally.true) in
+    record { value = told.0; out_after = told.1 }
 
 pub returns-then-n-ge-LIMIT : goal.returns-then-n-ge-LIMIT
 returns-then-n-ge-LIMIT c =
-    refused_by_lem 34 0 _ _ (add_full _ _ _ (seen_at c.before.before.before.before.before.before) c.args.mark c.key_of-key.ensures.0 (sym c.mark_ok.ensures ∙ not-false _ c.if-not-mark_ok.false) c.if-tally.false c.if-n-ge-LIMIT.true)
+    let told = refused_by_lem 34 0 _ _ (add_full _ _ _ (seen_at (goal.at.returns-then-n-ge-LIMIT c).In-Accepted) c.args.mark c.key_of-key.ensures.0 (sym c.mark_ok.ensures ∙ c.if-not-mark_ok.false) c.if-tally.false c.if-n-ge-LIMIT.true) in
+    record { value = told.0; out_after = told.1 }
 
 pub overflow_add-first : goal.overflow_add-first
 overflow_add-first c =
-    omega (arith, first_few _ _ _ (seen_at c.before.before.before.before.before.before.before.before.before), c.one_if.ensures.1, c.if-n-ge-LIMIT.false)
+    omega (arith, first_few _ _ _ (seen_at (goal.at.overflow_add-first c).In-Accepted), c.one_if.ensures.1, c.if-n-ge-LIMIT.false)
 
 pub slice_bounds-place_in-end : goal.slice_bounds-place_in-end
 slice_bounds-place_in-end c =
-    omega (arith, (seen_at c.before.before.before.before.before.before.before.before.before.before).room)
+    omega (arith, (seen_at (goal.at.slice_bounds-place_in-end c).After-mark_ok).room)
 
 pub lay_sheet-requires : goal.lay_sheet-requires
 lay_sheet-requires c =
-    ((refl, (below_fits _ _ _ (seen_at c.before.before.before.before.before.before.before.before.before.before.before.before.before), (seen_at c.before.before.before.before.before.before.before.before.before.before.before.before.before).held)), (omega (arith, first_few _ _ _ (seen_at c.before.before.before.before.before.before.before.before.before.before.before.before.before), c.one_if.ensures.1), omega (arith, c.if-n-ge-LIMIT.false)))
+    record { n_value = (refl, (below_fits _ _ _ (seen_at (goal.at.lay_sheet-requires c).After-mark_ok), (seen_at (goal.at.lay_sheet-requires c).After-mark_ok).held)); first_le_n = (omega (arith, first_few _ _ _ (seen_at (goal.at.lay_sheet-requires c).After-mark_ok), c.one_if.ensures.1), omega (arith, c.if-n-ge-LIMIT.false)) }
 
 pub returns : goal.returns
 returns c =
-    add_done _ _ _ (seen_at c.before.before.before.before.before.before.before.before.before.before.before.before.before.before.before.before) c.args.mark c.key_of-key.ensures.0 c.args.out.now _ _ _ _ _ (sym c.mark_ok.ensures ∙ not-false _ c.if-not-mark_ok.false) c.if-tally.false c.if-n-ge-LIMIT.false c.back_of-edition.ensures c.place_in-code.ensures
-    c.one_if.ensures c.lay_sheet.ensures
+    let told = add_done _ _ _ (seen_at (goal.at.returns c).After-mark_ok) c.args.mark c.key_of-key.ensures.0 c.args.out.now _ _ _ _ _ (sym c.mark_ok.ensures ∙ c.if-not-mark_ok.false) c.if-tally.false c.if-n-ge-LIMIT.false c.back_of-edition.ensures c.place_in-code.ensures
+    c.one_if.ensures c.lay_sheet.ensures in
+    record { value = told.0; out_after = told.1 }

@@ -5,24 +5,27 @@ use Rattle.sheets.proofs.ChangeSteps.{Seen, empty_done, empty_stops, seen}
 use Rattle.viewing.proofs.ListLaws.{are_bytes}
 use Rattle.viewing.specs.Read.{view_answer}
 use Rattle.sheets.proofs.empty_sheet.Goals as goal
+use Rattle.sheets.proofs.empty_sheet.Goals.{In-Accepted}
 
 -- what is known of the sheet that was read
-seen_at : (c : goal.In-Accepted) → Seen c.args.sheet.now 0 c.in-Accepted.v
+seen_at : (c : In-Accepted) → Seen c.args.sheet.now 0 c.in-Accepted.v
 seen_at c =
     seen c.args.sheet.now _ _ (are_bytes c.args.sheet.now (λ i. omega (arith, (c.type_inv.sheet i)))) (ap view_answer (sym c.in-Accepted.is) ∙ c.view_sheet.ensures)
 
 pub returns-in-Refused : goal.returns-in-Refused
 returns-in-Refused c =
-    empty_stops _ _ _ _ _ (ap view_answer (sym c.in-Refused.is) ∙ c.view_sheet.ensures)
+    let told = empty_stops _ _ _ _ _ (ap view_answer (sym c.in-Refused.is) ∙ c.view_sheet.ensures) in
+    record { value = told.0; out_after = told.1 }
 
 pub slice_bounds-place_in-end : goal.slice_bounds-place_in-end
 slice_bounds-place_in-end c =
-    omega (arith, (seen_at c.before.before).room)
+    omega (arith, (seen_at (goal.at.slice_bounds-place_in-end c).After-lists-1).room)
 
 pub lay_sheet-requires : goal.lay_sheet-requires
 lay_sheet-requires c =
-    ((refl, (tt, (seen_at c.before.before.before.before.before).held)), (omega arith, omega arith))
+    record { n_value = (refl, (tt, (seen_at (goal.at.lay_sheet-requires c).After-lists-1).held)); first_le_n = (omega arith, omega arith) }
 
 pub returns : goal.returns
 returns c =
-    empty_done _ _ _ (seen_at c.before.before.before.before.before.before.before.before) c.args.out.now _ _ _ _ c.back_of-edition.ensures c.place_in-code.ensures c.lay_sheet.ensures
+    let told = empty_done _ _ _ (seen_at (goal.at.returns c).After-lists-1) c.args.out.now _ _ _ _ c.back_of-edition.ensures c.place_in-code.ensures c.lay_sheet.ensures in
+    record { value = told.0; out_after = told.1 }

@@ -14,27 +14,28 @@ use Rattle.blocks.specs.Answers.{head_of, head_number}
 use Rattle.blocks.proofs.HeadLaws.{Headed, headed}
 use Rattle.walking.proofs.StepLaws.{cat_is, open_refused, open_empty, open_head}
 use Rattle.walking.proofs.open_at.Goals as goal
+use Rattle.walking.proofs.open_at.Goals.{In-Head}
 
 -- the recording, and where the block starts
-abbrev recording : goal.In-Head → List ℕ
+abbrev recording : In-Head → List ℕ
 recording c = c.before.before.before.before.before.before.args.recording.now
 
-abbrev start : goal.In-Head → ℕ
+abbrev start : In-Head → ℕ
 start c = c.before.before.before.before.before.before.args.start
 
 -- the head that was read
-abbrev head-of : goal.In-Head → Head
+abbrev head-of : In-Head → Head
 head-of c = record { category = category_at c.before.head.given.0.0; len = c.before.head.given.0.1.0 }
 
-has-head : (c : goal.In-Head) → head_by leb (drop (start c) (recording c)) ≡ ok (head-of c)
+has-head : (c : In-Head) → head_by leb (drop (start c) (recording c)) ≡ ok (head-of c)
 has-head c =
     ap (head_by leb) (sym (to_end (recording c) (start c))) ∙ sym c.front_head-head.ensures ∙ ap head_of c.in-Head.is
 
-is_head_lem : (c : goal.In-Head) → Headed leb (drop (start c) (recording c)) (head-of c)
+is_head_lem : (c : In-Head) → Headed leb (drop (start c) (recording c)) (head-of c)
 is_head_lem c = headed leb (drop (start c) (recording c)) (head-of c) (has-head c)
 
 -- LEN is no more than is left
-inside : (c : goal.In-Head) → (head-of c).len ≤ length (recording c) - start c
+inside : (c : In-Head) → (head-of c).len ≤ length (recording c) - start c
 inside c = omega (arith, leb→le (head-of c).len (length (drop (start c) (recording c))) (is_head_lem c).fitted, length-drop (start c) (recording c))
 
 pub returns-in_default : goal.returns-in_default
@@ -44,16 +45,16 @@ returns-in_default c =
     (ap (head_by leb) (sym (to_end c.args.recording.now c.args.start)) ∙ sym c.front_head-head.ensures ∙ ap head_of c.in_default.is))
 
 pub returns-then-len-eq-HEAD : goal.returns-then-len-eq-HEAD
-returns-then-len-eq-HEAD c = sym (open_empty _ _ (head-of c.before) (has-head c.before) c.if-len-eq-HEAD.true)
+returns-then-len-eq-HEAD c = sym (open_empty _ _ (head-of (goal.at.returns-then-len-eq-HEAD c).In-Head) (has-head (goal.at.returns-then-len-eq-HEAD c).In-Head) c.if-len-eq-HEAD.true)
 
 pub overflow_add-result-2 : goal.overflow_add-result-2
-overflow_add-result-2 c = omega (arith, inside c.before)
+overflow_add-result-2 c = omega (arith, inside (goal.at.overflow_add-result-2 c).In-Head)
 
 pub bounds-part-0 : goal.bounds-part-0
-bounds-part-0 c = omega (arith, (is_head_lem c.before.before).room, length-drop (start c.before.before) (recording c.before.before), c.part-1.given.2)
+bounds-part-0 c = omega (arith, (is_head_lem (goal.at.bounds-part-0 c).In-Head).room, length-drop (start (goal.at.bounds-part-0 c).In-Head) (recording (goal.at.bounds-part-0 c).In-Head), c.part-1.given.2)
 
 pub returns : goal.returns
 returns c =
-    ap (λ z. ok (record { block = start c.before.before; place = start c.before.before + 3; end = start c.before.before + (head-of c.before.before).len; category = z }))
-    (ap (λ l. get_or l 0 0) (to_end (recording c.before.before) (start c.before.before)) ∙ cat_is (drop (start c.before.before) (recording c.before.before)) (head-of c.before.before) (has-head c.before.before))
-    ∙ sym (open_head _ _ (head-of c.before.before) (has-head c.before.before) (omega (arith, (is_head_lem c.before.before).least, c.if-len-eq-HEAD.false)))
+    ap (λ z. ok (record { block = start (goal.at.returns c).In-Head; place = start (goal.at.returns c).In-Head + 3; end = start (goal.at.returns c).In-Head + (head-of (goal.at.returns c).In-Head).len; category = z }))
+    (ap (λ l. get_or l 0 0) (to_end (recording (goal.at.returns c).In-Head) (start (goal.at.returns c).In-Head)) ∙ cat_is (drop (start (goal.at.returns c).In-Head) (recording (goal.at.returns c).In-Head)) (head-of (goal.at.returns c).In-Head) (has-head (goal.at.returns c).In-Head))
+    ∙ sym (open_head _ _ (head-of (goal.at.returns c).In-Head) (has-head (goal.at.returns c).In-Head) (omega (arith, (is_head_lem (goal.at.returns c).In-Head).least, c.if-len-eq-HEAD.false)))

@@ -12,24 +12,25 @@ use Rattle.blocks.specs.Answers.{head_of, head_number, checked_of, checked_numbe
 use Rattle.blocks.proofs.LoopLaws.{octets_each}
 use Rattle.blocks.proofs.HeadLaws.{headed, len_few, front_refused, front_empty, front_stop, front_all}
 use Rattle.blocks.proofs.check.check_front.Goals as goal
+use Rattle.blocks.proofs.check.check_front.Goals.{Else-len-eq-HEAD}
 
 -- the head that was read
-abbrev head-of : goal.Else-len-eq-HEAD → Head
+abbrev head-of : Else-len-eq-HEAD → Head
 head-of c = record { category = category_at c.before.before.head.given.0.0; len = c.before.before.head.given.0.1.0 }
 
-has-head : (c : goal.Else-len-eq-HEAD) → head_by leb c.args.part.now ≡ ok (head-of c)
+has-head : (c : Else-len-eq-HEAD) → head_by leb c.args.part.now ≡ ok (head-of c)
 has-head c = sym c.front_head-head.ensures ∙ ap head_of c.in-Head.is
 
 -- LEN is no more than is left, and has two octets
-len_is : (c : goal.Else-len-eq-HEAD) → (head-of c).len ≤ length c.args.part.now
+len_is : (c : Else-len-eq-HEAD) → (head-of c).len ≤ length c.args.part.now
 len_is c = leb→le _ _ (headed leb c.args.part.now (head-of c) (has-head c)).fitted
 
-few : (c : goal.Else-len-eq-HEAD) → (head-of c).len < 65_536
+few : (c : Else-len-eq-HEAD) → (head-of c).len < 65_536
 few c =
     len_few leb c.args.part.now (head-of c)
     (octets_each c.args.part.now c.type_inv.part) (has-head c)
 
-least : (c : goal.Else-len-eq-HEAD) → 3 ≤ (head-of c).len
+least : (c : Else-len-eq-HEAD) → 3 ≤ (head-of c).len
 least c = (headed leb c.args.part.now (head-of c) (has-head c)).least
 
 pub returns-in_default : goal.returns-in_default
@@ -38,28 +39,28 @@ returns-in_default c =
     ∙ sym (front_refused _ _ _ (sym c.front_head-head.ensures ∙ ap head_of c.in_default.is))
 
 pub returns-then-len-eq-HEAD : goal.returns-then-len-eq-HEAD
-returns-then-len-eq-HEAD c = sym (front_empty _ (record { category = category_at c.before.before.head.given.0.0; len = c.in-Head.len }) (sym c.front_head-head.ensures ∙ ap head_of c.in-Head.is) c.if-len-eq-HEAD.true)
+returns-then-len-eq-HEAD c = sym (front_empty _ (record { category = category_at c.in-Head.profile; len = c.in-Head.len }) (sym c.front_head-head.ensures ∙ ap head_of c.in-Head.is) c.if-len-eq-HEAD.true)
 
 pub slice_bounds-check_records_by-count : goal.slice_bounds-check_records_by-count
-slice_bounds-check_records_by-count c = omega (arith, least c)
+slice_bounds-check_records_by-count c = omega (arith, least (goal.at.slice_bounds-check_records_by-count c).Else-len-eq-HEAD)
 
 pub slice_bounds-check_records_by-start : goal.slice_bounds-check_records_by-start
-slice_bounds-check_records_by-start c = omega (arith, least c)
+slice_bounds-check_records_by-start c = omega (arith, least (goal.at.slice_bounds-check_records_by-start c).Else-len-eq-HEAD)
 
 pub slice_bounds-check_records_by-end : goal.slice_bounds-check_records_by-end
-slice_bounds-check_records_by-end c = omega (arith, least c, len_is c)
+slice_bounds-check_records_by-end c = omega (arith, least (goal.at.slice_bounds-check_records_by-end c).Else-len-eq-HEAD, len_is (goal.at.slice_bounds-check_records_by-end c).Else-len-eq-HEAD)
 
 pub check_records_by-checked-requires : goal.check_records_by-checked-requires
 check_records_by-checked-requires c =
-    (c.requires.0, c.requires.1, c.requires.2, omega (arith, few c.before, len_is c.before, least c.before, c.check_records_by-arg-1.given.2))
+    (c.requires.0, c.requires.1, c.requires.2, omega (arith, few (goal.at.check_records_by-checked-requires c).Else-len-eq-HEAD, len_is (goal.at.check_records_by-checked-requires c).Else-len-eq-HEAD, least (goal.at.check_records_by-checked-requires c).Else-len-eq-HEAD, c.check_records_by-arg-1.given.2))
 
 pub returns-in_default-checked : goal.returns-in_default-checked
 returns-in_default-checked c =
     ap₂ refused (c.number-in_default-checked.ensures ∙ ap checked_number c.in_default-checked.is) (c.place.ensures ∙ ap checked_place c.in_default-checked.is)
-    ∙ sym (front_stop _ (head-of c.before.before.before.before.before.before) _ _ (has-head c.before.before.before.before.before.before) c.if-len-eq-HEAD.false
+    ∙ sym (front_stop _ (head-of (goal.at.returns-in_default-checked c).Else-len-eq-HEAD) _ _ (has-head (goal.at.returns-in_default-checked c).Else-len-eq-HEAD) c.if-len-eq-HEAD.false
     (sym c.check_records_by-checked.ensures ∙ ap checked_of c.in_default-checked.is))
 
 pub returns : goal.returns
 returns c =
-    sym (front_all _ (head-of c.before.before.before.before.before) _ (has-head c.before.before.before.before.before) c.if-len-eq-HEAD.false
+    sym (front_all _ (head-of (goal.at.returns c).Else-len-eq-HEAD) _ (has-head (goal.at.returns c).Else-len-eq-HEAD) c.if-len-eq-HEAD.false
     (sym c.check_records_by-checked.ensures ∙ ap checked_of c.in-Accepted.is))

@@ -9,9 +9,10 @@ use Rattle.blocks.proofs.LoopLaws.{octets_each}
 use Rattle.blocks.proofs.RecordLaws.{Accepted, ended_accepted, ended_refused, count_end, count_stop, count_again}
 use Rattle.rules.proofs.AnswerLaws.{to_end}
 use Rattle.blocks.proofs.check.check_records_by.Goals as goal
+use Rattle.blocks.proofs.check.check_records_by.Goals.{In-Ends}
 
 -- the record of this turn
-accepted : (c : goal.In-Ends invariant-loop decreases-loop)
+accepted : (c : In-Ends)
     → Accepted (category_at c.args.profile) c.loop-rest.at
     c.loop-rest.rest.now c.in-Ends.end
 accepted c =
@@ -19,7 +20,7 @@ accepted c =
     c.loop-rest.invariant.octets c.in-Ends.is
 
 pub loop-rest-init : goal.loop-rest-init
-loop-rest-init c = record { room = c.before.requires.3; few = omega arith; octets = octets_each c.before.args.part.now c.shared-slice-known.given; same = refl }
+loop-rest-init c = record { room = c.requires.3; few = omega arith; octets = octets_each c.args.part.now c.type_inv.part; same = refl }
 
 pub record_end-checked-requires : goal.record_end-checked-requires
 record_end-checked-requires c = (c.requires.0, c.requires.1, c.requires.2, omega arith)
@@ -32,23 +33,23 @@ returns-in_default c =
     ∙ c.loop-rest.invariant.same
 
 pub overflow_sub-used : goal.overflow_sub-used
-overflow_sub-used c = omega (arith, (accepted c).low)
+overflow_sub-used c = omega (arith, (accepted (goal.at.overflow_sub-used c).In-Ends).low)
 
 pub slice_bounds-rest-count : goal.slice_bounds-rest-count
-slice_bounds-rest-count c = omega (arith, (accepted c).low, (accepted c).high)
+slice_bounds-rest-count c = omega (arith, (accepted (goal.at.slice_bounds-rest-count c).In-Ends).low, (accepted (goal.at.slice_bounds-rest-count c).In-Ends).high)
 
 pub slice_bounds-rest-start : goal.slice_bounds-rest-start
-slice_bounds-rest-start c = omega (arith, (accepted c).low, (accepted c).high)
+slice_bounds-rest-start c = omega (arith, (accepted (goal.at.slice_bounds-rest-start c).In-Ends).low, (accepted (goal.at.slice_bounds-rest-start c).In-Ends).high)
 
 pub slice_bounds-rest-end : goal.slice_bounds-rest-end
-slice_bounds-rest-end c = omega (arith, (accepted c).low, (accepted c).high)
+slice_bounds-rest-end c = omega (arith, (accepted (goal.at.slice_bounds-rest-end c).In-Ends).low, (accepted (goal.at.slice_bounds-rest-end c).In-Ends).high)
 
 pub loop-rest-smaller : goal.loop-rest-smaller
-loop-rest-smaller c = omega (arith, (accepted c.before).low, (accepted c.before).high, c.rest-1.given.2)
+loop-rest-smaller c = omega (arith, (accepted (goal.at.loop-rest-smaller c).In-Ends).low, (accepted (goal.at.loop-rest-smaller c).In-Ends).high, c.rest-1.given.2)
 
 pub loop-rest-preserved : goal.loop-rest-preserved
 loop-rest-preserved c =
-    count_again _ _ _ c.loop-rest.rest.now _ _ _ _ c.loop-rest.invariant (accepted c.before) (to_end c.loop-rest.rest.now (c.in-Ends.end - c.loop-rest.at))
+    count_again _ _ _ c.loop-rest.rest.now _ _ _ _ c.loop-rest.invariant (accepted (goal.at.loop-rest-preserved c).In-Ends) (to_end c.loop-rest.rest.now (c.in-Ends.end - c.loop-rest.at))
 
 pub returns : goal.returns
 returns c = sym (count_end _ _ _ _ (omega arith)) ∙ c.loop-rest.invariant.same

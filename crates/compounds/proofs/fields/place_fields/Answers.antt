@@ -12,33 +12,34 @@ use Rattle.layouts.proofs.SoundLaws.{layout_sound}
 use Rattle.compounds.specs.Compound.{most_fields, part_fields}
 use Rattle.compounds.proofs.FieldLaws.{nothing_kept, absent_kept, there_kept, none_kept}
 use Rattle.compounds.proofs.fields.place_fields.Goals as goal
+use Rattle.compounds.proofs.fields.place_fields.Goals.{After-layout_at-l}
 
 pub returns-then-row-eq0 : goal.returns-then-row-eq0
-returns-then-row-eq0 c = nothing_kept c.before.before.before.before.args.place c.before.before.before.before.args.s.now c.before.before.before.before.args.start c.before.before.before.before.args.out.now {t = c.args.there} c.if-not-there.true c.subfield_at-row.ensures.0 c.if-row-eq0.true
+returns-then-row-eq0 c = nothing_kept c.args.place c.args.s.now c.args.start c.args.out.now {t = c.args.there} c.if-not-there.true c.subfield_at-row.ensures.0 c.if-row-eq0.true
 
 pub returns-then-not-there : goal.returns-then-not-there
-returns-then-not-there c = absent_kept c.before.before.before.before.before.before.args.place c.before.before.before.before.before.before.args.s.now c.before.before.before.before.before.before.args.start c.before.before.before.before.before.before.args.out.now {t = c.args.there} c.if-not-there.true c.subfield_at-row.ensures.0 c.if-row-eq0.false _ _ c.absent_store.ensures
+returns-then-not-there c = absent_kept c.args.place c.args.s.now c.args.start c.args.out.now {t = c.args.there} c.if-not-there.true c.subfield_at-row.ensures.0 c.if-row-eq0.false _ _ c.absent_store.ensures
 
 -- the row of the subfield, and its shape
-row_at : (c : goal.After-layout_at-l) → c.layout_at-l.result ≡ layout_at (subfield_at c.args.place)
+row_at : (c : After-layout_at-l) → c.layout_at-l.result ≡ layout_at (subfield_at c.args.place)
 row_at c = c.layout_at-l.ensures ∙ ap layout_at c.subfield_at-row.ensures.0
 
-sound-at : (c : goal.After-layout_at-l) → row_sound c.layout_at-l.result ≡ true
+sound-at : (c : After-layout_at-l) → row_sound c.layout_at-l.result ≡ true
 sound-at c = subst (λ (l : LayoutRow). row_sound l ≡ true) (sym (row_at c)) (layout_sound _ (subfield_row _))
 
 pub whole_of-requires : goal.whole_of-requires
-whole_of-requires c = sound-at c
+whole_of-requires c = sound-at (goal.at.whole_of-requires c).After-layout_at-l
 
 pub parts_fields-requires : goal.parts_fields-requires
 parts_fields-requires c = (
-  sound-at c.before.before.before.before.before,
+  sound-at (goal.at.parts_fields-requires c).After-layout_at-l,
   (_, sym c.whole_of.ensures ∙ ap shape_is c.in-Parts.is),
-  subst (λ (l : LayoutRow). c.args.start + most_fields l ≤ 8_192) (sym (row_at c.before.before.before.before.before)) c.requires.1,
+  subst (λ (l : LayoutRow). c.args.start + most_fields l ≤ 8_192) (sym (row_at (goal.at.parts_fields-requires c).After-layout_at-l)) c.requires.1,
 )
 
 pub returns-in-Parts : goal.returns-in-Parts
 returns-in-Parts c =
-    let e = row_at c.before.before.before.before.before.before in
+    let e = row_at (goal.at.returns-in-Parts c).After-layout_at-l in
     there_kept c.args.place c.args.s.now c.args.start c.args.out.now _ {t = c.args.there} c.if-not-there.false _ _ _
     (sym (ap shape_is c.in-Parts.is) ∙ c.whole_of.ensures ∙ ap (λ (l : LayoutRow). whole_of l c.args.s.now) e)
     (subst (λ (l : LayoutRow). (c.parts_fields.result ≡ c.args.start + length (part_fields true l c.in-Parts.count c.args.s.now)) × (c.parts_fields.new.1.1.1.1.0 ≡ sets c.args.out.now c.args.start (part_fields true l c.in-Parts.count c.args.s.now))) e c.parts_fields.ensures)
@@ -46,4 +47,4 @@ returns-in-Parts c =
 pub returns-in-Refused : goal.returns-in-Refused
 returns-in-Refused c =
     none_kept c.args.place c.args.s.now c.args.start c.args.out.now _ {t = c.args.there} c.if-not-there.false _ _ _
-    (sym (ap shape_is c.in-Refused.is) ∙ c.whole_of.ensures ∙ ap (λ (l : LayoutRow). whole_of l c.args.s.now) (row_at c.before.before.before))
+    (sym (ap shape_is c.in-Refused.is) ∙ c.whole_of.ensures ∙ ap (λ (l : LayoutRow). whole_of l c.args.s.now) (row_at (goal.at.returns-in-Refused c).After-layout_at-l))

@@ -9,12 +9,13 @@ use Rattle.layouts.specs.Read.{shape_is}
 use Rattle.layouts.proofs.OctetLaws.{octets_known}
 use Rattle.compounds.proofs.SubfieldLaws.{subfields_few, Walking, walk_begun, walk_refused, walk_fits, walk_turned, walk_ended}
 use Rattle.compounds.proofs.subfields.subfields_of.Goals as goal
+use Rattle.compounds.proofs.subfields.subfields_of.Goals.{After-pow2-weight, In-Parts}
 
-weight-at : (c : goal.After-pow2-weight invariant-loop decreases-loop) → c.pow2-weight.result ≡ 2 ^ (c.loop-more.more - 1)
+weight-at : (c : After-pow2-weight) → c.pow2-weight.result ≡ 2 ^ (c.loop-more.more - 1)
 weight-at c = c.pow2-weight.ensures
 
 -- a turn, where the subfield is read
-turned : (c : goal.In-Parts invariant-loop decreases-loop)
+turned : (c : In-Parts)
     → (c.loop-more.at + c.in-Parts.long ≤ length c.args.s.now)
     × Walking c.args.first c.args.places c.args.bits c.args.s.now
     (c.loop-more.i + 1) (c.loop-more.more - 1) (c.loop-more.left % c.pow2-weight.result)
@@ -50,7 +51,7 @@ place_of-shape-requires c = omega (arith, c.loop-more-test.true, c.loop-more.inv
 pub returns-in_default : goal.returns-in_default
 returns-in_default c =
     ap shape_is c.in_default.is
-    ∙ walk_refused _ _ _ _ _ _ _ _ c.loop-more.invariant c.loop-more-test.true (weight-at c.before.before.before.before) _ _
+    ∙ walk_refused _ _ _ _ _ _ _ _ c.loop-more.invariant c.loop-more-test.true (weight-at (goal.at.returns-in_default c).After-pow2-weight) _ _
     (sym (ap shape_is c.in_default.is) ∙ c.place_of-shape.ensures)
 
 -- src/subfields.rt:50:16
@@ -59,7 +60,7 @@ nonzero_rem-left c = subst (λ x. 0 < x) (sym c.pow2-weight.ensures) (pow_pos _)
 
 -- src/subfields.rt:51:14
 pub overflow_add-at : goal.overflow_add-at
-overflow_add-at c = record { fits = omega (arith, (turned c).0, c.well_formed.1.1.1.0.0) }
+overflow_add-at c = record { fits = omega (arith, (turned (goal.at.overflow_add-at c).In-Parts).0, c.well_formed.1.1.1.0.0) }
 
 -- src/subfields.rt:52:13
 pub overflow_add-i : goal.overflow_add-i
@@ -67,7 +68,7 @@ overflow_add-i c = record { fits = omega (arith, subfields_few, c.loop-more-test
 
 -- src/subfields.rt:43:5
 pub loop-more-preserved : goal.loop-more-preserved
-loop-more-preserved c = (turned c).1
+loop-more-preserved c = (turned (goal.at.loop-more-preserved c).In-Parts).1
 
 -- src/subfields.rt:35:1
 pub returns : goal.returns

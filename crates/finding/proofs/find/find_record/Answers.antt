@@ -7,9 +7,10 @@ use Rattle.finding.specs.Found.{record_span, span_in}
 use Rattle.blocks.proofs.LoopLaws.{octets_each}
 use Rattle.finding.proofs.FindLaws.{record_inside_at, LocatedAt, located, lost}
 use Rattle.finding.proofs.find.find_record.Goals as goal
+use Rattle.finding.proofs.find.find_record.Goals.{In-At}
 
 -- where the record lies, in the rules' words
-there : (c : goal.In-At)
+there : (c : In-At)
     → LocatedAt (find_record categories c.args.block.now c.args.n) c.locate_record-located.result c.in-At.start c.in-At.length
 there c = located _ c.locate_record-located.result _ _ c.locate_record-located.ensures c.in-At.is
 
@@ -18,7 +19,7 @@ returns-in_default c = subst (VeryPart c.args.block c.none_of.result) (sym (ap (
 
 pub part_of-requires : goal.part_of-requires
 part_of-requires c =
-    record_inside_at _ _ _ _ (octets_each c.args.block.now c.type_inv.block) (there c)
+    record_inside_at _ _ _ _ (octets_each c.args.block.now c.type_inv.block) (there (goal.at.part_of-requires c).In-At)
 
 pub returns : goal.returns
-returns c = subst (VeryPart c.args.block c.part_of.result) (sym (there c.before).span_is) c.part_of.ensures
+returns c = subst (VeryPart c.args.block c.part_of.result) (sym (there (goal.at.returns c).In-At).span_is) c.part_of.ensures

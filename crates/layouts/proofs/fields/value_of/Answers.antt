@@ -12,32 +12,26 @@ use Rattle.layouts.proofs.fields.value_of.Goals as goal
 
 pub up-requires : goal.up-requires
 up-requires c =
-    let s = c.before.before in
-    below63 _ _ s.requires.0.1 s.requires.1
+    below63 _ _ c.requires.le_bits.1 c.requires.code_bound
 
 pub returns-then-f-ne-TWOS : goal.returns-then-f-ne-TWOS
 returns-then-f-ne-TWOS c =
-    let s = c.before.before.before in
-    to_z-of_z w64 _ (record { sfits = c.up.type_inv }) ∙ c.up.ensures ∙ sym (value_plain s.args.f s.args.code (ne_eqb _ 1 c.if-f-ne-TWOS.true))
+    to_z-of_z w64 _ (record { sfits = c.up.type_inv }) ∙ c.up.ensures ∙ sym (value_plain c.args.f c.args.code (ne_eqb _ 1 c.if-f-ne-TWOS.true))
 
 pub up-requires-then-code-pow2 : goal.up-requires-then-code-pow2
 up-requires-then-code-pow2 c =
-    let s = c.before.before.before.before in
-    below63 _ _ s.requires.0.1 s.requires.1
+    below63 _ _ c.requires.le_bits.1 c.requires.code_bound
 
 pub returns-then-code-pow2 : goal.returns-then-code-pow2
 returns-then-code-pow2 c =
-    let s = c.before.before.before.before.before in
     to_z-of_z w64 _ (record { sfits = c.up-then-code-pow2.type_inv }) ∙ c.up-then-code-pow2.ensures
-    ∙ sym (value_low s.args.f s.args.code (omega (arith, c.if-code-pow2.true, c.pow2.ensures)))
+    ∙ sym (value_low c.args.f c.args.code (omega (arith, c.if-code-pow2.true, c.pow2.ensures)))
 
 pub down-requires : goal.down-requires
 down-requires c =
-    let s = c.before.before.before.before.before in
-    omega (arith, c.pow2-2.ensures, below63 s.args.f.bits (2 ^ s.args.f.bits - 1) s.requires.0.1 (omega (arith, pow_pos s.args.f.bits)))
+    omega (arith, c.pow2-2.ensures, below63 c.args.f.bits (2 ^ c.args.f.bits - 1) c.requires.le_bits.1 (omega (arith, pow_pos c.args.f.bits)))
 
 pub returns : goal.returns
 returns c =
-    let s = c.before.before.before.before.before.before in
     to_z-of_z w64 _ (record { sfits = c.down.type_inv }) ∙ c.down.ensures ∙ ap negsuc (omega (arith, c.pow2-2.ensures))
-    ∙ sym (value_high s.args.f s.args.code (eq-eqb _ 1 c.if-f-ne-TWOS.false) (omega (arith, c.if-code-pow2.false, c.pow2.ensures)))
+    ∙ sym (value_high c.args.f c.args.code (eq-eqb _ 1 c.if-f-ne-TWOS.false) (omega (arith, c.if-code-pow2.false, c.pow2.ensures)))

@@ -5,9 +5,10 @@ use native.Mathlib.Omega.{arith}
 use native.Mathlib.Nat.{mul-le-mul}
 use Rattle.layouts.proofs.ShapeLaws.{rowed, list_group, list_cut, list_few, list_many, list_there}
 use Rattle.layouts.proofs.parts.list_of.Goals as goal
+use Rattle.layouts.proofs.parts.list_of.Goals.{After-size_at}
 
 -- the parts are few octets
-small : (c : goal.After-size_at) → c.args.n * c.size_at.result ≤ 255 * 8
+small : (c : After-size_at) → c.args.n * c.size_at.result ≤ 255 * 8
 small c =
     let g = list_group c.args.l (rowed _ c.requires.0) c.requires.1 in
     mul-le-mul c.requires.2 (subst (λ m. m ≤ 8) (sym c.size_at.ensures) g.sound.short)
@@ -16,10 +17,10 @@ pub size_at-requires : goal.size_at-requires
 size_at-requires c = (list_group c.args.l (rowed _ c.requires.0) c.requires.1).inside
 
 pub overflow_mul-long : goal.overflow_mul-long
-overflow_mul-long c = omega (arith, small c)
+overflow_mul-long c = omega (arith, small (goal.at.overflow_mul-long c).After-size_at)
 
 pub overflow_add-long : goal.overflow_add-long
-overflow_add-long c = omega (arith, small c)
+overflow_add-long c = omega (arith, small (goal.at.overflow_add-long c).After-size_at)
 
 pub returns-then-have-long : goal.returns-then-have-long
 returns-then-have-long c = list_cut _ _ _ _ _ c.size_at.ensures c.if-have-long.true

@@ -9,25 +9,25 @@ use Rattle.tables.proofs.RuleLaws.{rules_few}
 use Rattle.layouts.proofs.OctetLaws.{octets_known}
 use Rattle.layouts.proofs.LegalLaws.{size_few, part_free, part_ruled}
 use Rattle.layouts.proofs.parts.part_legal.Goals as goal
+use Rattle.layouts.proofs.parts.part_legal.Goals.{After-shared_slice_known-1}
 
 -- the octets that the part lies in
-octets_at_lem : (c : goal.After-shared_slice_known-1) → Octets c.args.s.now
+octets_at_lem : (c : After-shared_slice_known-1) → Octets c.args.s.now
 octets_at_lem c = octets_known c.args.s.now (λ i. omega (arith, c.type_inv.s i))
 
 pub overflow_add-group : goal.overflow_add-group
 overflow_add-group c = record { fits = omega (arith, groups_few, c.requires.1) }
 
 pub returns-then-e-a : goal.returns-then-e-a
-returns-then-e-a c = part_free _ _ _ _ (octets_at_lem c.before.before.before) c.requires.1 c.requires.2 c.requires.3 c.first_rule-a.ensures c.first_rule-e.ensures c.if-e-a.true
+returns-then-e-a c = part_free _ _ _ _ (octets_at_lem (goal.at.returns-then-e-a c).After-shared_slice_known-1) c.requires.1 c.requires.2 c.requires.3 c.first_rule-a.ensures c.first_rule-e.ensures c.if-e-a.true
 
 pub number_at-requires : goal.number_at-requires
 number_at-requires c =
-    let s = c.before.before.before.before.before in
-    (size_few _ _ s.requires.2 c.size_at.ensures, subst (λ m. s.args.at + m ≤ length s.args.s.now) (sym c.size_at.ensures) s.requires.3)
+    (size_few _ _ c.requires.2 c.size_at.ensures, subst (λ m. c.args.at + m ≤ length c.args.s.now) (sym c.size_at.ensures) c.requires.3)
 
 pub are_obeyed-requires : goal.are_obeyed-requires
 are_obeyed-requires c = rules_few _ c.requires.1 c.first_rule-e.ensures
 
 pub returns : goal.returns
 returns c =
-    part_ruled _ _ _ _ (octets_at_lem c.before.before.before.before.before.before) c.requires.1 c.requires.2 c.requires.3 c.first_rule-a.ensures c.first_rule-e.ensures c.size_at.ensures c.number_at.ensures.0 c.are_obeyed.ensures
+    part_ruled _ _ _ _ (octets_at_lem (goal.at.returns c).After-shared_slice_known-1) c.requires.1 c.requires.2 c.requires.3 c.first_rule-a.ensures c.first_rule-e.ensures c.size_at.ensures c.number_at.ensures.0 c.are_obeyed.ensures

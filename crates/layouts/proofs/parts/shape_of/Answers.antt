@@ -3,8 +3,9 @@ use mathlib.Core.Path.{◌≡◌, ◌∙◌}
 use native.Mathlib.Nat.{le_of_suc-le-suc}
 use Rattle.layouts.proofs.ShapeLaws.{rowed, few_kinds, a_list, fixed_group, chain_inside, chain_parts_lem, no_shape, no_parts, fixed_cut, fixed_there, chain_shape, no_head_lem, led_short, led_cut, led_there, list_shape_lem}
 use Rattle.layouts.proofs.parts.shape_of.Goals as goal
+use Rattle.layouts.proofs.parts.shape_of.Goals.{Else-kind-eq-LED}
 
-list_at : (c : goal.Else-kind-eq-LED) → c.args.l.kind ≡ 2
+list_at : (c : Else-kind-eq-LED) → c.args.l.kind ≡ 2
 list_at c = a_list _ (rowed _ c.requires) c.if-kind-eq-NONE.false c.if-kind-eq-COMPOUND.false c.if-kind-eq-FIXED.false c.if-kind-eq-EXTENDED.false c.if-kind-eq-LED.false
 
 pub returns-then-kind-eq-NONE : goal.returns-then-kind-eq-NONE
@@ -41,8 +42,8 @@ pub returns-then-kind-eq-LED : goal.returns-then-kind-eq-LED
 returns-then-kind-eq-LED c = led_there _ _ c.if-kind-eq-LED.true c.if-s-lt1.false c.octet-n.ensures.0 c.if-n-l.false c.if-s-n.false
 
 pub list_of-requires : goal.list_of-requires
-list_of-requires c = (c.requires, list_at c, le_of_suc-le-suc c.octet-n.ensures.1)
+list_of-requires c = (c.requires, list_at (goal.at.list_of-requires c).Else-kind-eq-LED, le_of_suc-le-suc c.octet-n.ensures.1)
 
 pub returns : goal.returns
 returns c =
-    c.list_of.ensures ∙ rw c.octet-n.ensures.0 (list_shape_lem _ _ (list_at c.before) c.if-s-lt1.false)
+    c.list_of.ensures ∙ rw c.octet-n.ensures.0 (list_shape_lem _ _ (list_at (goal.at.returns c).Else-kind-eq-LED) c.if-s-lt1.false)

@@ -8,22 +8,23 @@ use Rattle.sets.specs.Steps.{type_frn}
 use Rattle.measuring.proofs.CategoryLaws.{untimed_never, type_some, type_few}
 use Rattle.measuring.proofs.EndLaws.{early_few, untimed_is}
 use Rattle.measuring.proofs.record.is_untimed.Goals as goal
+use Rattle.measuring.proofs.record.is_untimed.Goals.{After-struct_known-1, Else-untimed_type-eq0}
 
 -- what the table has of the profile
-row : (c : goal.After-struct_known-1) → c.profile_row-untimed_type.result.untimed ≡ (profile_row_at c.args.profile).untimed
+row : (c : After-struct_known-1) → c.profile_row-untimed_type.result.untimed ≡ (profile_row_at c.args.profile).untimed
 row c = ap (λ r. r.untimed) c.profile_row-untimed_type.ensures
 
 pub returns-then-untimed_type-eq0 : goal.returns-then-untimed_type-eq0
-returns-then-untimed_type-eq0 c = untimed_never c.args.profile (row c.before) _ c.if-untimed_type-eq0.true
+returns-then-untimed_type-eq0 c = untimed_never c.args.profile (row (goal.at.returns-then-untimed_type-eq0 c).After-struct_known-1) _ c.if-untimed_type-eq0.true
 
-frn_some : (c : goal.Else-untimed_type-eq0) → 1 ≤ type_frn c.args.profile
+frn_some : (c : Else-untimed_type-eq0) → 1 ≤ type_frn c.args.profile
 frn_some c = type_some c.args.profile (row c.before) c.if-untimed_type-eq0.false
 
 pub before-requires : goal.before-requires
-before-requires c = (omega (arith, frn_some c.before, c.type_frn.ensures), omega (arith, type_few c.args.profile, c.type_frn.ensures))
+before-requires c = (omega (arith, frn_some (goal.at.before-requires c).Else-untimed_type-eq0, c.type_frn.ensures), omega (arith, type_few c.args.profile, c.type_frn.ensures))
 
 pub items_from-place-requires : goal.items_from-place-requires
 items_from-place-requires c = (omega (arith, early_few _ _ c.before-2.ensures, c.requires.0), omega (arith, c.requires.1), c.requires.2)
 
 pub returns : goal.returns
-returns c = untimed_is _ _ _ _ c.type_frn.result (row c.before.before.before.before.before) c.type_frn.ensures c.before-2.ensures c.items_from-place.ensures c.octet_at.ensures.0
+returns c = untimed_is _ _ _ _ c.type_frn.result (row (goal.at.returns c).After-struct_known-1) c.type_frn.ensures c.before-2.ensures c.items_from-place.ensures c.octet_at.ensures.0

@@ -9,16 +9,17 @@ use Rattle.measuring.proofs.CategoryLaws.{time_few, frn_some}
 use Rattle.measuring.proofs.EndLaws.{end_far, early_few, time_absent, time_none, time_there, starts, ends, measure_past, measure_there}
 use Rattle.rules.specs.Entry.{map_places}
 use Rattle.measuring.proofs.record.measure_set.Goals as goal
+use Rattle.measuring.proofs.record.measure_set.Goals.{After-items_from-end, After-items_from-start, After-time_frn-frn, Else-bits-frn-ne1}
 
 -- the FRN of the time; where the set has it, it is one
-few : (c : goal.After-time_frn-frn) → c.time_frn-frn.result ≤ map_places
+few : (c : After-time_frn-frn) → c.time_frn-frn.result ≤ map_places
 few c = omega (arith, time_few c.args.profile, c.time_frn-frn.ensures)
 
-some : (c : goal.Else-bits-frn-ne1) → 1 ≤ c.time_frn-frn.result
+some : (c : Else-bits-frn-ne1) → 1 ≤ c.time_frn-frn.result
 some c = frn_some _ c.args.bits c.requires.0 c.if-bits-frn-ne1.false
 
 pub overflow_sub-frn : goal.overflow_sub-frn
-overflow_sub-frn c = omega (arith, few c)
+overflow_sub-frn c = omega (arith, few (goal.at.overflow_sub-frn c).After-time_frn-frn)
 
 pub measure_untimed-requires : goal.measure_untimed-requires
 measure_untimed-requires c = (c.requires.0, c.requires.1, time_absent _ c.args.part.now _ _ c.time_frn-frn.ensures c.if-bits-frn-ne1.true, c.requires.2)
@@ -28,7 +29,7 @@ measure_untimed-requires-then-is_untimed c =
     (c.requires.0, c.requires.1, time_none _ c.args.part.now _ _ c.time_frn-frn.ensures c.if-bits-frn-ne1.false c.is_untimed.ensures c.if-is_untimed.true, c.requires.2)
 
 pub before-early-requires : goal.before-early-requires
-before-early-requires c = (some c.before.before, omega (arith, few c.before.before.before))
+before-early-requires c = (some (goal.at.before-early-requires c).Else-bits-frn-ne1, omega (arith, few (goal.at.before-early-requires c).After-time_frn-frn))
 
 pub items_from-start-requires : goal.items_from-start-requires
 items_from-start-requires c = (omega (arith, early_few _ _ c.before-early.ensures, c.requires.0), omega (arith, c.requires.1), c.requires.2)
@@ -37,30 +38,30 @@ pub overflow_sub-bits : goal.overflow_sub-bits
 overflow_sub-bits c = early_few _ _ c.before-early.ensures
 
 -- the time stands not far from the record's start
-near : (c : goal.After-items_from-start)
+near : (c : After-items_from-start)
     → c.items_from-start.result ≤ max c.args.from (length c.args.part.now) + 4_096_638
 near c =
     subst (λ x. x ≤ max c.args.from (length c.args.part.now) + 4_096_638) (sym c.items_from-start.ensures)
     (end_far _ c.args.part.now (octets_all c.args.part.now c.type_inv.part) _ _)
 
-start_is : (c : goal.After-items_from-start) → c.items_from-start.result ≡ start_of c.args.profile c.time_frn-frn.result c.args.bits c.args.part.now c.args.from
+start_is : (c : After-items_from-start) → c.items_from-start.result ≡ start_of c.args.profile c.time_frn-frn.result c.args.bits c.args.part.now c.args.from
 start_is c = starts _ c.args.part.now _ _ _ c.before-early.ensures c.items_from-start.ensures
 
-end_is : (c : goal.After-items_from-end) → c.items_from-end.result ≡ end_of c.args.profile c.args.bits c.args.part.now c.args.from
+end_is : (c : After-items_from-end) → c.items_from-end.result ≡ end_of c.args.profile c.args.bits c.args.part.now c.args.from
 end_is c =
     ends _ c.args.part.now _ _ c.time_frn-frn.result c.before-early.ensures c.items_from-start.ensures c.requires.0 (some c.before.before.before.before.before) (omega (arith, few c.before.before.before.before.before.before)) c.items_from-end.ensures
 
 pub items_from-end-requires : goal.items_from-end-requires
-items_from-end-requires c = (omega (arith, c.requires.0), omega (arith, c.requires.1, near c), c.requires.2)
+items_from-end-requires c = (omega (arith, c.requires.0), omega (arith, c.requires.1, near (goal.at.items_from-end-requires c).After-items_from-start), c.requires.2)
 
 pub returns-then-part-end : goal.returns-then-part-end
-returns-then-part-end c = c.untimed.ensures ∙ measure_past _ c.args.part.now _ _ (end_is c.before.before) c.if-part-end.true
+returns-then-part-end c = c.untimed.ensures ∙ measure_past _ c.args.part.now _ _ (end_is (goal.at.returns-then-part-end c).After-items_from-end) c.if-part-end.true
 
 pub timed-requires : goal.timed-requires
-timed-requires c = omega (arith, near c.before.before, c.requires.1)
+timed-requires c = omega (arith, near (goal.at.timed-requires c).After-items_from-start, c.requires.1)
 
 pub returns : goal.returns
 returns c =
     c.timed.ensures
-    ∙ measure_there _ c.args.part.now _ _ (end_is c.before.before) _ c.if-part-end.false
-    (time_there _ c.args.part.now _ _ c.time_frn-frn.ensures c.if-bits-frn-ne1.false c.is_untimed.ensures c.if-is_untimed.false (start_is c.before.before.before))
+    ∙ measure_there _ c.args.part.now _ _ (end_is (goal.at.returns c).After-items_from-end) _ c.if-part-end.false
+    (time_there _ c.args.part.now _ _ c.time_frn-frn.ensures c.if-bits-frn-ne1.false c.is_untimed.ensures c.if-is_untimed.false (start_is (goal.at.returns c).After-items_from-start))

@@ -7,8 +7,9 @@ use Rattle.quick_items.proofs.ItemLaws.{octet_at, product_fits, asked_octets, fr
 use Rattle.sets.proofs.SetLaws.{octets_all}
 use Rattle.measuring.proofs.EndLaws.{first_at}
 use Rattle.measuring.proofs.record.octets_at.Goals as goal
+use Rattle.measuring.proofs.record.octets_at.Goals.{After-octet_at-x, After-word_of-w}
 
-few : (c : goal.After-word_of-w) → get_or (drop c.args.at c.args.part.now) 0 0 < 256
+few : (c : After-word_of-w) → get_or (drop c.args.at c.args.part.now) 0 0 < 256
 few c =
     subst (λ x. x < 256) (first_at c.args.part.now c.args.at)
     (octet_at c.args.part.now (octets_all c.args.part.now c.type_inv.part) _)
@@ -19,15 +20,15 @@ returns-then-w-eq0 c =
     ∙ asked_octets _ _ _ c.requires c.word_of-w.ensures _ c.if-w-eq0.true
 
 pub returns-then-w-lt8 : goal.returns-then-w-lt8
-returns-then-w-lt8 c = free_octets _ _ _ c.requires c.word_of-w.ensures _ (few c.before.before) (omega (arith, c.if-w-eq0.false)) c.if-w-lt8.true
+returns-then-w-lt8 c = free_octets _ _ _ c.requires c.word_of-w.ensures _ (few (goal.at.returns-then-w-lt8 c).After-word_of-w) (omega (arith, c.if-w-eq0.false)) c.if-w-lt8.true
 
 -- the first octet, as it was read
-first_is : (c : goal.After-octet_at-x)
+first_is : (c : After-octet_at-x)
     → c.octet_at-x.result ≡ get_or (drop c.args.at c.args.part.now) 0 0
 first_is c = c.octet_at-x.ensures.0 ∙ first_at c.args.part.now c.args.at
 
 pub returns-then-w-eq-EXTENDED : goal.returns-then-w-eq-EXTENDED
-returns-then-w-eq-EXTENDED c = extended_octets _ _ _ c.requires c.word_of-w.ensures _ (few c.before.before.before) (omega (arith, c.if-w-lt8.false)) (first_is c.before) c.if-w-eq-EXTENDED.true
+returns-then-w-eq-EXTENDED c = extended_octets _ _ _ c.requires c.word_of-w.ensures _ (few (goal.at.returns-then-w-eq-EXTENDED c).After-word_of-w) (omega (arith, c.if-w-lt8.false)) (first_is (goal.at.returns-then-w-eq-EXTENDED c).After-octet_at-x) c.if-w-eq-EXTENDED.true
 
 pub overflow_mul-result : goal.overflow_mul-result
 overflow_mul-result c = record { fits = omega (arith, product_fits c.octet_at-x.result c.word_of-w.result c.octet_at-x.ensures.1) }
@@ -36,4 +37,4 @@ pub overflow_add-result-2 : goal.overflow_add-result-2
 overflow_add-result-2 c = record { fits = omega (arith, product_fits c.octet_at-x.result c.word_of-w.result c.octet_at-x.ensures.1) }
 
 pub returns : goal.returns
-returns c = counted_octets _ _ _ c.requires c.word_of-w.ensures _ (few c.before.before.before) (omega (arith, c.if-w-lt8.false)) (first_is c.before) c.if-w-eq-EXTENDED.false
+returns c = counted_octets _ _ _ c.requires c.word_of-w.ensures _ (few (goal.at.returns c).After-word_of-w) (omega (arith, c.if-w-lt8.false)) (first_is (goal.at.returns c).After-octet_at-x) c.if-w-eq-EXTENDED.false

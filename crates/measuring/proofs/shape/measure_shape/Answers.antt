@@ -10,6 +10,7 @@ use Rattle.measuring.specs.Measure.{sized}
 use Rattle.measuring.specs.Shape.{untimed_of, kind_of, time_of, base_of, part_of, Told}
 use Rattle.measuring.proofs.ShapeLaws.{parts_fit, time_by, time_none, time_untimed, time_clock, told_none, shape_some, shape_few, shape_told}
 use Rattle.measuring.proofs.shape.measure_shape.Goals as goal
+use Rattle.measuring.proofs.shape.measure_shape.Goals.{Else-shape-profile}
 
 pub returns-then-part-lt5 : goal.returns-then-part-lt5
 returns-then-part-lt5 c = told_none _ _ _ c.untimed.ensures
@@ -18,20 +19,20 @@ pub returns-then-shape-profile : goal.returns-then-shape-profile
 returns-then-shape-profile c = told_none _ _ _ c.untimed-then-shape-profile.ensures
 
 -- the octets of the shape's FSPEC
-some : (c : goal.Else-shape-profile) → 0 < used_of c.long-shape.result
+some : (c : Else-shape-profile) → 0 < used_of c.long-shape.result
 some c = shape_some c.args.shapes.now c.requires _ _ _ c.slot_of-at.ensures c.long-shape.ensures refl
 
-few : (c : goal.Else-shape-profile) → used_of c.long-shape.result ≤ 5
+few : (c : Else-shape-profile) → used_of c.long-shape.result ≤ 5
 few c = shape_few c.args.shapes.now c.requires _ _ _ c.slot_of-at.ensures c.long-shape.ensures refl
 
 pub overflow_sub-up : goal.overflow_sub-up
-overflow_sub-up c = omega (arith, few c)
+overflow_sub-up c = omega (arith, few (goal.at.overflow_sub-up c).Else-shape-profile)
 
 pub overflow_shl-five : goal.overflow_shl-five
-overflow_shl-five c = omega (arith, some c, few c)
+overflow_shl-five c = omega (arith, some (goal.at.overflow_shl-five c).Else-shape-profile, few (goal.at.overflow_shl-five c).Else-shape-profile)
 
 pub overflow_shl-shape : goal.overflow_shl-shape
-overflow_shl-shape c = omega (arith, some c, few c)
+overflow_shl-shape c = omega (arith, some (goal.at.overflow_shl-shape c).Else-shape-profile, few (goal.at.overflow_shl-shape c).Else-shape-profile)
 
 pub returns-then-five-up : goal.returns-then-five-up
 returns-then-five-up c = told_none _ _ _ c.untimed-then-five-up.ensures
@@ -66,12 +67,12 @@ module _ (c : tie.Else5) where
       _ _ _ t octets r c.before.before.before.before.before.before.before.before.before.before.before.before.before.shared-slice-known.given c.before.before.before.before.before.before.before.if2.false c.before.before.before.before.before.before.before.before.before.before.before.before.if1.false c.before.before.before.before.before.before.before.before.before.before.before.first-five.ensures c.before.before.before.before.before.before.if3.false c.before.octet.ensures.0 c.if5.false et er
 
 pub returns-then-time-eq0 : goal.returns-then-time-eq0
-returns-then-time-eq0 c = told c.before.before _ _ (time_none (time_of (row c.before.before)) (kind_of (row c.before.before)) (untimed_of (row c.before.before)) (octets c.before.before) c.if-time-eq0.true) c.untimed-then-time-eq0.ensures
+returns-then-time-eq0 c = told (goal.at.returns-then-time-eq0 c).Else-part-size _ _ (time_none (time_of (row (goal.at.returns-then-time-eq0 c).Else-part-size)) (kind_of (row (goal.at.returns-then-time-eq0 c).Else-part-size)) (untimed_of (row (goal.at.returns-then-time-eq0 c).Else-part-size)) (octets (goal.at.returns-then-time-eq0 c).Else-part-size) c.if-time-eq0.true) c.untimed-then-time-eq0.ensures
 
 pub returns-then-octet_at-row : goal.returns-then-octet_at-row
 returns-then-octet_at-row c =
-    told c.before.before.before.before _ _ (time_untimed (time_of (row c.before.before.before.before)) (kind_of (row c.before.before.before.before)) (untimed_of (row c.before.before.before.before)) (octets c.before.before.before.before) c.if-time-eq0.false c.octet_at.ensures.0 c.if-octet_at-row.true) c.untimed-then-octet_at-row.ensures
+    told (goal.at.returns-then-octet_at-row c).Else-part-size _ _ (time_untimed (time_of (row (goal.at.returns-then-octet_at-row c).Else-part-size)) (kind_of (row (goal.at.returns-then-octet_at-row c).Else-part-size)) (untimed_of (row (goal.at.returns-then-octet_at-row c).Else-part-size)) (octets (goal.at.returns-then-octet_at-row c).Else-part-size) c.if-time-eq0.false c.octet_at.ensures.0 c.if-octet_at-row.true) c.untimed-then-octet_at-row.ensures
 
 pub returns : goal.returns
 returns c =
-    told c.before.before.before.before _ _ (time_clock (time_of (row c.before.before.before.before)) (kind_of (row c.before.before.before.before)) (untimed_of (row c.before.before.before.before)) (octets c.before.before.before.before) c.if-time-eq0.false c.octet_at.ensures.0 c.if-octet_at-row.false) c.timed.ensures
+    told (goal.at.returns c).Else-part-size _ _ (time_clock (time_of (row (goal.at.returns c).Else-part-size)) (kind_of (row (goal.at.returns c).Else-part-size)) (untimed_of (row (goal.at.returns c).Else-part-size)) (octets (goal.at.returns c).Else-part-size) c.if-time-eq0.false c.octet_at.ensures.0 c.if-octet_at-row.false) c.timed.ensures

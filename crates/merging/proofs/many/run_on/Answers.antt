@@ -8,13 +8,14 @@ use Rattle.merging.proofs.ManyLaws.{running_first, running_long, running_full, r
 use Rattle.merging.proofs.many.run_on.Goals as goal
 
 pub loop-n-init : goal.loop-n-init
-loop-n-init c = record { two = refl; tests = refl; in_a = c.before.is-head.ensures; in_b = c.is-head2.ensures; run = running_first _ _ _ _ _ }
+loop-n-init c = record { two = refl; tests = refl; in_a = c.is_head-there_a.ensures; in_b = c.is_head-there_b.ensures; run = running_first _ _ _ _ _ }
 
 pub shape_of-out-then-log-ge2 : goal.shape_of-out-then-log-ge2
 shape_of-out-then-log-ge2 c = running_long _ _ _ _ _ _ _ _ c.loop-n.invariant.run
 
 pub returns-then-log-ge2 : goal.returns-then-log-ge2
-returns-then-log-ge2 c = running_none _ _ _ _ _ _ _ _ c.loop-n.invariant.run c.loop-n-test.true _ (held_which _ _ _ _ _ _ _ _ _ _ c.loop-n.invariant _ c.first_by.ensures) _ c.log_number-log.ensures c.if-log-ge2.true
+returns-then-log-ge2 c = let told = running_none _ _ _ _ _ _ _ _ c.loop-n.invariant.run c.loop-n-test.true _ (held_which _ _ _ _ _ _ _ _ _ _ c.loop-n.invariant _ c.first_by.ensures) _ c.log_number-log.ensures c.if-log-ge2.true in
+    record { answer = told.0; left = told.1 }
 
 pub offset_bounds-heads-log : goal.offset_bounds-heads-log
 offset_bounds-heads-log c = record { fits = omega (arith, c.if-log-ge2.false) }
@@ -44,7 +45,7 @@ pub bounds-there-log : goal.bounds-there-log
 bounds-there-log c = c.if-log-ge2.false
 
 pub overflow_add-n : goal.overflow_add-n
-overflow_add-n c = record { fits = omega (arith, (overflow_mul-n c.before.before.before.before.before.before.before).fits) }
+overflow_add-n c = record { fits = omega (arith, (overflow_mul-n (goal.at.overflow_add-n c).After-put-arg-1).fits) }
 
 pub loop-n-smaller : goal.loop-n-smaller
 loop-n-smaller c = omega (arith, c.loop-n-test.true)
@@ -56,4 +57,5 @@ pub shape_of-out : goal.shape_of-out
 shape_of-out c = running_long _ _ _ _ _ _ _ _ c.loop-n.invariant.run
 
 pub returns : goal.returns
-returns c = running_full _ _ _ _ _ _ _ _ c.loop-n.invariant.run c.loop-n-test.false
+returns c = let told = running_full _ _ _ _ _ _ _ _ c.loop-n.invariant.run c.loop-n-test.false in
+    record { answer = told.0; left = told.1 }

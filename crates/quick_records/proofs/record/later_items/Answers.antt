@@ -12,46 +12,47 @@ use Rattle.quick_items.proofs.ItemLaws.{told}
 use Rattle.sets.proofs.FlagLaws.{First, first}
 use Rattle.quick_records.proofs.RecordLaws.{stand_first, stand_next, stand_end}
 use Rattle.quick_records.proofs.record.later_items.Goals as goal
+use Rattle.quick_records.proofs.record.later_items.Goals.{After-weight-left, Else-n-eq0, In-loop-left}
 
 pub loop-left-init : goal.loop-left-init
 loop-left-init c = stand_first _ _ _ c.requires.2
 
 -- the item with the highest bit that is left
-of : (c : goal.In-loop-left invariant-loop decreases-loop) → First c.loop-left.left (count_leading_zeros 64 c.loop-left.left)
+of : (c : In-loop-left) → First c.loop-left.left (count_leading_zeros 64 c.loop-left.left)
 of c = first c.loop-left.left c.loop-left-test.true (omega (arith, c.loop-left.invariant.below))
 
 pub overflow_cast-frn : goal.overflow_cast-frn
-overflow_cast-frn c = record { fits = omega (arith, (of c).few) }
+overflow_cast-frn c = record { fits = omega (arith, (of (goal.at.overflow_cast-frn c).In-loop-left).few) }
 
 pub quick_item-n-requires : goal.quick_item-n-requires
 quick_item-n-requires c = c.requires.0
 
-item : (c : goal.Else-n-eq0 invariant-loop decreases-loop) → check_at c.args.profile (count_leading_zeros 64 c.loop-left.left) c.loop-left.rest.now ≡ ok c.quick_item-n.result
+item : (c : Else-n-eq0) → check_at c.args.profile (count_leading_zeros 64 c.loop-left.left) c.loop-left.rest.now ≡ ok c.quick_item-n.result
 item c = told _ _ c.quick_item-n.ensures c.if-n-eq0.false
 
-within : (c : goal.Else-n-eq0 invariant-loop decreases-loop) → c.quick_item-n.result ≤ length c.loop-left.rest.now
+within : (c : Else-n-eq0) → c.quick_item-n.result ≤ length c.loop-left.rest.now
 within c = check_within _ _ _ _ (item c)
 
 pub slice_bounds-rest-count : goal.slice_bounds-rest-count
-slice_bounds-rest-count c = within c
+slice_bounds-rest-count c = within (goal.at.slice_bounds-rest-count c).Else-n-eq0
 
 pub slice_bounds-rest-start : goal.slice_bounds-rest-start
-slice_bounds-rest-start c = within c
+slice_bounds-rest-start c = within (goal.at.slice_bounds-rest-start c).Else-n-eq0
 
 pub weight-left-requires : goal.weight-left-requires
-weight-left-requires c = (of c.before.before.before).few
+weight-left-requires c = (of (goal.at.weight-left-requires c).In-loop-left).few
 
-there : (c : goal.After-weight-left invariant-loop decreases-loop) → c.weight-left.result ≤ c.loop-left.left
+there : (c : After-weight-left) → c.weight-left.result ≤ c.loop-left.left
 there c = rw c.weight-left.ensures (of c.before.before.before.before).there
 
 pub overflow_sub-left : goal.overflow_sub-left
-overflow_sub-left c = there c
+overflow_sub-left c = there (goal.at.overflow_sub-left c).After-weight-left
 
 pub loop-left-smaller : goal.loop-left-smaller
-loop-left-smaller c = omega (arith, there c, c.weight-left.ensures, pow_pos (63 - count_leading_zeros 64 c.loop-left.left))
+loop-left-smaller c = omega (arith, there (goal.at.loop-left-smaller c).After-weight-left, c.weight-left.ensures, pow_pos (63 - count_leading_zeros 64 c.loop-left.left))
 
 pub loop-left-preserved : goal.loop-left-preserved
-loop-left-preserved c = rw c.weight-left.ensures (stand_next _ _ _ _ _ c.loop-left.invariant _ (of c.before.before.before.before) _ (item c.before.before))
+loop-left-preserved c = rw c.weight-left.ensures (stand_next _ _ _ _ _ c.loop-left.invariant _ (of (goal.at.loop-left-preserved c).In-loop-left) _ (item (goal.at.loop-left-preserved c).Else-n-eq0))
 
 pub overflow_sub-result : goal.overflow_sub-result
 overflow_sub-result c = omega (arith, c.loop-left.invariant.fewer)

@@ -5,6 +5,7 @@ use native.Mathlib.Omega.{arith}
 use Rattle.sets.proofs.ProfileLaws.{profile_short}
 use Rattle.sets.proofs.SetLaws.{octets_all, set_begin, set_cut, set_past, set_last, set_more, set_room}
 use Rattle.sets.proofs.ItemSet.from_octets.Goals as goal
+use Rattle.sets.proofs.ItemSet.from_octets.Goals.{After-presence-bits}
 
 pub loop-used-init : goal.loop-used-init
 loop-used-init c = (omega arith, omega (arith, profile_short c.args.profile, c.fspec_most-most.ensures), omega arith, set_begin _ _ _ c.fspec_most-most.ensures (octets_all c.args.part.now c.type_inv.part))
@@ -13,13 +14,13 @@ pub returns-then-rest-eq0 : goal.returns-then-rest-eq0
 returns-then-rest-eq0 c = sym (set_cut _ _ _ _ _ c.loop-used-test.true c.if-rest-eq0.true) ∙ c.loop-used.invariant.3
 
 -- the set so far with one octet more
-room : (c : goal.After-presence-bits invariant-loop decreases-loop)
+room : (c : After-presence-bits)
     → c.loop-used.bits + c.presence-bits.result + 2 ^ (63 - 7 * (c.loop-used.used + 1)) ≤ 2 ^ 63
 room c =
     set_room _ _ c.wide-x.result _ (omega arith) (omega arith) c.presence-bits.ensures c.loop-used.invariant.2
 
 pub overflow_add-bits : goal.overflow_add-bits
-overflow_add-bits c = omega (arith, room c)
+overflow_add-bits c = omega (arith, room (goal.at.overflow_add-bits c).After-presence-bits)
 
 pub returns-then-x-eq0 : goal.returns-then-x-eq0
 returns-then-x-eq0 c =
@@ -31,7 +32,7 @@ pub loop-used-preserved : goal.loop-used-preserved
 loop-used-preserved c = (
   omega arith,
   omega arith,
-  room c.before.before,
+  room (goal.at.loop-used-preserved c).After-presence-bits,
   sym (set_more _ _ _ _ _ _ _ c.loop-used-test.true c.if-rest-eq0.false c.wide-x.ensures.0 c.presence-bits.ensures c.if-x-eq0.false)
       ∙ c.loop-used.invariant.3,
 )

@@ -8,42 +8,41 @@ use Rattle.tables.specs.Tables.{layout_at, format_is}
 use Rattle.writing.specs.Compound.{spanned, span_from, span_as}
 use Rattle.writing.proofs.PlaceLaws.{span_inside, place_passes, lays, absent_laid, there_laid, there_fits}
 use Rattle.writing.proofs.compound.lay_place.Goals as goal
+use Rattle.writing.proofs.compound.lay_place.Goals.{In-Values}
 
 -- where the values stand
-spanned-at : (c : goal.In-Values)
+spanned-at : (c : In-Values)
     → ok (spanned true c.in-Values.first c.in-Values.end c.in-Values.count) ≡ span_from (format_is (layout_at c.args.layout)) c.args.values.now c.args.at
 spanned-at c = sym (ap span_as c.in-Values.is) ∙ c.span_of.ensures
 
 pub offset_bounds-values-first : goal.offset_bounds-values-first
-offset_bounds-values-first c = omega (arith, span_inside _ _ _ c.requires.layout_lt_layout_count.1.0 (spanned-at c), c.well_formed)
+offset_bounds-values-first c = omega (arith, span_inside _ _ _ c.requires.layout_lt_layout_count.1.0 (spanned-at (goal.at.offset_bounds-values-first c).In-Values), c.well_formed)
 
 pub slice_bounds-lay-count : goal.slice_bounds-lay-count
-slice_bounds-lay-count c = (span_inside _ _ _ c.requires.layout_lt_layout_count.1.0 (spanned-at c)).0
+slice_bounds-lay-count c = (span_inside _ _ _ c.requires.layout_lt_layout_count.1.0 (spanned-at (goal.at.slice_bounds-lay-count c).In-Values)).0
 
 pub slice_bounds-lay-start : goal.slice_bounds-lay-start
-slice_bounds-lay-start c = (span_inside _ _ _ c.requires.layout_lt_layout_count.1.0 (spanned-at c)).0
+slice_bounds-lay-start c = (span_inside _ _ _ c.requires.layout_lt_layout_count.1.0 (spanned-at (goal.at.slice_bounds-lay-start c).In-Values)).0
 
 pub slice_bounds-lay-end : goal.slice_bounds-lay-end
-slice_bounds-lay-end c = (span_inside _ _ _ c.requires.layout_lt_layout_count.1.0 (spanned-at c)).1
+slice_bounds-lay-end c = (span_inside _ _ _ c.requires.layout_lt_layout_count.1.0 (spanned-at (goal.at.slice_bounds-lay-end c).In-Values)).1
 
 pub lay-requires : goal.lay-requires
 lay-requires c =
-    let k = c.before.before in
-    let s = c.before.before.before.before.before.before.before in (
-      (s.requires.0.0, (lays _ _ _ s.requires.0.1.1 s.requires.0.1.0 (spanned-at k)).sizes),
-      there_fits _ _ _ s.requires.0.1.1 _ s.args.out.now s.requires.0.1.0 (spanned-at k) s.requires.1,
-    )
+    record { layout_lt_layout_count = (c.requires.layout_lt_layout_count.0, (lays _ _ _ c.requires.layout_lt_layout_count.1.1 c.requires.layout_lt_layout_count.1.0 (spanned-at k)).sizes); values_in_bounds = there_fits _ _ _ c.requires.layout_lt_layout_count.1.1 _ c.args.out.now c.requires.layout_lt_layout_count.1.0 (spanned-at k) c.requires.at_in_bounds }
 
 -- the rule passes: this does not happen
 pub returns-in-Refused : goal.returns-in-Refused
-returns-in-Refused c = place_passes _ _ _ c.requires.layout_lt_layout_count.1.1 (sym (ap span_as c.in-Refused.is) ∙ c.span_of.ensures)
+returns-in-Refused c = let told = place_passes _ _ _ c.requires.layout_lt_layout_count.1.1 (sym (ap span_as c.in-Refused.is) ∙ c.span_of.ensures) in
+    record { laid = told.0; told = told.1 }
 
 -- absent
 pub returns-in-Absent : goal.returns-in-Absent
-returns-in-Absent c = absent_laid _ _ _ c.requires.layout_lt_layout_count.1.1 _ _ (sym (ap span_as c.in-Absent.is) ∙ c.span_of.ensures)
+returns-in-Absent c = let told = absent_laid _ _ _ c.requires.layout_lt_layout_count.1.1 _ _ (sym (ap span_as c.in-Absent.is) ∙ c.span_of.ensures) in
+    record { laid = told.0; told = told.1 }
 
 -- there
 pub returns-in-Values : goal.returns-in-Values
 returns-in-Values c =
-    let s = c.before.before.before.before.before.before.before.before.before.before in
-    there_laid _ _ _ s.requires.0.1.1 _ _ s.requires.0.1.0 (spanned-at c.before.before.before.before.before) c.lay.ensures.0 c.lay.ensures.1
+    let told = there_laid _ _ _ c.requires.layout_lt_layout_count.1.1 _ _ c.requires.layout_lt_layout_count.1.0 (spanned-at (goal.at.returns-in-Values c).In-Values) c.lay.ensures.0 c.lay.ensures.1 in
+    record { laid = told.0; told = told.1 }

@@ -17,7 +17,7 @@ subfield_at-requires c = step_in _ _ _ _ _ _ _ _ _ _ _ c.loop-i.invariant c.loop
 pub lay_place-x-requires : goal.lay_place-x-requires
 lay_place-x-requires c =
     let t = step _ _ _ _ _ _ _ _ _ _ _ c.loop-i.invariant c.loop-i-test.true c.subfield_at.ensures.0 in
-    ((c.subfield_at.ensures.1, (kind_few _ c.subfield_at.ensures.0, t.passes)), t.fit)
+    record { layout_lt_layout_count = (c.subfield_at.ensures.1, (kind_few _ c.subfield_at.ensures.0, t.passes)); at_in_bounds = t.fit }
 
 pub mark-bits-requires : goal.mark-bits-requires
 mark-bits-requires c = step_fits _ _ _ _ _ _ _ _ _ _ _ c.loop-i.invariant c.loop-i-test.true c.lay_place-x.result.there
@@ -37,4 +37,5 @@ shape_of-out c = c.loop-i.invariant.long
 
 -- all bits are laid
 pub returns : goal.returns
-returns c = step_all _ _ _ _ _ _ _ _ _ _ _ c.loop-i.invariant c.loop-i-test.false
+returns c = let told = step_all _ _ _ _ _ _ _ _ _ _ _ c.loop-i.invariant c.loop-i-test.false in
+    record { laid = told.0; told = told.1 }

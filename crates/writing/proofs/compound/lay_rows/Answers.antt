@@ -20,7 +20,7 @@ overflow_mul-first c = omega (arith, fill_in _ _ _ _ _ _ _ _ _ c.loop-row.invari
 pub lay_row-x-requires : goal.lay_row-x-requires
 lay_row-x-requires c =
     let t = fill _ _ _ _ _ _ _ _ _ c.loop-row.invariant c.loop-row-test.true in
-    ((fill_in _ _ _ _ _ _ _ _ _ c.loop-row.invariant c.loop-row-test.true c.requires.layout_lt_layout_count.1.0, t.passes), t.fit)
+    record { first_bound = (fill_in _ _ _ _ _ _ _ _ _ c.loop-row.invariant c.loop-row-test.true c.requires.layout_lt_layout_count.1.0, t.passes); at_in_bounds = t.fit }
 
 pub overflow_add-row : goal.overflow_add-row
 overflow_add-row c = omega (arith, fill_in _ _ _ _ _ _ _ _ _ c.loop-row.invariant c.loop-row-test.true c.requires.layout_lt_layout_count.1.0, sub_many)
@@ -32,10 +32,7 @@ mark-requires c =
 pub lay_number-requires : goal.lay_number-requires
 lay_number-requires c =
     let i = c.loop-row.invariant in
-    let h = c.loop-row-test.true in (
-      (omega arith, subst (λ x. x < 256) (sym c.mark.ensures) (fill_fits _ _ _ _ _ _ _ _ _ i h (ltb (c.loop-row.row + 1) c.args.count) c.lay_row-x.ensures.told.0)),
-      fill_place _ _ _ _ _ _ _ _ _ i h c.lay_row-x.ensures.laid,
-    )
+    let h = c.loop-row-test.true in record { size_bound = (omega arith, subst (λ x. x < 256) (sym c.mark.ensures) (fill_fits _ _ _ _ _ _ _ _ _ i h (ltb (c.loop-row.row + 1) c.args.count) c.lay_row-x.ensures.told.0)); size_in_bounds = fill_place _ _ _ _ _ _ _ _ _ i h c.lay_row-x.ensures.laid }
 
 pub overflow_add-row-in-loop-row : goal.overflow_add-row-in-loop-row
 overflow_add-row-in-loop-row c = omega (arith, fill_in _ _ _ _ _ _ _ _ _ c.loop-row.invariant c.loop-row-test.true c.requires.layout_lt_layout_count.1.0, sub_many)

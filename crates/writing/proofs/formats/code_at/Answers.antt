@@ -2,9 +2,10 @@
 use borrow.Author.Rules.{rules}
 use Rattle.writing.proofs.CodeLaws.{Taken, code_none, code_low, code_high, bits_few, shift_some, code_neg, code_pos}
 use Rattle.writing.proofs.formats.code_at.Goals as goal
+use Rattle.writing.proofs.formats.code_at.Goals.{After-v-1}
 
 -- the value and the row that the tests look at
-taken_at : (c : goal.After-v-1) → Taken c.args.field c.args.values.now c.args.at c.field_at-f.result
+taken_at : (c : After-v-1) → Taken c.args.field c.args.values.now c.args.at c.field_at-f.result
 taken_at c = record { row = c.field_at-f.ensures; there = c.if-values-at.false; fits = record { sfits = c.v-1.given } }
 
 -- no value
@@ -14,39 +15,39 @@ returns-then-values-at c = code_none c.args.field c.args.values.now c.args.at c.
 -- below the least
 pub returns-then-v-f : goal.returns-then-v-f
 returns-then-v-f c =
-    code_low (taken_at c.before.before.before) (search rules) c.if-v-f.true
+    code_low (taken_at (goal.at.returns-then-v-f c).After-v-1) (search rules) c.if-v-f.true
 
 -- above the greatest
 pub returns-then-f-v : goal.returns-then-f-v
 returns-then-f-v c =
-    code_high (taken_at c.before.before.before.before.before.before) (search rules) c.if-f-v.true
+    code_high (taken_at (goal.at.returns-then-f-v c).After-v-1) (search rules) c.if-f-v.true
 
 pub overflow_shl-result : goal.overflow_shl-result
 overflow_shl-result c =
-    bits_few (taken_at c.before.before.before.before.before.before.before) c.requires
+    bits_few (taken_at (goal.at.overflow_shl-result c).After-v-1) c.requires
     (search rules) c.if-v-f.false
 
 pub overflow_sub-result : goal.overflow_sub-result
 overflow_sub-result c =
-    shift_some (taken_at c.before.before.before.before.before.before.before) c.requires
+    shift_some (taken_at (goal.at.overflow_sub-result c).After-v-1) c.requires
     (search rules) c.if-v-f.false
 
 pub overflow_sub-result-then-v-lt0 : goal.overflow_sub-result-then-v-lt0
 overflow_sub-result-then-v-lt0 c =
-    (code_neg (taken_at c.before.before.before.before.before.before.before.before)
+    (code_neg (taken_at (goal.at.overflow_sub-result-then-v-lt0 c).After-v-1)
     c.requires (search rules) c.if-v-f.false
     c.if-v-lt0.true c.magnitude.ensures).0
 
 -- negative
 pub returns-then-v-lt0 : goal.returns-then-v-lt0
 returns-then-v-lt0 c =
-    (code_neg (taken_at c.before.before.before.before.before.before.before.before)
+    (code_neg (taken_at (goal.at.returns-then-v-lt0 c).After-v-1)
     c.requires (search rules) c.if-v-f.false
     c.if-v-lt0.true c.magnitude.ensures).1
 
 -- not negative
 pub returns : goal.returns
 returns c =
-    code_pos (taken_at c.before.before.before.before.before.before.before.before)
+    code_pos (taken_at (goal.at.returns c).After-v-1)
     c.requires (search rules) c.if-v-f.false
     (search rules) c.if-f-v.false c.if-v-lt0.false c.magnitude-2.ensures

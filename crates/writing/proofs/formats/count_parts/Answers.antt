@@ -6,9 +6,10 @@ use native.Mathlib.Omega.{arith}
 use Rattle.writing.specs.Write.{packed_as}
 use Rattle.writing.proofs.PartTurns.{counting, count_all, count_over, part_in_lem, count_no, size_fits, counted}
 use Rattle.writing.proofs.formats.count_parts.Goals as goal
+use Rattle.writing.proofs.formats.count_parts.Goals.{After-struct_known-1}
 
 -- the sizes of the parts so far
-fits_at : (c : goal.After-struct_known-1 invariant-loop decreases-loop)
+fits_at : (c : After-struct_known-1)
     → (c.loop-at.size + c.group_at-g.result.octets ≤ 8 * (c.loop-at.count + 1))
     × (c.loop-at.count < 255)
 fits_at c =
@@ -46,11 +47,11 @@ group_at-g-requires c =
 
 pub overflow_add-size : goal.overflow_add-size
 overflow_add-size c =
-    omega (arith, fits_at c)
+    omega (arith, fits_at (goal.at.overflow_add-size c).After-struct_known-1)
 
 pub overflow_add-count : goal.overflow_add-count
 overflow_add-count c =
-    omega (arith, fits_at c)
+    omega (arith, fits_at (goal.at.overflow_add-count c).After-struct_known-1)
 
 pub loop-at-smaller : goal.loop-at-smaller
 loop-at-smaller c =

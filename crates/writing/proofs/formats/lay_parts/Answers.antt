@@ -7,9 +7,10 @@ use lib.Dec.{eqb}
 use Rattle.writing.specs.Write.{packed_as}
 use Rattle.writing.proofs.PartTurns.{placing, group_in_lem, packs, Placed, placed, placed_all}
 use Rattle.writing.proofs.formats.lay_parts.Goals as goal
+use Rattle.writing.proofs.formats.lay_parts.Goals.{After-group_at-g}
 
 -- a part was packed
-placed_at : (c : goal.After-group_at-g invariant-loop decreases-loop)
+placed_at : (c : After-group_at-g)
     → Placed c.args.layout
     c.args.values.now
     c.args.count
@@ -27,7 +28,7 @@ placed_at c =
 
 pub loop-part-init : goal.loop-part-init
 loop-part-init c =
-    placing _ _ _ _ _ _ c.layout_at-l.ensures c.requires.values_value.0 c.requires.values_value.1
+    placing _ _ _ _ _ _ c.layout_at-l.ensures c.requires.values_value c.requires.values_in_bounds
 
 pub part_group-group-requires : goal.part_group-group-requires
 part_group-group-requires c =
@@ -58,17 +59,16 @@ overflow_add-part c =
 
 pub mark-requires : goal.mark-requires
 mark-requires c =
-    (placed_at c).wide
+    (placed_at (goal.at.mark-requires c).After-group_at-g).wide
 
 pub lay_number-requires : goal.lay_number-requires
 lay_number-requires c =
-    let t = placed_at c.before.before in
-    ((t.short, subst (λ x. x < 2 ^ (8 * c.group_at-g.result.octets)) (sym c.mark.ensures) t.fits), t.fit)
+    let t = placed_at (goal.at.lay_number-requires c).After-group_at-g in
+    record { size_bound = (t.short, subst (λ x. x < 2 ^ (8 * c.group_at-g.result.octets)) (sym c.mark.ensures) t.fits); size_in_bounds = t.fit }
 
 pub overflow_add-at : goal.overflow_add-at
 overflow_add-at c =
-    let g = c.before.before.before.before.before.before in
-    omega (arith, (placed_at g).fit, g.before.before.before.before.before.before.before.loop.invariant.long, g.before.before.before.before.before.before.before.before.before.before.before.well-formed)
+    omega (arith, (placed_at g).fit, c.loop-part.invariant.long, c.well_formed)
 
 pub loop-part-smaller : goal.loop-part-smaller
 loop-part-smaller c =
@@ -76,7 +76,7 @@ loop-part-smaller c =
 
 pub loop-part-preserved : goal.loop-part-preserved
 loop-part-preserved c =
-    (placed_at c.before.before.before.before.before.before).next c.mark.ensures c.lay_number.ensures
+    (placed_at (goal.at.loop-part-preserved c).After-group_at-g).next c.mark.ensures c.lay_number.ensures
 
 pub shape_of-out : goal.shape_of-out
 shape_of-out c =

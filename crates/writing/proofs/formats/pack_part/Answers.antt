@@ -7,9 +7,10 @@ use lib.ListN.{length}
 use Rattle.writing.specs.Write.{group_in, coded_as}
 use Rattle.writing.proofs.PartLaws.{packing, in_place, Added, turn_spare, turn_value, turn_no, packed_all}
 use Rattle.writing.proofs.formats.pack_part.Goals as goal
+use Rattle.writing.proofs.formats.pack_part.Goals.{In-Bits}
 
 -- a value was coded
-value_at : (c : goal.In-Bits invariant-loop decreases-loop)
+value_at : (c : In-Bits)
     → (c.loop-i.k < length c.args.values.now)
     × Added (group_in c.args.group).fields
     c.args.values.now
@@ -55,16 +56,16 @@ returns-in-Refused c =
 
 pub append_bits-n-requires-in-Bits : goal.append_bits-n-requires-in-Bits
 append_bits-n-requires-in-Bits c =
-    (value_at c).1.fits
+    (value_at (goal.at.append_bits-n-requires-in-Bits c).In-Bits).1.fits
 
 pub overflow_add-k : goal.overflow_add-k
 overflow_add-k c =
-    omega (arith, (value_at c.before).0)
+    omega (arith, (value_at (goal.at.overflow_add-k c).In-Bits).0)
 
 -- a value
 pub loop-i-preserved : goal.loop-i-preserved
 loop-i-preserved c =
-    (value_at c.before).1.next c.append_bits-n-in-Bits.ensures
+    (value_at (goal.at.loop-i-preserved c).In-Bits).1.next c.append_bits-n-in-Bits.ensures
 
 -- all fields are packed
 pub returns : goal.returns

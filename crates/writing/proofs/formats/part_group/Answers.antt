@@ -6,17 +6,14 @@ use Rattle.writing.proofs.formats.part_group.Goals as goal
 
 pub overflow_add-result : goal.overflow_add-result
 overflow_add-result c =
-    let s = c.before.before.before.before in
-    omega (arith, groups_few, (part_own s.args.layout s.args.part c.layout_at-l.ensures c.if-l-eq-EXTENDED.true s.requires.1).0)
+    omega (arith, groups_few, (part_own c.args.layout c.args.part c.layout_at-l.ensures c.if-l-eq-EXTENDED.true c.requires.1).0)
 
 -- its own group
 pub returns-then-l-eq-EXTENDED : goal.returns-then-l-eq-EXTENDED
 returns-then-l-eq-EXTENDED c =
-    let s = c.before.before.before.before in
-    part_own s.args.layout s.args.part c.layout_at-l.ensures c.if-l-eq-EXTENDED.true s.requires.1
+    part_own c.args.layout c.args.part c.layout_at-l.ensures c.if-l-eq-EXTENDED.true c.requires.1
 
 -- the shared group
 pub returns : goal.returns
 returns c =
-    let s = c.before.before.before in
-    part_shared s.args.layout s.args.part c.layout_at-l.ensures c.if-l-eq-EXTENDED.false s.requires.1
+    part_shared c.args.layout c.args.part c.layout_at-l.ensures c.if-l-eq-EXTENDED.false c.requires.1

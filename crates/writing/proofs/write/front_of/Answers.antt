@@ -11,11 +11,11 @@ pub loop-n-init : goal.loop-n-init
 loop-n-init c = trimming _
 
 pub loop-n-preserved : goal.loop-n-preserved
-loop-n-preserved c = trimmed _ _ c.before.before.before.before.loop.invariant c.before.before.before.loop-test.true (sym (absent_again (get_or c.before.before.before.before.before.args.fields.now (c.before.before.before.before.loop.n - 1) (pos 0)) (record { sfits = c.is_absent-arg-1.given }) c.is_absent.ensures) ∙ c.if-is_absent.true)
+loop-n-preserved c = trimmed _ _ c.loop-n.invariant c.loop-n-test.true (sym (absent_again (get_or c.args.fields.now (c.loop-n.n - 1) (pos 0)) (record { sfits = c.is_absent-arg-1.given }) c.is_absent.ensures) ∙ c.if-is_absent.true)
 
 -- a value
 pub returns-in-loop-n : goal.returns-in-loop-n
-returns-in-loop-n c = trim_end _ _ c.before.before.before.before.loop.invariant (sym (absent_again (get_or c.before.before.before.before.before.args.fields.now (c.before.before.before.before.loop.n - 1) (pos 0)) (record { sfits = c.is_absent-arg-1.given }) c.is_absent.ensures) ∙ c.if-is_absent.false)
+returns-in-loop-n c = trim_end _ _ c.loop-n.invariant (sym (absent_again (get_or c.args.fields.now (c.loop-n.n - 1) (pos 0)) (record { sfits = c.is_absent-arg-1.given }) c.is_absent.ensures) ∙ c.if-is_absent.false)
 
 -- no value
 pub returns : goal.returns

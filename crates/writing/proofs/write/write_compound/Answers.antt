@@ -6,25 +6,27 @@ use Rattle.writing.specs.Write.{parts}
 use Rattle.writing.specs.Compound.{rows_size, rows_as}
 use Rattle.writing.proofs.ItemLaws.{compound_no, compound_lays, compound_fits, compound_full, compound_done}
 use Rattle.writing.proofs.write.write_compound.Goals as goal
+use Rattle.writing.proofs.write.write_compound.Goals.{In-Rows}
 
 -- what was counted
-counted-at : (c : goal.In-Rows) → ok (parts c.in-Rows.count c.in-Rows.size) ≡ rows_size c.args.layout c.args.fields.now
+counted-at : (c : In-Rows) → ok (parts c.in-Rows.count c.in-Rows.size) ≡ rows_size c.args.layout c.args.fields.now
 counted-at c = sym (ap rows_as c.in-Rows.is) ∙ c.size_rows.ensures
 
 -- 16
 pub returns-then-out-size : goal.returns-then-out-size
-returns-then-out-size c = compound_full _ _ _ c.requires.1 _ _ (counted-at c.before) c.if-out-size.true
+returns-then-out-size c = let told = compound_full _ _ _ c.requires.1 _ _ (counted-at (goal.at.returns-then-out-size c).In-Rows) c.if-out-size.true in
+    record { answer = told.0; left = told.1 }
 
 pub lay_rows-requires : goal.lay_rows-requires
 lay_rows-requires c =
-    let s = c.before.before.before.before.before.before.before in
-    let k = c.before.before in
-    ((s.requires.0, (s.requires.1, compound_lays _ _ s.args.out.now s.requires.1 _ _ (counted-at k))), compound_fits _ _ s.args.out.now s.requires.1 _ _ (counted-at k) c.if-out-size.false)
+    record { layout_lt_layout_count = (c.requires.0, (c.requires.1, compound_lays _ _ c.args.out.now c.requires.1 _ _ (counted-at k))); values_in_bounds = compound_fits _ _ c.args.out.now c.requires.1 _ _ (counted-at k) c.if-out-size.false }
 
 -- they are not its fields
 pub returns-in-Refused : goal.returns-in-Refused
-returns-in-Refused c = compound_no _ _ _ c.requires.1 (sym (ap rows_as c.in-Refused.is) ∙ c.size_rows.ensures)
+returns-in-Refused c = let told = compound_no _ _ _ c.requires.1 (sym (ap rows_as c.in-Refused.is) ∙ c.size_rows.ensures) in
+    record { answer = told.0; left = told.1 }
 
 -- the item is laid
 pub returns-else-out-size : goal.returns-else-out-size
-returns-else-out-size c = compound_done _ _ _ c.requires.1 _ _ (counted-at c.before.before.before.before.before) c.if-out-size.false c.lay_rows.ensures
+returns-else-out-size c = let told = compound_done _ _ _ c.requires.1 _ _ (counted-at (goal.at.returns-else-out-size c).In-Rows) c.if-out-size.false c.lay_rows.ensures in
+    record { answer = told.0; left = told.1 }
