@@ -11,7 +11,7 @@ use Rattle.rules.specs.declared.Shape.TheVariants.{Whole, InLog}
 use Rattle.rules.specs.declared.Mark.{Mark}
 use lib.ListN.{length, take, drop, get_or, length-drop, length-append, take-append-drop}
 use lib.Seq.{drop_at}
-use Rattle.rules.specs.Mark.{size, marks_bytes, marks_in, of_log}
+use Rattle.rules.specs.Mark.{key, mark_in, size, marks_bytes, marks_in, of_log}
 use Rattle.rules.specs.Sheet.{field_bytes, field_length, read_field, read_list}
 use Rattle.rules.proofs.SheetSteps.{read_marks}
 use Rattle.rules.proofs.AnswerLaws.{refused_ok, ok_inj, bind_elim, Octets}
@@ -173,7 +173,7 @@ marks_place f least (suc n) bs k p h =
     ⊎_elim (λ (e : p ≡ 0). omega arith)
     (λ h₁.
     ⊎_elim
-    (λ h₂. let (q, e, g) = later_refused (size f) _ k p h₂ in omega (arith, marks_place f _ n _ k q e, g))
+    (λ h₂. let (q, e, g) = later_refused (size f) _ k p h₂ in omega (arith, marks_place f (suc (key (mark_in f bs))) n _ k q e, g))
     (λ (a, e, h₃). ok_not_refused h₃)
     (bind_refused _ _ k p h₁))
     (need_refused _ _ _ k p h)

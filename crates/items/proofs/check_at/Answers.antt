@@ -5,7 +5,6 @@ use Prim.Native.Nat.{◌<◌, ◌-◌}
 use native.Mathlib.Omega.{arith}
 use Rattle.rules.proofs.AnswerLaws.{Octets}
 use Rattle.tables.specs.declared.tables.LayoutRow.{LayoutRow}
-use Rattle.tables.specs.FieldRules.{single_of}
 use Rattle.tables.specs.Tables.{layout_count, layout_at, place_row_at}
 use Rattle.tables.proofs.TableLaws.{place_row_lem}
 use Rattle.layouts.specs.Read.{shape_is, row_sound}
@@ -16,23 +15,19 @@ use Rattle.compounds.proofs.ItemLaws.{row_item}
 use Rattle.compounds.proofs.SizeLaws.{size_read, size_refused}
 use Rattle.items.proofs.CheckLaws.{Single, single_is, single_of_lem, single_size_lem, single_sound, Free, free_of, free_cut, free_there, one_part}
 use Rattle.items.proofs.check_at.Goals as goal
-use Rattle.items.proofs.check_at.Goals.{After-item_of, After-layout_at, After-shared_slice_known-1, After-single_at-single, Then-single-ge8, Then-single-gt0}
+use Rattle.items.proofs.check_at.Goals.{After-item_of, After-layout_at, After-shared_slice_known-1, Then-single-ge8, Then-single-gt0}
 
 -- the octets of the item
 octets_at_lem : (c : After-shared_slice_known-1) → Octets c.args.part.now
 octets_at_lem c = octets_known c.args.part.now (λ i. omega (arith, c.type_inv.part i))
 
--- what the table says of it
-said : (c : After-single_at-single) → c.single_at-single.result ≡ single_of (layout_at (place_row_at c.args.place).layout)
-said c = c.single_at-single.ensures ∙ single_is c.args.place
-
 -- it has one part, with a rule
 single-here : (c : Then-single-ge8) → Single (layout_at (place_row_at c.args.place).layout) (c.single_at-single.result - 8)
-single-here c = single_of_lem _ _ (layout_sound _ (place_row_lem _)) (said c.before) c.if-single-ge8.true
+single-here c = single_of_lem _ _ (layout_sound _ (place_row_lem _)) ((c.single_at-single.ensures ∙ single_is c.args.place)) c.if-single-ge8.true
 
 -- or it is free
 free-here : (c : Then-single-gt0) → Free (layout_at (place_row_at c.args.place).layout) c.single_at-single.result
-free-here c = free_of _ _ (said c.before.before) c.if-single-gt0.true c.if-single-ge8.false
+free-here c = free_of _ _ ((c.single_at-single.ensures ∙ single_is c.args.place)) c.if-single-gt0.true c.if-single-ge8.false
 
 -- the layout of any other item, and its check
 row_at : (c : After-layout_at) → c.layout_at.result ≡ layout_at (place_row_at c.args.place).layout
@@ -40,7 +35,7 @@ row_at c = c.layout_at.ensures ∙ ap layout_at c.layout_row.ensures
 
 shape_at : (c : After-item_of)
     → shape_is c.item_of.result ≡ shaped (layout_at (place_row_at c.args.place).layout) c.args.part.now
-shape_at c = c.item_of.ensures ∙ ap (λ (l : LayoutRow). shaped l c.args.part.now) (row_at c.before)
+shape_at c = c.item_of.ensures ∙ ap (λ (l : LayoutRow). shaped l c.args.part.now) ((c.layout_at.ensures ∙ ap layout_at c.layout_row.ensures))
 
 pub check_single-requires : goal.check_single-requires
 check_single-requires c = single_sound _ _ (layout_sound _ (place_row_lem _)) (single-here (goal.at.check_single-requires c).Then-single-ge8)

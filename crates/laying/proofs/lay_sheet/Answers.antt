@@ -16,11 +16,14 @@ put_lists-p-requires c =
     record { n_value = c.requires.n_value; first_le_n = (c.requires.first_le_n.0, (c.requires.first_le_n.1, room_start c.args.out.now _ _ _ _ c.put_start.ensures (omega (arith, c.if-out-size.false, c.lists_size.ensures.0)))) }
 
 pub put_last-requires : goal.put_last-requires
-put_last-requires c = record { n_value = c.requires.n_value; n_bound = (
+put_last-requires c = record {
+  n_value = c.requires.n_value;
+  n_bound = (
     omega (arith, c.requires.first_le_n.1),
     room_lists c.args.out.now _ _ _ _ _ _ _ _ _ c.put_start.ensures c.put_lists-p.ensures.1
         (omega (arith, c.if-out-size.false, c.lists_size.ensures.0, c.totals_size.ensures.0, c.put_lists-p.ensures.0)),
-  ) }
+  );
+}
 
 pub returns : goal.returns
 returns c =

@@ -84,7 +84,7 @@ pub weight-left-requires : goal.weight-left-requires
 weight-left-requires c = (turn (goal.at.weight-left-requires c).In-loop-left).few
 
 there : (c : After-weight-left) → c.weight-left.result ≤ c.loop-left.left
-there c = rw c.weight-left.ensures (turn c.before.before.before.before.before.before.before.before).there
+there c = rw c.weight-left.ensures ((stand_next _ _ _ _ _ _ _ _ _ _ c.loop-left.invariant c.loop-left-test.true)).there
 
 pub overflow_sub-left : goal.overflow_sub-left
 overflow_sub-left c = there (goal.at.overflow_sub-left c).After-weight-left

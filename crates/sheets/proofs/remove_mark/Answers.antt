@@ -18,9 +18,9 @@ place_at : (c : In-Accepted) → c.args.place < 4294967296
 place_at c = search rules
 
 -- … and of the mark that was found
-found_at : (c : After-struct_known-2-1) → Found c.args.sheet.now c.key_of-key.result c.in-Accepted.v (seen_at c.before.before.before.before.before.before) c.args.log c.args.place (place_at c.before.before.before.before.before.before) c.key_of-key.ensures.0 c.one_if.result
+found_at : (c : After-struct_known-2-1) → Found c.args.sheet.now c.key_of-key.result c.in-Accepted.v ((seen c.args.sheet.now _ _ (are_bytes c.args.sheet.now (λ i. omega (arith, (c.type_inv.sheet i)))) (ap view_answer (sym c.in-Accepted.is) ∙ c.view_sheet.ensures))) c.args.log c.args.place ((search rules)) c.key_of-key.ensures.0 c.one_if.result
 found_at c =
-    found _ _ _ (seen_at c.before.before.before.before.before.before) c.args.log c.args.place (place_at c.before.before.before.before.before.before) c.key_of-key.ensures.0 _ c.if-not-tally.false c.one_if.ensures
+    found _ _ _ ((seen c.args.sheet.now _ _ (are_bytes c.args.sheet.now (λ i. omega (arith, (c.type_inv.sheet i)))) (ap view_answer (sym c.in-Accepted.is) ∙ c.view_sheet.ensures))) c.args.log c.args.place ((search rules)) c.key_of-key.ensures.0 _ c.if-not-tally.false c.one_if.ensures
 
 pub returns-in-Refused : goal.returns-in-Refused
 returns-in-Refused c =

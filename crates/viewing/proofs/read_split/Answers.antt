@@ -24,7 +24,7 @@ first_at : (c : In-Marks) → ok c.in-Marks.t ≡ fmap (λ x. tally c.args.key x
 first_at c = ap list_answer (sym c.in-Marks.is) ∙ c.read_list.ensures
 
 room_at : (c : In-Marks) → (3 + c.in-Marks.t.count * 7 ≤ length c.args.bs.now) × (c.in-Marks.t.count ≤ form.limit)
-room_at c = split_room form.limit _ small _ (bytes-at c.before.before.before.before) _ (first_at c)
+room_at c = split_room form.limit _ small _ ((are_bytes c.args.bs.now (λ i. omega (arith, c.type_inv.bs i)))) _ (first_at c)
 
 pub returns-in-Fault : goal.returns-in-Fault
 returns-in-Fault c =

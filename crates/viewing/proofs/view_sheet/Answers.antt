@@ -15,20 +15,20 @@ use Rattle.viewing.proofs.view_sheet.Goals as goal
 use Rattle.viewing.proofs.view_sheet.Goals.{After-shared_slice_known-1, In-Known, In-Marks, In-Units, In_default}
 
 -- what is known of the sheet after each of its fields
-bytes-at : (c : After-shared_slice_known-1) → Octets c.args.s.now
+abbrev bytes-at : (c : After-shared_slice_known-1) → Octets c.args.s.now
 bytes-at c = are_bytes c.args.s.now (λ i. omega (arith, (c.type_inv.s i)))
 
-edited-at : (c : In-Known) → Edited form small c.args.s.now (bytes-at c.before.before.before.before) c.args.key c.in-Known.e
-edited-at c = edition_goes form small c.args.s.now (bytes-at c.before.before.before.before) c.args.key _ (ap edition_answer (sym c.in-Known.is) ∙ c.read_edition.ensures)
+edited-at : (c : In-Known) → Edited form small c.args.s.now (are_bytes c.args.s.now (λ i. omega (arith, c.type_inv.s i))) c.args.key c.in-Known.e
+edited-at c = edition_goes form small c.args.s.now (are_bytes c.args.s.now (λ i. omega (arith, c.type_inv.s i))) c.args.key _ (ap edition_answer (sym c.in-Known.is) ∙ c.read_edition.ensures)
 
-offset_at : (c : In-Units) → Offset form small c.args.s.now (bytes-at c.before.before.before.before.before.before.before.before.before) c.args.key c.in-Known.e c.in-Units.o
-offset_at c = offset_goes form small c.args.s.now (bytes-at c.before.before.before.before.before.before.before.before.before) c.args.key _ _ (edited-at c.before.before.before.before.before) (ap offset_answer (sym c.in-Units.is) ∙ c.read_offset.ensures)
+offset_at : (c : In-Units) → Offset form small c.args.s.now (are_bytes c.args.s.now (λ i. omega (arith, c.type_inv.s i))) c.args.key c.in-Known.e c.in-Units.o
+offset_at c = offset_goes form small c.args.s.now (are_bytes c.args.s.now (λ i. omega (arith, c.type_inv.s i))) c.args.key _ _ ((edition_goes form small c.args.s.now (are_bytes c.args.s.now (λ i. omega (arith, c.type_inv.s i))) c.args.key _ (ap edition_answer (sym c.in-Known.is) ∙ c.read_edition.ensures))) (ap offset_answer (sym c.in-Units.is) ∙ c.read_offset.ensures)
 
-marked-at : (c : In-Marks) → Passed form small c.args.s.now (bytes-at c.before.before.before.before.before.before.before.before.before.before.before.before.before.before) c.args.key c.in-Known.e c.in-Units.o c.in-Marks.m
-marked-at c = marks_goes form small c.args.s.now (bytes-at c.before.before.before.before.before.before.before.before.before.before.before.before.before.before) c.args.key _ _ _ (offset_at c.before.before.before.before.before) (ap marks_answer (sym c.in-Marks.is) ∙ c.read_marks.ensures)
+marked-at : (c : In-Marks) → Passed form small c.args.s.now (are_bytes c.args.s.now (λ i. omega (arith, c.type_inv.s i))) c.args.key c.in-Known.e c.in-Units.o c.in-Marks.m
+marked-at c = marks_goes form small c.args.s.now (are_bytes c.args.s.now (λ i. omega (arith, c.type_inv.s i))) c.args.key _ _ _ ((offset_goes form small c.args.s.now (are_bytes c.args.s.now (λ i. omega (arith, c.type_inv.s i))) c.args.key _ _ ((edition_goes form small c.args.s.now (are_bytes c.args.s.now (λ i. omega (arith, c.type_inv.s i))) c.args.key _ (ap edition_answer (sym c.in-Known.is) ∙ c.read_edition.ensures))) (ap offset_answer (sym c.in-Units.is) ∙ c.read_offset.ensures))) (ap marks_answer (sym c.in-Marks.is) ∙ c.read_marks.ensures)
 
-totalled-at : (c : In_default) → Totalled form small c.args.s.now (bytes-at c.before.before.before.before.before.before.before.before.before.before.before.before.before.before.before.before.before.before.before.before.before) c.args.key c.in-Known.e c.in-Units.o c.in-Marks.m
-totalled-at c = totals_goes form small c.args.s.now (bytes-at c.before.before.before.before.before.before.before.before.before.before.before.before.before.before.before.before.before.before.before.before.before) c.args.key _ _ _ _ _ (marked-at c.before.before.before.before.before.before.before) c.end_of-at.ensures.0 (ap count_answer (sym c.in_default.is) ∙ c.read_totals.ensures)
+totalled-at : (c : In_default) → Totalled form small c.args.s.now (are_bytes c.args.s.now (λ i. omega (arith, c.type_inv.s i))) c.args.key c.in-Known.e c.in-Units.o c.in-Marks.m
+totalled-at c = totals_goes form small c.args.s.now (are_bytes c.args.s.now (λ i. omega (arith, c.type_inv.s i))) c.args.key _ _ _ _ _ ((marks_goes form small c.args.s.now (are_bytes c.args.s.now (λ i. omega (arith, c.type_inv.s i))) c.args.key _ _ _ ((offset_goes form small c.args.s.now (are_bytes c.args.s.now (λ i. omega (arith, c.type_inv.s i))) c.args.key _ _ ((edition_goes form small c.args.s.now (are_bytes c.args.s.now (λ i. omega (arith, c.type_inv.s i))) c.args.key _ (ap edition_answer (sym c.in-Known.is) ∙ c.read_edition.ensures))) (ap offset_answer (sym c.in-Units.is) ∙ c.read_offset.ensures))) (ap marks_answer (sym c.in-Marks.is) ∙ c.read_marks.ensures))) c.end_of-at.ensures.0 (ap count_answer (sym c.in_default.is) ∙ c.read_totals.ensures)
 
 pub returns-in-Unread : goal.returns-in-Unread
 returns-in-Unread c =

@@ -45,7 +45,7 @@ named c = category_at_lem _ _ c.profile_of-profile.ensures c.if-profile-ge-PROFI
 
 -- the record, where it is whole
 accepted : (c : In-Ends) → Accepted (category_at (profile c.before.before.before)) ((at c.before.before.before).place - (at c.before.before.before).block) (octets c.before.before.before) c.in-Ends.stop
-accepted c = ended_accepted _ _ (octets c.before.before.before) c.check_record-walked.result.checked c.check_record-walked.ensures.answer _ (clean c.before.before.before) c.in-Ends.is
+accepted c = ended_accepted _ _ (octets c.before.before.before) c.check_record-walked.result.checked c.check_record-walked.ensures.answer _ ((octets_part (recording c) (at c).place (at c).end (octets_each (recording c) c.type_inv.recording))) c.in-Ends.is
 
 -- and where it is not
 barred : (c : In_default) → Refusal (category_at (profile c.before.before)) ((at c.before.before).place - (at c.before.before).block) (octets c.before.before) c.in_default.field-0 c.in_default.field-1

@@ -48,7 +48,7 @@ found : (c : After-check_records-checked)
 found c =
     opened_by_lem _ c.check_records-checked.result
     ∙ ap (λ z. z >>= λ n. ok (opening (head-of c.before.before).category n)) c.check_records-checked.ensures
-    ∙ sym (opened_body _ _ (head-of c.before.before) _ (has-head c.before.before) c.if-len-least.false (to_end c.args.block.now 3))
+    ∙ sym (opened_body _ _ (head-of c.before.before) _ ((sym c.single_head-head.ensures ∙ ap head_of c.in-Head.is)) c.if-len-least.false (to_end c.args.block.now 3))
 
 pub returns-in_default : goal.returns-in_default
 returns-in_default c = record { answer = ap (λ n. refused n 0) (c.number.ensures ∙ ap head_number c.in_default.is) ∙ sym (no_head_lem (goal.at.returns-in_default c).In_default); profile = profile_refused _ _ _ _ (no_head_lem (goal.at.returns-in_default c).In_default) }

@@ -42,7 +42,7 @@ returns-in-Parts c =
     let e = row_at (goal.at.returns-in-Parts c).After-layout_at-l in
     there_kept c.args.place c.args.s.now c.args.start c.args.out.now _ {t = c.args.there} c.if-not-there.false _ _ _
     (sym (ap shape_is c.in-Parts.is) ∙ c.whole_of.ensures ∙ ap (λ (l : LayoutRow). whole_of l c.args.s.now) e)
-    (subst (λ (l : LayoutRow). (c.parts_fields.result ≡ c.args.start + length (part_fields true l c.in-Parts.count c.args.s.now)) × (c.parts_fields.new.1.1.1.1.0 ≡ sets c.args.out.now c.args.start (part_fields true l c.in-Parts.count c.args.s.now))) e c.parts_fields.ensures)
+    (subst (λ (l : LayoutRow). (c.parts_fields.result ≡ c.args.start + length (part_fields true l c.in-Parts.count c.args.s.now)) × (c.parts_fields.new.out ≡ sets c.args.out.now c.args.start (part_fields true l c.in-Parts.count c.args.s.now))) e c.parts_fields.ensures)
 
 pub returns-in-Refused : goal.returns-in-Refused
 returns-in-Refused c =

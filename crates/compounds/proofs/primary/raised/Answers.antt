@@ -11,5 +11,5 @@ returns c = ap₂ ◌*◌ c.wide.ensures.0 c.pow2.ensures
 
 pub overflow_mul-result : goal.overflow_mul-result
 overflow_mul-result c =
-    let e : c.wide.result * c.pow2.result ≡ c.args.x / 2 * 2 ^ (7 * c.args.left) = returns (goal.at.overflow_mul-result c).After-pow2 in
+    let e : c.wide.result * c.pow2.result ≡ c.args.x / 2 * 2 ^ (7 * c.args.left) = ap₂ ◌*◌ c.wide.ensures.0 c.pow2.ensures in
     record { fits = omega (arith, raised_fits c.args.x c.args.left (search rules) c.requires) }

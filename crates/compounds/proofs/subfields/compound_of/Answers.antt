@@ -52,7 +52,7 @@ read_at : (c : In-Parts)
     → (c.in-Octets.count + c.in-Parts.long ≤ length c.args.s.now)
     × (ok (0, c.in-Octets.count + c.in-Parts.long) ≡ size_from 0 (compound_read c.args.l c.args.s.now))
 read_at c =
-    compound_size _ _ _ _ (primary-at c.before.before.before.before.before) _ _ (octets_at_lem c.before.before.before.before.before.before.before.before.before.before) (sym (ap shape_is c.in-Parts.is) ∙ c.subfields_of-shape.ensures)
+    compound_size _ _ _ _ ((sym (ap primary_is c.in-Octets.is) ∙ c.primary_of.ensures)) _ _ ((octets_known c.args.s.now (λ i. omega (arith, c.type_inv.s i)))) (sym (ap shape_is c.in-Parts.is) ∙ c.subfields_of-shape.ensures)
 
 pub overflow_add-result : goal.overflow_add-result
 overflow_add-result c = record { fits = omega (arith, (read_at (goal.at.overflow_add-result c).In-Parts).0, c.well_formed.1.0.0) }

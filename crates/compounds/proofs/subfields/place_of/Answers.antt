@@ -26,7 +26,7 @@ whole_of-requires c = subst (λ (l : LayoutRow). row_sound l ≡ true) (sym (row
 -- its shape
 whole_at : (c : After-whole_of)
     → shape_is c.whole_of.result ≡ whole_of (layout_at (subfield_at c.args.place)) c.args.s.now
-whole_at c = c.whole_of.ensures ∙ ap (λ (l : LayoutRow). whole_of l c.args.s.now) (row_at c.before)
+whole_at c = c.whole_of.ensures ∙ ap (λ (l : LayoutRow). whole_of l c.args.s.now) ((c.layout_at.ensures ∙ ap layout_at c.subfield_at.ensures.0))
 
 pub returns-in-Parts : goal.returns-in-Parts
 returns-in-Parts c =

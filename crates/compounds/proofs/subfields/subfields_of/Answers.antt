@@ -25,7 +25,7 @@ turned c =
     let h = c.loop-more-test.true in
     let o : Octets c.args.s.now = octets_known c.args.s.now (λ i. omega (arith, c.type_inv.s i)) in
     let e = sym (ap shape_is c.in-Parts.is) ∙ c.place_of-shape.ensures in
-    (walk_fits _ _ _ _ _ _ _ _ w h (weight-at c.before.before.before.before.before) _ _ o e, walk_turned _ _ _ _ _ _ _ _ w h (weight-at c.before.before.before.before.before) _ _ o e)
+    (walk_fits _ _ _ _ _ _ _ _ w h ((c.pow2-weight.ensures)) _ _ o e, walk_turned _ _ _ _ _ _ _ _ w h ((c.pow2-weight.ensures)) _ _ o e)
 
 -- src/subfields.rt:43:5
 pub loop-more-init : goal.loop-more-init

@@ -45,10 +45,10 @@ sought c =
 
 -- the item that the map has
 there : (c : Else-first-eq0)
-    → ThereAt c.args.block.now c.args.reference c.args.n c.open_block-opened.result.profile c.in-Accepted.records (is_open c.before.before.before.before.before.before.before.before.before.before.before.before) c.in-Frn.frn
+    → ThereAt c.args.block.now c.args.reference c.args.n c.open_block-opened.result.profile c.in-Accepted.records ((opens c.args.block.now (opening c) (octets_each c.args.block.now c.type_inv.block) (sym c.open_block-opened.ensures.answer ∙ ap (opened_by c.open_block-opened.result.profile) c.in-Accepted.is))) c.in-Frn.frn
     (get_or c.seek_record-located.result.map.starts (c.in-Frn.frn - 1) 0)
 there c =
-    there_at _ _ _ _ _ (is_open c.before.before.before.before.before.before.before.before.before.before.before.before) _ (sought c.before.before.before).map _ (named c.before.before.before.before.before.before.before.before) (sought c.before.before.before).found (ap (λ z. z.starts) (sought c.before.before.before).map_is) c.if-first-eq0.false
+    there_at _ _ _ _ _ ((opens c.args.block.now (opening c) (octets_each c.args.block.now c.type_inv.block) (sym c.open_block-opened.ensures.answer ∙ ap (opened_by c.open_block-opened.result.profile) c.in-Accepted.is))) _ ((located _ c.seek_record-located.result _ _ (subst (λ z. Located c.seek_record-located.result (seek_at (opening c.before.before.before.before.before.before.before.before.before).category 3 z c.args.n)) (to_end c.args.block.now 3) c.seek_record-located.ensures) c.in-At.is)).map _ ((frn_some _ 1 (places (opening c.before.before.before.before).category) _ (ap (λ z. frn_as c.args.reference 1 (flatten z)) (profile_at_lem c.open_block-opened.result.profile) ∙ sym c.frn_of-named.ensures ∙ ap frn_of c.in-Frn.is))) ((located _ c.seek_record-located.result _ _ (subst (λ z. Located c.seek_record-located.result (seek_at (opening c.before.before.before.before.before.before.before.before.before).category 3 z c.args.n)) (to_end c.args.block.now 3) c.seek_record-located.ensures) c.in-At.is)).found (ap (λ z. z.starts) ((located _ c.seek_record-located.result _ _ (subst (λ z. Located c.seek_record-located.result (seek_at (opening c.before.before.before.before.before.before.before.before.before).category 3 z c.args.n)) (to_end c.args.block.now 3) c.seek_record-located.ensures) c.in-At.is)).map_is) c.if-first-eq0.false
 
 -- what its check answers
 checked : (c : Else-first-eq0) → check_at c.open_block-opened.result.profile c.in-Frn.frn (take (length c.args.block.now - get_or c.seek_record-located.result.map.starts (c.in-Frn.frn - 1) 0) (drop (get_or c.seek_record-located.result.map.starts (c.in-Frn.frn - 1) 0) c.args.block.now)) ≡ ok (there c).item.size

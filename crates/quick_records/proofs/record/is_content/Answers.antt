@@ -31,7 +31,7 @@ row : (c : After-is_within-2)
 row c =
     row_read c.args.types.now _ c.requires.0 c.requires.2 _ _ (omega (arith, c.octet-number.ensures.0, c.if-number-ge-KINDS.false))
     (ap (λ x. get_or c.args.types.now (c.args.profile * kind_count + x) 0) (sym c.octet-number.ensures.0) ∙ sym c.octet-row.ensures.0) c.if-row-eq0.false
-    ∙ ap₂ (λ x y. ok (x, y)) (sym (sets_read _ c.requires.1 _ (omega (arith, few c.before.before.before.before.before, c.requires.2)))) (sym (sets_read _ c.requires.1 _ (omega (arith, few c.before.before.before.before.before, c.requires.2))))
+    ∙ ap₂ (λ x y. ok (x, y)) (sym (sets_read _ c.requires.1 _ (omega (arith, (row_few c.args.types.now _ c.requires.0 c.requires.2 c.args.kind _ (omega (arith, c.octet-number.ensures.0, c.if-number-ge-KINDS.false)) (ap (λ x. get_or c.args.types.now (c.args.profile * kind_count + x) 0) (sym c.octet-number.ensures.0) ∙ sym c.octet-row.ensures.0) c.if-row-eq0.false), c.requires.2)))) (sym (sets_read _ c.requires.1 _ (omega (arith, (row_few c.args.types.now _ c.requires.0 c.requires.2 c.args.kind _ (omega (arith, c.octet-number.ensures.0, c.if-number-ge-KINDS.false)) (ap (λ x. get_or c.args.types.now (c.args.profile * kind_count + x) 0) (sym c.octet-number.ensures.0) ∙ sym c.octet-row.ensures.0) c.if-row-eq0.false), c.requires.2))))
 
 pub returns : goal.returns
 returns c = content _ _ _ _ _ c.requires.3 c.requires.4 (row (goal.at.returns c).After-is_within-2) c.is_within.ensures (ap not c.if-not-is_within.false) c.is_within-2.ensures

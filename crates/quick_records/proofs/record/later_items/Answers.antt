@@ -43,7 +43,7 @@ pub weight-left-requires : goal.weight-left-requires
 weight-left-requires c = (of (goal.at.weight-left-requires c).In-loop-left).few
 
 there : (c : After-weight-left) → c.weight-left.result ≤ c.loop-left.left
-there c = rw c.weight-left.ensures (of c.before.before.before.before).there
+there c = rw c.weight-left.ensures ((first c.loop-left.left c.loop-left-test.true (omega (arith, c.loop-left.invariant.below)))).there
 
 pub overflow_sub-left : goal.overflow_sub-left
 overflow_sub-left c = there (goal.at.overflow_sub-left c).After-weight-left

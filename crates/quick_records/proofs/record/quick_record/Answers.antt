@@ -45,7 +45,7 @@ quick_items-n-requires c = (c.requires.0, c.requires.1, c.if-profile-ge-PROFILES
 whole : (c : Else-n-eq0) → end_at c.args.profile 0 c.args.part.now ≡ ok (c.in-Items.octets + c.quick_items-n.result)
 whole c =
     quick_whole _ _ c.type_inv.part c.requires.3 _ _ _ _ c.from_octets.ensures c.in-Items.is
-    _ _ refl (place c.before.before.before.before.before) (right c.is_content.result _ c.is_content.ensures (ap not c.if-not-is_content.false)) c.if-n-eq0.false c.quick_items-n.ensures
+    _ _ refl ((c.octet-place.ensures.0 ∙ place_read_lem c.args.types.now _ c.requires.1 c.if-profile-ge-PROFILES.false c.octet-front.ensures.0 c.if-front-eq0.false)) (right c.is_content.result _ c.is_content.ensures (ap not c.if-not-is_content.false)) c.if-n-eq0.false c.quick_items-n.ensures
 
 pub overflow_add-result : goal.overflow_add-result
 overflow_add-result c = record { fits = omega (arith, end_within _ _ c.type_inv.part c.requires.3 _ (whole (goal.at.overflow_add-result c).Else-n-eq0), c.requires.3) }
