@@ -10,12 +10,11 @@ use Rattle.tables.proofs.TableLaws.{place_is_lem, place_row_lem, none_past, none
 use Rattle.items.proofs.place_of.Goals as goal
 
 pub returns-then-frn-lt-FRNS : goal.returns-then-frn-lt-FRNS
-returns-then-frn-lt-FRNS c =
-    (
-      ap place_is c.place_at.ensures ∙ place_is_lem c.args.profile c.args.frn c.if-profile-lt-PROFILES.true c.if-frn-lt-FRNS.true,
-      subst (λ r. r.layout < layout_count) (sym c.place_at.ensures) (place_row_lem (c.args.profile * frn_count + c.args.frn)),
-      c.place_at.ensures ∙ sym (ap (λ t. cond t (place_row_at (c.args.profile * frn_count + c.args.frn)) nowhere) (ap₂ ◌&&◌ (lt-ltb _ profile_count c.if-profile-lt-PROFILES.true) (lt-ltb _ frn_count c.if-frn-lt-FRNS.true))),
-    )
+returns-then-frn-lt-FRNS c = (
+  ap place_is c.place_at.ensures ∙ place_is_lem c.args.profile c.args.frn c.if-profile-lt-PROFILES.true c.if-frn-lt-FRNS.true,
+  subst (λ r. r.layout < layout_count) (sym c.place_at.ensures) (place_row_lem (c.args.profile * frn_count + c.args.frn)),
+  c.place_at.ensures ∙ sym (ap (λ t. cond t (place_row_at (c.args.profile * frn_count + c.args.frn)) nowhere) (ap₂ ◌&&◌ (lt-ltb _ profile_count c.if-profile-lt-PROFILES.true) (lt-ltb _ frn_count c.if-frn-lt-FRNS.true))),
+)
 
 pub returns-else-frn-lt-FRNS : goal.returns-else-frn-lt-FRNS
 returns-else-frn-lt-FRNS c = (none_past c.args.profile c.args.frn c.if-frn-lt-FRNS.false, omega arith, sym (ap (λ t. cond t (place_row_at (c.args.profile * frn_count + c.args.frn)) nowhere) (ap₂ ◌&&◌ (lt-ltb _ profile_count c.if-profile-lt-PROFILES.true) (le-ltb _ frn_count c.if-frn-lt-FRNS.false))))
