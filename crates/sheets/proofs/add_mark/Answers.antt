@@ -38,14 +38,14 @@ overflow_add-first c =
 
 pub slice_bounds-place_in-end : goal.slice_bounds-place_in-end
 slice_bounds-place_in-end c =
-    omega (arith, (seen_at (goal.at.slice_bounds-place_in-end c).After-mark_ok).room)
+    omega (arith, (seen_at (goal.at.slice_bounds-place_in-end c).In-Accepted).room)
 
 pub lay_sheet-requires : goal.lay_sheet-requires
 lay_sheet-requires c =
-    record { n_value = (refl, (below_fits _ _ _ (seen_at (goal.at.lay_sheet-requires c).After-mark_ok), (seen_at (goal.at.lay_sheet-requires c).After-mark_ok).held)); first_le_n = (omega (arith, first_few _ _ _ (seen_at (goal.at.lay_sheet-requires c).After-mark_ok), c.one_if.ensures.1), omega (arith, c.if-n-ge-LIMIT.false)) }
+    record { n_value = (refl, (below_fits _ _ _ (seen_at (goal.at.lay_sheet-requires c).In-Accepted), (seen_at (goal.at.lay_sheet-requires c).In-Accepted).held)); first_le_n = (omega (arith, first_few _ _ _ (seen_at (goal.at.lay_sheet-requires c).In-Accepted), c.one_if.ensures.1), omega (arith, c.if-n-ge-LIMIT.false)) }
 
 pub returns : goal.returns
 returns c =
-    let told = add_done _ _ _ (seen_at (goal.at.returns c).After-mark_ok) c.args.mark c.key_of-key.ensures.0 c.args.out.now _ _ _ _ _ (sym c.mark_ok.ensures ∙ c.if-not-mark_ok.false) c.if-tally.false c.if-n-ge-LIMIT.false c.back_of-edition.ensures c.place_in-code.ensures
+    let told = add_done _ _ _ (seen_at (goal.at.returns c).In-Accepted) c.args.mark c.key_of-key.ensures.0 c.args.out.now _ _ _ _ _ (sym c.mark_ok.ensures ∙ c.if-not-mark_ok.false) c.if-tally.false c.if-n-ge-LIMIT.false c.back_of-edition.ensures c.place_in-code.ensures
     c.one_if.ensures c.lay_sheet.ensures in
     record { value = told.0; out_after = told.1 }

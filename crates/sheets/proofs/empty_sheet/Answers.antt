@@ -19,13 +19,13 @@ returns-in-Refused c =
 
 pub slice_bounds-place_in-end : goal.slice_bounds-place_in-end
 slice_bounds-place_in-end c =
-    omega (arith, (seen_at (goal.at.slice_bounds-place_in-end c).After-lists-1).room)
+    omega (arith, (seen_at (goal.at.slice_bounds-place_in-end c).In-Accepted).room)
 
 pub lay_sheet-requires : goal.lay_sheet-requires
 lay_sheet-requires c =
-    record { n_value = (refl, (tt, (seen_at (goal.at.lay_sheet-requires c).After-lists-1).held)); first_le_n = (omega arith, omega arith) }
+    record { n_value = (refl, (tt, (seen_at (goal.at.lay_sheet-requires c).In-Accepted).held)); first_le_n = (omega arith, omega arith) }
 
 pub returns : goal.returns
 returns c =
-    let told = empty_done _ _ _ (seen_at (goal.at.returns c).After-lists-1) c.args.out.now _ _ _ _ c.back_of-edition.ensures c.place_in-code.ensures c.lay_sheet.ensures in
+    let told = empty_done _ _ _ (seen_at (goal.at.returns c).In-Accepted) c.args.out.now _ _ _ _ c.back_of-edition.ensures c.place_in-code.ensures c.lay_sheet.ensures in
     record { value = told.0; out_after = told.1 }

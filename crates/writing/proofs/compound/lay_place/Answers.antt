@@ -29,7 +29,7 @@ slice_bounds-lay-end c = (span_inside _ _ _ c.requires.layout_lt_layout_count.1.
 
 pub lay-requires : goal.lay-requires
 lay-requires c =
-    record { layout_lt_layout_count = (c.requires.layout_lt_layout_count.0, (lays _ _ _ c.requires.layout_lt_layout_count.1.1 c.requires.layout_lt_layout_count.1.0 (spanned-at k)).sizes); values_in_bounds = there_fits _ _ _ c.requires.layout_lt_layout_count.1.1 _ c.args.out.now c.requires.layout_lt_layout_count.1.0 (spanned-at k) c.requires.at_in_bounds }
+    record { layout_lt_layout_count = (c.requires.layout_lt_layout_count.0, (lays _ _ _ c.requires.layout_lt_layout_count.1.1 c.requires.layout_lt_layout_count.1.0 (spanned-at (goal.at.lay-requires c).In-Values)).sizes); values_in_bounds = there_fits _ _ _ c.requires.layout_lt_layout_count.1.1 _ c.args.out.now c.requires.layout_lt_layout_count.1.0 (spanned-at (goal.at.lay-requires c).In-Values) c.requires.at_in_bounds }
 
 -- the rule passes: this does not happen
 pub returns-in-Refused : goal.returns-in-Refused

@@ -68,7 +68,7 @@ lay_number-requires c =
 
 pub overflow_add-at : goal.overflow_add-at
 overflow_add-at c =
-    omega (arith, (placed_at g).fit, c.loop-part.invariant.long, c.well_formed)
+    omega (arith, (placed_at (goal.at.overflow_add-at c).After-group_at-g).fit, c.loop-part.invariant.long, c.well_formed)
 
 pub loop-part-smaller : goal.loop-part-smaller
 loop-part-smaller c =

@@ -19,7 +19,7 @@ returns-then-out-size c = let told = compound_full _ _ _ c.requires.1 _ _ (count
 
 pub lay_rows-requires : goal.lay_rows-requires
 lay_rows-requires c =
-    record { layout_lt_layout_count = (c.requires.0, (c.requires.1, compound_lays _ _ c.args.out.now c.requires.1 _ _ (counted-at k))); values_in_bounds = compound_fits _ _ c.args.out.now c.requires.1 _ _ (counted-at k) c.if-out-size.false }
+    record { layout_lt_layout_count = (c.requires.0, (c.requires.1, compound_lays _ _ c.args.out.now c.requires.1 _ _ (counted-at (goal.at.lay_rows-requires c).In-Rows))); values_in_bounds = compound_fits _ _ c.args.out.now c.requires.1 _ _ (counted-at (goal.at.lay_rows-requires c).In-Rows) c.if-out-size.false }
 
 -- they are not its fields
 pub returns-in-Refused : goal.returns-in-Refused
