@@ -35,7 +35,7 @@ pub overflow_add-at : goal.overflow_add-at
 overflow_add-at c = omega (arith, (bounds (goal.at.overflow_add-at c).In-Items).1)
 
 pub walk_items-w-requires : goal.walk_items-w-requires
-walk_items-w-requires c = ((bounds (goal.at.walk_items-w-requires c).In-Items).0, omega (arith, (bounds (goal.at.walk_items-w-requires c).In-Items).1, c.walk_items-arg-1.given.2), c.requires.0)
+walk_items-w-requires c = ((bounds (goal.at.walk_items-w-requires c).In-Items).0, omega (arith, (bounds (goal.at.walk_items-w-requires c).In-Items).1), c.requires.0)
 
 -- an item is refused
 pub returns-in_default-c : goal.returns-in_default-c

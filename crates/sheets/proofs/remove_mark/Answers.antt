@@ -11,11 +11,11 @@ use Rattle.sheets.proofs.remove_mark.Goals as goal
 use Rattle.sheets.proofs.remove_mark.Goals.{After-struct_known-2-1, In-Accepted}
 
 -- what is known of the sheet that was read
-seen_at : (c : In-Accepted) → Seen c.args.sheet.now c.key_of-key.result c.in-Accepted.v
+abbrev seen_at : (c : In-Accepted) → Seen c.args.sheet.now c.key_of-key.result c.in-Accepted.v
 seen_at c =
     seen c.args.sheet.now _ _ (are_bytes c.args.sheet.now (λ i. omega (arith, (c.type_inv.sheet i)))) (ap view_answer (sym c.in-Accepted.is) ∙ c.view_sheet.ensures)
 
-place_at : (c : In-Accepted) → c.args.place < 4294967296
+abbrev place_at : (c : In-Accepted) → c.args.place < 4294967296
 place_at c = search rules
 
 -- … and of the mark that was found

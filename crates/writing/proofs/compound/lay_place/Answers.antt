@@ -33,8 +33,7 @@ lay-requires c =
 
 -- the rule passes: this does not happen
 pub returns-in-Refused : goal.returns-in-Refused
-returns-in-Refused c = let told = place_passes _ _ _ c.requires.layout_lt_layout_count.1.1 (sym (ap span_as c.in-Refused.is) ∙ c.span_of.ensures) in
-    record { laid = told.0; told = told.1 }
+returns-in-Refused c = place_passes _ _ _ c.requires.layout_lt_layout_count.1.1 (sym (ap span_as c.in-Refused.is) ∙ c.span_of.ensures)
 
 -- absent
 pub returns-in-Absent : goal.returns-in-Absent

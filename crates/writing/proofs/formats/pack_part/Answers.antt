@@ -41,7 +41,7 @@ append_bits-n-requires c =
 pub loop-i-preserved-then-f-eq-SPARE : goal.loop-i-preserved-then-f-eq-SPARE
 loop-i-preserved-then-f-eq-SPARE c =
     (turn_spare _ _ _ _ _ _ _ c.loop-i.invariant c.loop-i-test.true
-    c.field_at-f.ensures c.if-f-eq-SPARE.true).next c.append-IsBits.ensures
+    c.field_at-f.ensures c.if-f-eq-SPARE.true).next c.append_bits-n.ensures
 
 pub code_at-requires : goal.code_at-requires
 code_at-requires c =

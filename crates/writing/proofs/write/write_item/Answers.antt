@@ -13,7 +13,7 @@ write_compound-requires c = (c.layout_of-layout.ensures.0, sym (ap (λ x. x.kind
 
 -- a compound item
 pub returns-then-l-eq-COMPOUND : goal.returns-then-l-eq-COMPOUND
-returns-then-l-eq-COMPOUND c = let told = one_layout _ _ _ _ c.args.out.now c.layout_of-layout.ensures c.write_compound.ensures in
+returns-then-l-eq-COMPOUND c = let told = one_layout _ _ _ _ c.args.out.now c.layout_of-layout.ensures (c.write_compound.ensures.answer, c.write_compound.ensures.left) in
     record { answer = told.0; left = told.1 }
 
 pub write_plain-requires : goal.write_plain-requires
@@ -21,5 +21,5 @@ write_plain-requires c = (c.layout_of-layout.ensures.0, has_format _ c.layout_of
 
 -- any other
 pub returns : goal.returns
-returns c = let told = one_layout _ _ _ _ c.args.out.now c.layout_of-layout.ensures c.write_plain.ensures in
+returns c = let told = one_layout _ _ _ _ c.args.out.now c.layout_of-layout.ensures (c.write_plain.ensures.answer, c.write_plain.ensures.left) in
     record { answer = told.0; left = told.1 }
