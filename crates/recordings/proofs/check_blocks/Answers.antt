@@ -56,7 +56,7 @@ pub overflow_add-total : goal.overflow_add-total
 overflow_add-total c = omega (arith, (accepted (goal.at.overflow_add-total c).In-Block).within, (accepted (goal.at.overflow_add-total c).In-Block).few)
 
 pub loop-rest-smaller : goal.loop-rest-smaller
-loop-rest-smaller c = omega (arith, (accepted (goal.at.loop-rest-smaller c).In-Block).within, (accepted (goal.at.loop-rest-smaller c).In-Block).some, c.rest-1.given.2)
+loop-rest-smaller c = omega (arith, (accepted (goal.at.loop-rest-smaller c).In-Block).within, (accepted (goal.at.loop-rest-smaller c).In-Block).some)
 
 pub loop-rest-preserved : goal.loop-rest-preserved
 loop-rest-preserved c = check_again _ c.loop-rest.rest.now _ _ _ _ (front_of_lem (goal.at.loop-rest-preserved c).In-Block) c.loop-rest.invariant (accepted (goal.at.loop-rest-preserved c).In-Block) (to_end c.loop-rest.rest.now (front_of_lem (goal.at.loop-rest-preserved c).In-Block).len)

@@ -51,7 +51,7 @@ pub overflow_add-result-2 : goal.overflow_add-result-2
 overflow_add-result-2 c = omega (arith, inside (goal.at.overflow_add-result-2 c).In-Head)
 
 pub bounds-part-0 : goal.bounds-part-0
-bounds-part-0 c = omega (arith, (is_head_lem (goal.at.bounds-part-0 c).In-Head).room, length-drop (start (goal.at.bounds-part-0 c).In-Head) (recording (goal.at.bounds-part-0 c).In-Head), c.part-1.given.2)
+bounds-part-0 c = omega (arith, (is_head_lem (goal.at.bounds-part-0 c).In-Head).room, length-drop (start (goal.at.bounds-part-0 c).In-Head) (recording (goal.at.bounds-part-0 c).In-Head))
 
 pub returns : goal.returns
 returns c =

@@ -52,7 +52,7 @@ slice_bounds-check_records_by-end c = omega (arith, least (goal.at.slice_bounds-
 
 pub check_records_by-checked-requires : goal.check_records_by-checked-requires
 check_records_by-checked-requires c =
-    (c.requires.0, c.requires.1, c.requires.2, omega (arith, few (goal.at.check_records_by-checked-requires c).Else-len-eq-HEAD, len_is (goal.at.check_records_by-checked-requires c).Else-len-eq-HEAD, least (goal.at.check_records_by-checked-requires c).Else-len-eq-HEAD, c.check_records_by-arg-1.given.2))
+    (c.requires.0, c.requires.1, c.requires.2, omega (arith, few (goal.at.check_records_by-checked-requires c).Else-len-eq-HEAD, len_is (goal.at.check_records_by-checked-requires c).Else-len-eq-HEAD, least (goal.at.check_records_by-checked-requires c).Else-len-eq-HEAD))
 
 pub returns-in_default-checked : goal.returns-in_default-checked
 returns-in_default-checked c =

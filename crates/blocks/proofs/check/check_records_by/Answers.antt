@@ -45,7 +45,7 @@ pub slice_bounds-rest-end : goal.slice_bounds-rest-end
 slice_bounds-rest-end c = omega (arith, (accepted (goal.at.slice_bounds-rest-end c).In-Ends).low, (accepted (goal.at.slice_bounds-rest-end c).In-Ends).high)
 
 pub loop-rest-smaller : goal.loop-rest-smaller
-loop-rest-smaller c = omega (arith, (accepted (goal.at.loop-rest-smaller c).In-Ends).low, (accepted (goal.at.loop-rest-smaller c).In-Ends).high, c.rest-1.given.2)
+loop-rest-smaller c = omega (arith, (accepted (goal.at.loop-rest-smaller c).In-Ends).low, (accepted (goal.at.loop-rest-smaller c).In-Ends).high)
 
 pub loop-rest-preserved : goal.loop-rest-preserved
 loop-rest-preserved c =

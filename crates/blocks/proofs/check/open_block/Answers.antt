@@ -63,7 +63,7 @@ pub slice_bounds-check_records-start : goal.slice_bounds-check_records-start
 slice_bounds-check_records-start c = least (goal.at.slice_bounds-check_records-start c).Else-len-least
 
 pub check_records-checked-requires : goal.check_records-checked-requires
-check_records-checked-requires c = (omega (arith, few (goal.at.check_records-checked-requires c).Else-len-least, len_is (goal.at.check_records-checked-requires c).Else-len-least, c.check_records-arg-1.given.2), c.requires)
+check_records-checked-requires c = (omega (arith, few (goal.at.check_records-checked-requires c).Else-len-least, len_is (goal.at.check_records-checked-requires c).Else-len-least), c.requires)
 
 -- a record is refused
 pub returns-in_default-checked : goal.returns-in_default-checked

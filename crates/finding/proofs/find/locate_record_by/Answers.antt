@@ -36,7 +36,7 @@ pub slice_bounds-seek_record-start : goal.slice_bounds-seek_record-start
 slice_bounds-seek_record-start c = omega (arith, (is_open (goal.at.slice_bounds-seek_record-start c).In-Accepted).room)
 
 pub seek_record-requires : goal.seek_record-requires
-seek_record-requires c = (omega (arith, (is_open (goal.at.seek_record-requires c).In-Accepted).few, (is_open (goal.at.seek_record-requires c).In-Accepted).room, c.seek_record-arg-1.given.2), rw (to_end c.args.block.now 3) (opens_records (is_open (goal.at.seek_record-requires c).In-Accepted)), c.requires)
+seek_record-requires c = (omega (arith, (is_open (goal.at.seek_record-requires c).In-Accepted).few, (is_open (goal.at.seek_record-requires c).In-Accepted).room), rw (to_end c.args.block.now 3) (opens_records (is_open (goal.at.seek_record-requires c).In-Accepted)), c.requires)
 
 pub returns : goal.returns
 returns c =

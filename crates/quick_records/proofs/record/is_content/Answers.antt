@@ -19,10 +19,10 @@ few c =
     (ap (λ x. get_or c.args.types.now (c.args.profile * kind_count + x) 0) (sym c.octet-number.ensures.0) ∙ sym c.octet-row.ensures.0) c.if-row-eq0.false
 
 pub bounds-sets-at : goal.bounds-sets-at
-bounds-sets-at c = omega (arith, few (goal.at.bounds-sets-at c).After-way_told-2-1, c.requires.2)
+bounds-sets-at c = omega (arith, few (goal.at.bounds-sets-at c).Else-row-eq0, c.requires.2)
 
 pub bounds-sets-at-2 : goal.bounds-sets-at-2
-bounds-sets-at-2 c = omega (arith, few (goal.at.bounds-sets-at-2 c).After-way_told-2-1, c.requires.2)
+bounds-sets-at-2 c = omega (arith, few (goal.at.bounds-sets-at-2 c).Else-row-eq0, c.requires.2)
 
 -- the row, in the rules' terms
 row : (c : After-is_within-2)

@@ -40,7 +40,7 @@ pub is_content-requires : goal.is_content-requires
 is_content-requires c = (c.requires.1, c.requires.2, c.if-profile-ge-PROFILES.false, fronted (goal.at.is_content-requires c).Else-front-eq0, c.if-bits-ne7.false)
 
 pub quick_items-n-requires : goal.quick_items-n-requires
-quick_items-n-requires c = (c.requires.0, c.requires.1, c.if-profile-ge-PROFILES.false, fronted (goal.at.quick_items-n-requires c).Else-front-eq0, front (goal.at.quick_items-n-requires c).Else-front-eq0, c.if-bits-ne7.false, omega (arith, c.items-1.given.2, c.requires.3))
+quick_items-n-requires c = (c.requires.0, c.requires.1, c.if-profile-ge-PROFILES.false, fronted (goal.at.quick_items-n-requires c).Else-front-eq0, front (goal.at.quick_items-n-requires c).Else-front-eq0, c.if-bits-ne7.false, omega (arith, c.requires.3))
 
 whole : (c : Else-n-eq0) → end_at c.args.profile 0 c.args.part.now ≡ ok (c.in-Items.octets + c.quick_items-n.result)
 whole c =

@@ -25,7 +25,7 @@ front : (c : Else-size-eq0) → Front c.args.shape (word_of c.args.item) c.args.
 front c = front_of_lem _ _ _ _ _ c.front_size-size.ensures c.if-size-eq0.false
 
 reaches : (c : Else-size-eq0) → place_of c.args.item < length c.args.part.now
-reaches c = omega (arith, shape_long _ _ _ _ c.requires.2 _ _ (front c), (front c).ranges)
+reaches c = omega (arith, shape_long _ _ _ _ c.requires.2 _ _ (front c), (front c).fits)
 
 pub bounds-part-item : goal.bounds-part-item
 bounds-part-item c = omega (arith, reaches (goal.at.bounds-part-item c).Else-size-eq0)
@@ -46,10 +46,10 @@ pub slice_bounds-later_items-start : goal.slice_bounds-later_items-start
 slice_bounds-later_items-start c = (front (goal.at.slice_bounds-later_items-start c).Else-size-eq0).fits
 
 pub later_items-n-requires : goal.later_items-n-requires
-later_items-n-requires c = (c.requires.0, omega (arith, c.if-shape-profile.false, shape_known _ _ _ _ c.requires.2), shape_left _ _ _ _ c.requires.2, omega (arith, c.later_items-arg-1.given.2, c.requires.5))
+later_items-n-requires c = (c.requires.0, omega (arith, c.if-shape-profile.false, shape_known _ _ _ _ c.requires.2), shape_left _ _ _ _ c.requires.2, omega (arith, c.requires.5))
 
 pub overflow_add-result : goal.overflow_add-result
-overflow_add-result c = record { fits = omega (arith, later_within _ _ _ _ c.later_items-n.ensures c.if-n-eq0.false, (front (goal.at.overflow_add-result c).Else-size-eq0).fits, c.later_items-arg-1.given.2, c.requires.5) }
+overflow_add-result c = record { fits = omega (arith, later_within _ _ _ _ c.later_items-n.ensures c.if-n-eq0.false, (front (goal.at.overflow_add-result c).Else-size-eq0).fits, c.requires.5) }
 
 pub returns : goal.returns
 returns c = tell _ _ (shape_whole _ _ _ _ c.requires.2 _ c.type_inv.part c.requires.5 _ _ _ _ c.if-shape-profile.false c.requires.4 c.requires.3 c.if-five-up.false (front (goal.at.returns c).Else-size-eq0) refl (listed (goal.at.returns c).Else-not-is_listed) _ c.later_items-n.ensures c.if-n-eq0.false)
