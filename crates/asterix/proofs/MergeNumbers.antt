@@ -78,7 +78,7 @@ step_tells (accepted xs m) (accepted ys n) h g p q o = go (in_range o)
 
 -- a struct tells a step: `met` is 1 exactly where a record comes, and `number` is a refusal's, or 0
 pub record TellsStep (s : Step) (r : MergeStepped) : Type 0 where
-  pub record_met_lem : (l : Log) → s.told ≡ next l → (r.met ≡ 1) × (r.number ≡ 0)
+  pub record_met : (l : Log) → s.told ≡ next l → (r.met ≡ 1) × (r.number ≡ 0)
   pub ended : s.told ≡ finished → (r.met ≡ 0) × (r.number ≡ 0)
   pub closed : (l : Log) (n p : ℕ) → s.told ≡ not_accepted l n p → (r.met ≡ 0) × (r.number ≡ n) × (r.place ≡ p) × (1 ≤ n) × (n ≤ 21)
   pub refused : (n : ℕ) → s.told ≡ barred n → (r.met ≡ 0) × (r.number ≡ n) × (r.place ≡ 0) × (22 ≤ n) × (n ≤ 23)
@@ -96,7 +96,7 @@ merge_step_tells as' bs p q o oa ob = by (merge_step categories as' bs p q o) (s
     by : (s : Step) → Tells s.told → TellsStep s (merge_stepped s)
     by s h =
         record {
-          record_met_lem = λ l e. rw e (refl, refl);
+          record_met = λ l e. rw e (refl, refl);
           ended = λ e. rw e (refl, refl);
           closed = λ l n f e. let t : (1 ≤ n) × (n ≤ 21) = closed_as s.told l n f h e in rw e (refl, refl, refl, t.0, t.1);
           refused = λ n e. let t : (22 ≤ n) × (n ≤ 23) = barred_as s.told n h e in rw e (refl, refl, refl, t.0, t.1);

@@ -334,7 +334,7 @@ find_item_tells block reference n o = tells (λ a. (item_found a).number) (λ v.
 
 -- a struct tells a step: `met` is 1 exactly where a record was met, and `number` is a refusal's, 1 to 21, or 0
 pub record TellsMet (w : Walked) (r : RecordMet) : Type 0 where
-  pub record_met_lem : (s l k : ℕ) → w.met ≡ met.Record k s l → (r.met ≡ 1) × (r.number ≡ 0)
+  pub record_met : (s l k : ℕ) → w.met ≡ met.Record k s l → (r.met ≡ 1) × (r.number ≡ 0)
   pub finished : w.met ≡ met.Finished → (r.met ≡ 0) × (r.number ≡ 0)
   pub refused : (n p : ℕ) → w.met ≡ met.Refused n p → (r.met ≡ 0) × (r.number ≡ n) × (1 ≤ n) × (n ≤ 21)
 
@@ -343,7 +343,7 @@ unfolding record_met
 next_record_tells recording cursor =
     let w : Walked = next_record recording cursor in
     record {
-      record_met_lem = λ s l k e. rw e (refl, refl);
+      record_met = λ s l k e. rw e (refl, refl);
       finished = λ e. rw e (refl, refl);
       refused = λ n p e.
           let t : T (leb 1 n) × T (leb n 21) = T-both (leb 1 n) (leb n 21) (refusal_met recording cursor n p e) in

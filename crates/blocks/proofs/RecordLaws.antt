@@ -62,7 +62,7 @@ record_accepted c k bs m e o h z =
 pub record Refusal (c : Category) (k : ℕ) (bs : List ℕ) (n q : ℕ) : Type 0 where
   pub place : ℕ
   pub reads : read_record c bs ≡ refused n place
-  pub place_is_lem : k + place ≡ q
+  pub place_is : k + place ≡ q
 
 refusal_of : {A B : Type 0} (k : ℕ) (x : Answer A) (f : A → B) (n q : ℕ) → later k (x >>= λ a. ok (f a)) ≡ refused n q → (p : ℕ) × (x ≡ refused n p) × (k + p ≡ q)
 unfolding later ◌>>=◌
@@ -72,7 +72,7 @@ refusal_of k (refused m p) f n q h = (p, (cc), (cc))
 record_refusal : (c : Category) (k : ℕ) (bs : List ℕ) (n q : ℕ) → record_in c k bs ≡ refused n q → Refusal c k bs n q
 record_refusal c k bs n q h =
     let (p, e, f) = refusal_of k (read_record c bs) (λ x. map_of c (record { start = k; value = x.0 })) n q h in
-    record { place = p; reads = e; place_is_lem = f }
+    record { place = p; reads = e; place_is = f }
 
 -- ---- by the answer of the record's check
 

@@ -54,11 +54,11 @@ frn_none ref f (some p ∷ ps) h =
 
 -- the place that a reference names, among places of which the first has the number f
 pub record NamedAt (ref f : ℕ) (ps : List (Option Place)) (g : ℕ) : Type 0 where
-  pub is_item_lem : is_item ref ps ≡ true
+  pub is_item : is_item ref ps ≡ true
   pub frn_is : g ≡ f + index_as ref ps
   pub place : Place
-  pub place_is_lem : get_or ps (index_as ref ps) none ≡ some place
-  pub layout_is_lem : layout_as ref ps ≡ some place.layout
+  pub place_is : get_or ps (index_as ref ps) none ≡ some place
+  pub layout_is : layout_as ref ps ≡ some place.layout
 
 pub frn_some : (ref f : ℕ) (ps : List (Option Place)) (g : ℕ) → frn_as ref f ps ≡ some g → NamedAt ref f ps g
 unfolding frn_as
@@ -68,28 +68,28 @@ frn_some ref f (none ∷ ps) g h =
     (λ (e, k). let z : ◌≡◌ {A = ℕ} 0 1 = cc in absurd (omega arith))
     (λ (e, k).
     let n : NamedAt ref (f + 1) ps g = frn_some ref (f + 1) ps g k in
-    record { is_item_lem = n.is_item_lem; frn_is = omega (arith, n.frn_is); place = n.place; place_is_lem = n.place_is; layout_is_lem = n.layout_is })
+    record { is_item = n.is_item; frn_is = omega (arith, n.frn_is); place = n.place; place_is = n.place_is; layout_is = n.layout_is })
     (if_inv (is_named ref none) (some f) (frn_as ref (f + 1) ps) h)
 frn_some ref f (some p ∷ ps) g h =
     ⊎_elim
     (λ (e, k).
     let z : index_as ref (some p ∷ ps) ≡ 0 = if_true (suc (index_as ref ps)) e refl in
     record {
-      is_item_lem = if_true (is_item ref ps) e refl;
+      is_item = if_true (is_item ref ps) e refl;
       frn_is = sym (some_inj k) ∙ omega arith;
       place = p;
-      place_is_lem = ap (λ i. get_or (some p ∷ ps) i none) z;
-      layout_is_lem = if_true (layout_as ref ps) e refl;
+      place_is = ap (λ i. get_or (some p ∷ ps) i none) z;
+      layout_is = if_true (layout_as ref ps) e refl;
     })
     (λ (e, k).
     let n : NamedAt ref (f + 1) ps g = frn_some ref (f + 1) ps g k in
     let z : index_as ref (some p ∷ ps) ≡ suc (index_as ref ps) = if_false 0 e refl in
     record {
-      is_item_lem = if_false true e n.is_item_lem;
+      is_item = if_false true e n.is_item;
       frn_is = omega (arith, n.frn_is);
       place = n.place;
-      place_is_lem = ap (λ i. get_or (some p ∷ ps) i none) z ∙ n.place_is;
-      layout_is_lem = if_false (some p.layout) e n.layout_is;
+      place_is = ap (λ i. get_or (some p ∷ ps) i none) z ∙ n.place_is;
+      layout_is = if_false (some p.layout) e n.layout_is;
     })
     (if_inv (eqb ref p.reference) (some f) (frn_as ref (f + 1) ps) h)
 
@@ -365,7 +365,7 @@ module _ (bs : List ℕ) (ref n i count : ℕ) (k : Opens bs (record { category 
       let e : numbered (category_at i) 3 k.block.records n ≡ refused m p =
       made_refused (numbered (category_at i) 3 k.block.records n) (map_of (category_at i)) m p (sym (bind_in _ k.reads refl) ∙ h) in
       let g : ◌≡◌ {A = Answer Numbered} (refused m p) (refused 19 0) = numbered_refused (category_at i) 3 k.block.records n m p e in
-      item_nowhere bs ref n _ k named.is_item_lem m p h ∙ (cc)
+      item_nowhere bs ref n _ k named.is_item m p h ∙ (cc)
 
   -- the map has a place for it
   pub index_in : (f : ℕ) → NamedAt ref 1 (places (category_at i)) f → f - 1 < map_places
@@ -376,7 +376,7 @@ module _ (bs : List ℕ) (ref n i count : ℕ) (k : Opens bs (record { category 
       → starts ≡ m.starts → get_or starts (f - 1) 0 ≡ 0 → find_item categories bs ref n ≡ refused 20 m.start
   absent_at_lem f m starts named h e z =
       let d : f - 1 ≡ index_as ref (places (category_at i)) = omega (arith, named.frn_is) in
-      item_absent_at bs ref n _ k m named.is_item_lem h (ap₂ (λ y j. get_or y j 0) (sym e) (sym d) ∙ z)
+      item_absent_at bs ref n _ k m named.is_item h (ap₂ (λ y j. get_or y j 0) (sym e) (sym d) ∙ z)
 
   -- or where it starts, x, and what its check answers there
   pub record ThereAt (f x : ℕ) : Type 0 where
@@ -391,7 +391,7 @@ module _ (bs : List ℕ) (ref n i count : ℕ) (k : Opens bs (record { category 
   there_at f m starts named h e z =
       let d : f - 1 ≡ index_as ref (places (category_at i)) = omega (arith, named.frn_is) in
       let g : get_or starts (f - 1) 0 ≡ get_or m.starts (index_as ref (places (category_at i))) 0 = ap₂ (λ y j. get_or y j 0) e d in
-      let (l, a) = item_there_at bs ref n _ k m named.is_item_lem h (λ y. z (g ∙ y)) in
+      let (l, a) = item_there_at bs ref n _ k m named.is_item h (λ y. z (g ∙ y)) in
       let x : get_or starts (f - 1) 0 ≡ l.start = g ∙ a.start_is in
       record {
         item = l;

@@ -15,7 +15,7 @@ use Rattle.recordings.proofs.check_blocks.Goals.{After-front_place, In-Block}
 
 -- the block of this turn
 abbrev front_of_lem : In-Block → Front
-front_of_lem c = record { len = c.before.front.given.0.0; records = c.before.front.given.0.1.0 }
+front_of_lem c = record { len = c.in-Block.len; records = c.in-Block.records }
 
 accepted : (c : In-Block) → FrontTaken c.loop-rest.rest.now (front_of_lem c)
 accepted c =

@@ -18,14 +18,14 @@ use Rattle.walking.proofs.open_at.Goals.{In-Head}
 
 -- the recording, and where the block starts
 abbrev recording : In-Head → List ℕ
-recording c = c.before.before.before.before.before.before.args.recording.now
+recording c = c.args.recording.now
 
 abbrev start : In-Head → ℕ
-start c = c.before.before.before.before.before.before.args.start
+start c = c.args.start
 
 -- the head that was read
 abbrev head-of : In-Head → Head
-head-of c = record { category = category_at c.before.head.given.0.0; len = c.before.head.given.0.1.0 }
+head-of c = record { category = category_at c.in-Head.profile; len = c.in-Head.len }
 
 has-head : (c : In-Head) → head_by leb (drop (start c) (recording c)) ≡ ok (head-of c)
 has-head c =

@@ -23,13 +23,13 @@ use Rattle.walking.proofs.record_by.Goals.{After-check_record-walked, In-Ends, I
 
 -- the recording, where the record stands in it, and the octets that it starts
 abbrev recording : After-check_record-walked → List ℕ
-recording c = c.before.before.before.before.before.args.recording.now
+recording c = c.args.recording.now
 
 abbrev at : After-check_record-walked → Cursor
-at c = c.before.before.before.before.before.args.at
+at c = c.args.at
 
 abbrev profile : After-check_record-walked → ℕ
-profile c = c.before.before.before.profile-of.result
+profile c = c.profile_of-profile.result
 
 abbrev octets : After-check_record-walked → List ℕ
 octets c = part (recording c) (at c).place (at c).end
@@ -44,12 +44,12 @@ named : (c : After-check_record-walked) → category_of (at c).category categori
 named c = category_at_lem _ _ c.profile_of-profile.ensures c.if-profile-ge-PROFILES.false
 
 -- the record, where it is whole
-accepted : (c : In-Ends) → Accepted (category_at (profile c.before.before.before)) ((at c.before.before.before).place - (at c.before.before.before).block) (octets c.before.before.before) c.in-Ends.stop
-accepted c = ended_accepted _ _ (octets c.before.before.before) c.check_record-walked.result.checked c.check_record-walked.ensures.answer _ ((octets_part (recording c) (at c).place (at c).end (octets_each (recording c) c.type_inv.recording))) c.in-Ends.is
+accepted : (c : In-Ends) → Accepted (category_at ((c.profile_of-profile.result))) (((c.args.at)).place - ((c.args.at)).block) ((part (recording c) (at c).place (at c).end)) c.in-Ends.stop
+accepted c = ended_accepted _ _ ((part (recording c) (at c).place (at c).end)) c.check_record-walked.result.checked c.check_record-walked.ensures.answer _ ((let it : Octets (octets c) = octets_part (recording c) (at c).place (at c).end (octets_each (recording c) c.type_inv.recording) in it)) c.in-Ends.is
 
 -- and where it is not
-barred : (c : In_default) → Refusal (category_at (profile c.before.before)) ((at c.before.before).place - (at c.before.before).block) (octets c.before.before) c.in_default.field-0 c.in_default.field-1
-barred c = ended_refused _ _ (octets c.before.before) c.check_record-walked.result.checked c.check_record-walked.ensures.answer _ _ c.in_default.is
+barred : (c : In_default) → Refusal (category_at ((c.profile_of-profile.result))) (((c.args.at)).place - ((c.args.at)).block) ((part (recording c) (at c).place (at c).end)) c.in_default.field-0 c.in_default.field-1
+barred c = ended_refused _ _ ((part (recording c) (at c).place (at c).end)) c.check_record-walked.result.checked c.check_record-walked.ensures.answer _ _ c.in_default.is
 
 pub returns-then-profile-ge-PROFILES : goal.returns-then-profile-ge-PROFILES
 returns-then-profile-ge-PROFILES c =

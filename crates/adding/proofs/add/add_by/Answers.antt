@@ -19,7 +19,7 @@ use Rattle.adding.proofs.add.add_by.Goals.{In-Accepted, In-Ends}
 
 -- the block that the octets in use are
 abbrev opening : In-Accepted → Opening
-opening c = record { category = category_at c.before.before.open_block.result.profile; count = c.enum_told.given.0.0 }
+opening c = record { category = category_at c.open_block-old.result.profile; count = c.in-Accepted.records }
 
 is_open : (c : In-Accepted) → open_from 3 (take c.args.used c.args.out.now) ≡ ok (opening c)
 is_open c =
@@ -36,7 +36,7 @@ checked : (c : In-Ends) → new_at c.open_block-old.result.profile c.args.set.bi
 checked c = sym c.check_new-new.ensures ∙ ap end_of c.in-Ends.is
 
 whole : (c : In-Ends)
-    → (new_record (opening c.before.before.before.before).category (frns_of c.args.set.bits) c.args.items.now ≡ ok (fspec_at c.open_block-old.result.profile c.args.set.bits ++ c.args.items.now))
+    → (new_record ((record { category = category_at c.open_block-old.result.profile; count = c.in-Accepted.records })).category (frns_of c.args.set.bits) c.args.items.now ≡ ok (fspec_at c.open_block-old.result.profile c.args.set.bits ++ c.args.items.now))
     × (c.in-Ends.n ≡ length (fspec_at c.open_block-old.result.profile c.args.set.bits) + length c.args.items.now)
 whole c = new_whole _ _ _ _ (checked c)
 

@@ -16,7 +16,7 @@ use Rattle.blocks.proofs.check.check_front.Goals.{Else-len-eq-HEAD}
 
 -- the head that was read
 abbrev head-of : Else-len-eq-HEAD → Head
-head-of c = record { category = category_at c.before.before.head.given.0.0; len = c.before.before.head.given.0.1.0 }
+head-of c = record { category = category_at c.in-Head.profile; len = c.in-Head.len }
 
 has-head : (c : Else-len-eq-HEAD) → head_by leb c.args.part.now ≡ ok (head-of c)
 has-head c = sym c.front_head-head.ensures ∙ ap head_of c.in-Head.is

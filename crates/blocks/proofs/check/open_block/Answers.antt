@@ -17,7 +17,7 @@ use Rattle.blocks.proofs.check.open_block.Goals.{After-check_records-checked, El
 
 -- the head that was read
 abbrev head-of : Else-len-least → Head
-head-of c = record { category = category_at c.before.before.head.given.0.0; len = c.before.before.head.given.0.1.0 }
+head-of c = record { category = category_at c.in-Head.profile; len = c.in-Head.len }
 
 has-head : (c : Else-len-least) → head_by eqb c.args.block.now ≡ ok (head-of c)
 has-head c = sym c.single_head-head.ensures ∙ ap head_of c.in-Head.is
@@ -47,8 +47,8 @@ found : (c : After-check_records-checked)
     → opened_by c.in-Head.profile c.check_records-checked.result ≡ open_from c.args.least c.args.block.now
 found c =
     opened_by_lem _ c.check_records-checked.result
-    ∙ ap (λ z. z >>= λ n. ok (opening (head-of c.before.before).category n)) c.check_records-checked.ensures
-    ∙ sym (opened_body _ _ (head-of c.before.before) _ ((sym c.single_head-head.ensures ∙ ap head_of c.in-Head.is)) c.if-len-least.false (to_end c.args.block.now 3))
+    ∙ ap (λ z. z >>= λ n. ok (opening ((record { category = category_at c.in-Head.profile; len = c.in-Head.len })).category n)) c.check_records-checked.ensures
+    ∙ sym (opened_body _ _ ((record { category = category_at c.in-Head.profile; len = c.in-Head.len })) _ ((let it : head_by eqb c.args.block.now ≡ ok (head-of c) = sym c.single_head-head.ensures ∙ ap head_of c.in-Head.is in it)) c.if-len-least.false (to_end c.args.block.now 3))
 
 pub returns-in_default : goal.returns-in_default
 returns-in_default c = record { answer = ap (λ n. refused n 0) (c.number.ensures ∙ ap head_number c.in_default.is) ∙ sym (no_head_lem (goal.at.returns-in_default c).In_default); profile = profile_refused _ _ _ _ (no_head_lem (goal.at.returns-in_default c).In_default) }

@@ -16,7 +16,7 @@ use Rattle.finding.proofs.find.locate_record_by.Goals.{In-Accepted}
 
 -- the block that was opened
 abbrev opening : In-Accepted → Opening
-opening c = record { category = category_at c.before.before.open_block.result.profile; count = c.enum_told.given.0.0 }
+opening c = record { category = category_at c.open_block-opened.result.profile; count = c.in-Accepted.records }
 
 is_open : (c : In-Accepted) → Opens c.args.block.now (opening c)
 is_open c =

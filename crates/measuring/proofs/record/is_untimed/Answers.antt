@@ -18,7 +18,7 @@ pub returns-then-untimed_type-eq0 : goal.returns-then-untimed_type-eq0
 returns-then-untimed_type-eq0 c = untimed_never c.args.profile (row (goal.at.returns-then-untimed_type-eq0 c).After-struct_known-1) _ c.if-untimed_type-eq0.true
 
 frn_some : (c : Else-untimed_type-eq0) → 1 ≤ type_frn c.args.profile
-frn_some c = type_some c.args.profile ((ap (λ r. r.untimed) c.profile_row-untimed_type.ensures)) c.if-untimed_type-eq0.false
+frn_some c = type_some c.args.profile ((let it : c.profile_row-untimed_type.result.untimed ≡ (profile_row_at c.args.profile).untimed = ap (λ r. r.untimed) c.profile_row-untimed_type.ensures in it)) c.if-untimed_type-eq0.false
 
 pub before-requires : goal.before-requires
 before-requires c = (omega (arith, frn_some (goal.at.before-requires c).Else-untimed_type-eq0, c.type_frn.ensures), omega (arith, type_few c.args.profile, c.type_frn.ensures))

@@ -20,7 +20,7 @@ overflow_cast-frn c = record { fits = omega (arith, (of (goal.at.overflow_cast-f
 
 onward : (c : After-octets_at-at)
     → Standing c.args.profile c.args.part.now c.args.bits c.args.from (c.loop-left.left - 2 ^ (63 - count_leading_zeros 64 c.loop-left.left)) (c.loop-left.at + c.octets_at-at.result)
-onward c = stand_next _ _ _ _ _ _ c.loop-left.invariant _ ((next _ _ _ _ c.loop-left.invariant.below c.loop-left-test.true)) c.octets_at-at.ensures
+onward c = stand_next _ _ _ _ _ _ c.loop-left.invariant _ ((let it : Next c.args.profile c.args.part.now c.loop-left.left c.loop-left.at (count_leading_zeros 64 c.loop-left.left) = next _ _ _ _ c.loop-left.invariant.below c.loop-left-test.true in it)) c.octets_at-at.ensures
 
 pub overflow_add-at : goal.overflow_add-at
 overflow_add-at c = record { fits = omega (arith, stand_near _ _ _ _ _ _ (onward (goal.at.overflow_add-at c).After-octets_at-at) (octets_all c.args.part.now c.type_inv.part), c.requires.1) }
@@ -29,7 +29,7 @@ pub weight-left-requires : goal.weight-left-requires
 weight-left-requires c = (of (goal.at.weight-left-requires c).In-loop-left).few
 
 there : (c : After-weight-left) → c.weight-left.result ≤ c.loop-left.left
-there c = rw c.weight-left.ensures ((next _ _ _ _ c.loop-left.invariant.below c.loop-left-test.true)).there
+there c = rw c.weight-left.ensures ((let it : Next c.args.profile c.args.part.now c.loop-left.left c.loop-left.at (count_leading_zeros 64 c.loop-left.left) = next _ _ _ _ c.loop-left.invariant.below c.loop-left-test.true in it)).there
 
 pub overflow_sub-left : goal.overflow_sub-left
 overflow_sub-left c = there (goal.at.overflow_sub-left c).After-weight-left

@@ -49,7 +49,7 @@ start_is c = starts _ c.args.part.now _ _ _ c.before-early.ensures c.items_from-
 
 end_is : (c : After-items_from-end) → c.items_from-end.result ≡ end_of c.args.profile c.args.bits c.args.part.now c.args.from
 end_is c =
-    ends _ c.args.part.now _ _ c.time_frn-frn.result c.before-early.ensures c.items_from-start.ensures c.requires.0 ((frn_some _ c.args.bits c.requires.0 c.if-bits-frn-ne1.false)) (omega (arith, (omega (arith, time_few c.args.profile, c.time_frn-frn.ensures)))) c.items_from-end.ensures
+    ends _ c.args.part.now _ _ c.time_frn-frn.result c.before-early.ensures c.items_from-start.ensures c.requires.0 ((let it : 1 ≤ c.time_frn-frn.result = frn_some _ c.args.bits c.requires.0 c.if-bits-frn-ne1.false in it)) (omega (arith, (let it : c.time_frn-frn.result ≤ map_places = omega (arith, time_few c.args.profile, c.time_frn-frn.ensures) in it))) c.items_from-end.ensures
 
 pub items_from-end-requires : goal.items_from-end-requires
 items_from-end-requires c = (omega (arith, c.requires.0), omega (arith, c.requires.1, near (goal.at.items_from-end-requires c).After-items_from-start), c.requires.2)

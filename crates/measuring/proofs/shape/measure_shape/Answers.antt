@@ -10,7 +10,7 @@ use Rattle.measuring.specs.Measure.{sized}
 use Rattle.measuring.specs.Shape.{untimed_of, kind_of, time_of, base_of, part_of, Told}
 use Rattle.measuring.proofs.ShapeLaws.{parts_fit, time_by, time_none, time_untimed, time_clock, told_none, shape_some, shape_few, shape_told}
 use Rattle.measuring.proofs.shape.measure_shape.Goals as goal
-use Rattle.measuring.proofs.shape.measure_shape.Goals.{Else-shape-profile}
+use Rattle.measuring.proofs.shape.measure_shape.Goals.{Else-part-size, Else-shape-profile}
 
 pub returns-then-part-lt5 : goal.returns-then-part-lt5
 returns-then-part-lt5 c = told_none _ _ _ c.untimed.ensures
@@ -50,21 +50,21 @@ pub returns-then-part-size : goal.returns-then-part-size
 returns-then-part-size c = told_none _ _ _ c.untimed-then-part-size.ensures
 
 -- a record that ends within the part
-module _ (c : tie.Else5) where
+module _ (c : Else-part-size) where
   abbrev profile : ℕ
-  profile = c.before.before.before.before.before.before.before.before.before.before.before.before.before.before.args.profile
+  profile = c.args.profile
 
   abbrev row : ℕ
-  row = c.before.before.before.before.long2.result
+  row = c.long-row.result
 
   abbrev octets : List ℕ
-  octets = c.before.before.before.before.before.before.before.before.before.before.before.before.before.before.args.part.now
+  octets = c.args.part.now
 
-  told : (t : Option ℕ) (r : Measured) → time_by (time_of row) (kind_of row) (untimed_of row) octets ≡ t → r ≡ sized (base_of row + c.before.octet.result * part_of row) t
+  told : (t : Option ℕ) (r : Measured) → time_by (time_of row) (kind_of row) (untimed_of row) octets ≡ t → r ≡ sized (base_of row + c.octet.result * part_of row) t
       → Told r profile octets
   told t r et er =
-      shape_told c.before.before.before.before.before.before.before.before.before.before.before.before.before.before.args.shapes.now c.before.before.before.before.before.before.before.before.before.before.before.before.before.before.requires _ _ _ c.before.before.before.before.before.before.before.before.before.before.slot_of.ensures c.before.before.before.before.before.before.before.before.long.ensures c.before.before.before.before.long2.ensures
-      _ _ _ t octets r c.before.before.before.before.before.before.before.before.before.before.before.before.before.shared-slice-known.given c.before.before.before.before.before.before.before.if2.false c.before.before.before.before.before.before.before.before.before.before.before.before.if1.false c.before.before.before.before.before.before.before.before.before.before.before.first-five.ensures c.before.before.before.before.before.before.if3.false c.before.octet.ensures.0 c.if5.false et er
+      shape_told c.args.shapes.now c.requires _ _ _ c.slot_of-at.ensures c.long-shape.ensures c.long-row.ensures
+      _ _ _ t octets r c.type_inv.part c.if-shape-profile.false c.if-part-lt5.false c.first_five-five.ensures c.if-five-up.false c.octet.ensures.0 c.if-part-size.false et er
 
 pub returns-then-time-eq0 : goal.returns-then-time-eq0
 returns-then-time-eq0 c = told (goal.at.returns-then-time-eq0 c).Else-part-size _ _ (time_none (time_of (row (goal.at.returns-then-time-eq0 c).Else-part-size)) (kind_of (row (goal.at.returns-then-time-eq0 c).Else-part-size)) (untimed_of (row (goal.at.returns-then-time-eq0 c).Else-part-size)) (octets (goal.at.returns-then-time-eq0 c).Else-part-size) c.if-time-eq0.true) c.untimed-then-time-eq0.ensures
