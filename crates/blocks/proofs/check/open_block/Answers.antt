@@ -46,9 +46,10 @@ too_small c = opened_less _ _ (record { category = category_at c.in-Head.profile
 found : (c : After-check_records-checked)
     → opened_by c.in-Head.profile c.check_records-checked.result ≡ open_from c.args.least c.args.block.now
 found c =
+    let head : Head = record { category = category_at c.in-Head.profile; len = c.in-Head.len } in
     opened_by_lem _ c.check_records-checked.result
-    ∙ ap (λ z. z >>= λ n. ok (opening ((record { category = category_at c.in-Head.profile; len = c.in-Head.len })).category n)) c.check_records-checked.ensures
-    ∙ sym (opened_body _ _ ((record { category = category_at c.in-Head.profile; len = c.in-Head.len })) _ ((let it : head_by eqb c.args.block.now ≡ ok (head-of c) = sym c.single_head-head.ensures ∙ ap head_of c.in-Head.is in it)) c.if-len-least.false (to_end c.args.block.now 3))
+    ∙ ap (λ z. z >>= λ n. ok (opening (category_at c.in-Head.profile) n)) c.check_records-checked.ensures
+    ∙ sym (opened_body _ _ head _ ((let it : head_by eqb c.args.block.now ≡ ok head = sym c.single_head-head.ensures ∙ ap head_of c.in-Head.is in it)) c.if-len-least.false (to_end c.args.block.now 3))
 
 pub returns-in_default : goal.returns-in_default
 returns-in_default c = record { answer = ap (λ n. refused n 0) (c.number.ensures ∙ ap head_number c.in_default.is) ∙ sym (no_head_lem (goal.at.returns-in_default c).In_default); profile = profile_refused _ _ _ _ (no_head_lem (goal.at.returns-in_default c).In_default) }
