@@ -137,21 +137,21 @@ place_few bs o = bind_inside (length bs) _ _ (up_to-inside (block_laws categorie
 -- ---- one turn of the loop: what is left, where it starts, and what came before
 
 pub record Checking (whole rest : List ℕ) (place blocks records : ℕ) : Type 0 where
-  pub place_is_lem : place + length rest ≡ length whole
+  pub place_is : place + length rest ≡ length whole
   pub blocks_few : blocks + length rest ≤ length whole
   pub records_few : records + length rest ≤ length whole
   pub octets : Octets rest
   pub same : counts_from blocks records place rest ≡ check_recording categories whole
 
 pub check_start : (bs : List ℕ) → Octets bs → Checking bs bs 0 0 0
-check_start bs o = record { place_is_lem = zero-add _; blocks_few = omega arith; records_few = omega arith; octets = o; same = counts_start bs }
+check_start bs o = record { place_is = zero-add _; blocks_few = omega arith; records_few = omega arith; octets = o; same = counts_start bs }
 
 pub check_again : (whole bs rest : List ℕ) (place blocks records : ℕ) (f : Front) → Checking whole bs place blocks records → FrontTaken bs f → rest ≡ drop f.len bs
     → Checking whole rest (place + f.len) (blocks + 1) (records + f.records)
 check_again whole bs rest place blocks records f s t left =
     let l : length rest ≡ length bs - f.len = ap length left ∙ length-drop f.len bs in
     record {
-      place_is_lem = omega (arith, s.place_is, t.within);
+      place_is = omega (arith, s.place_is, t.within);
       blocks_few = omega (arith, s.blocks_few, t.within, t.some);
       records_few = omega (arith, s.records_few, t.within, t.few);
       octets = subst Octets (sym left) (octets_drop f.len bs s.octets);

@@ -29,14 +29,14 @@ is_open c =
 
 -- how much is in use
 in_use : (c : In-Accepted) → (3 ≤ c.args.used) × (c.args.used < 65_536)
-in_use c = old_len _ _ (opening c) (octets_each c.args.out.now c.type_inv.out) c.if-out-used.false (is_open c)
+in_use c = old_len _ _ (opening c) (octets_each c.args.out.now c.slice_known-1.given) c.if-out-used.false (is_open c)
 
 -- the new record
 checked : (c : In-Ends) → new_at c.open_block-old.result.profile c.args.set.bits c.args.items.now ≡ ok c.in-Ends.n
 checked c = sym c.check_new-new.ensures ∙ ap end_of c.in-Ends.is
 
 whole : (c : In-Ends)
-    → (new_record ((record { category = category_at c.open_block-old.result.profile; count = c.in-Accepted.records })).category (frns_of c.args.set.bits) c.args.items.now ≡ ok (fspec_at c.open_block-old.result.profile c.args.set.bits ++ c.args.items.now))
+    → (new_record ((let it : Opening = record { category = category_at c.open_block-old.result.profile; count = c.in-Accepted.records } in it)).category (frns_of c.args.set.bits) c.args.items.now ≡ ok (fspec_at c.open_block-old.result.profile c.args.set.bits ++ c.args.items.now))
     × (c.in-Ends.n ≡ length (fspec_at c.open_block-old.result.profile c.args.set.bits) + length c.args.items.now)
 whole c = new_whole _ _ _ _ (checked c)
 
