@@ -44,12 +44,12 @@ named : (c : After-check_record-walked) → category_of (at c).category categori
 named c = category_at_lem _ _ c.profile_of-profile.ensures c.if-profile-ge-PROFILES.false
 
 -- the record, where it is whole
-accepted : (c : In-Ends) → Accepted (category_at ((let it : ℕ = c.profile_of-profile.result in it))) (((let it : Cursor = c.args.at in it)).place - ((let it : Cursor = c.args.at in it)).block) ((let it : List ℕ = part (recording c) (at c).place (at c).end in it)) c.in-Ends.stop
-accepted c = ended_accepted _ _ ((let it : List ℕ = part (recording c) (at c).place (at c).end in it)) c.check_record-walked.result.checked c.check_record-walked.ensures.answer _ ((let it : Octets (octets c) = octets_part (recording c) (at c).place (at c).end (octets_each (recording c) c.type_inv.recording) in it)) c.in-Ends.is
+accepted : (c : In-Ends) → Accepted (category_at (c.profile_of-profile.result)) ((c.args.at).place - (c.args.at).block) ((part (c.args.recording.now) (c.args.at).place (c.args.at).end)) c.in-Ends.stop
+accepted c = ended_accepted _ _ ((part (c.args.recording.now) (c.args.at).place (c.args.at).end)) c.check_record-walked.result.checked c.check_record-walked.ensures.answer _ ((let it : Octets ((part (c.args.recording.now) (c.args.at).place (c.args.at).end)) = octets_part (c.args.recording.now) (c.args.at).place (c.args.at).end (octets_each (c.args.recording.now) c.type_inv.recording) in it)) c.in-Ends.is
 
 -- and where it is not
-barred : (c : In_default) → Refusal (category_at ((let it : ℕ = c.profile_of-profile.result in it))) (((let it : Cursor = c.args.at in it)).place - ((let it : Cursor = c.args.at in it)).block) ((let it : List ℕ = part (recording c) (at c).place (at c).end in it)) c.in_default.field-0 c.in_default.field-1
-barred c = ended_refused _ _ ((let it : List ℕ = part (recording c) (at c).place (at c).end in it)) c.check_record-walked.result.checked c.check_record-walked.ensures.answer _ _ c.in_default.is
+barred : (c : In_default) → Refusal (category_at (c.profile_of-profile.result)) ((c.args.at).place - (c.args.at).block) ((part (c.args.recording.now) (c.args.at).place (c.args.at).end)) c.in_default.field-0 c.in_default.field-1
+barred c = ended_refused _ _ ((part (c.args.recording.now) (c.args.at).place (c.args.at).end)) c.check_record-walked.result.checked c.check_record-walked.ensures.answer _ _ c.in_default.is
 
 pub returns-then-profile-ge-PROFILES : goal.returns-then-profile-ge-PROFILES
 returns-then-profile-ge-PROFILES c =

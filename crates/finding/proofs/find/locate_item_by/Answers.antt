@@ -45,10 +45,10 @@ sought c =
 
 -- the item that the map has
 there : (c : Else-first-eq0)
-    → ThereAt c.args.block.now c.args.reference c.args.n c.open_block-opened.result.profile c.in-Accepted.records ((let it : Opens c.args.block.now (opening c) = opens c.args.block.now (opening c) (octets_each c.args.block.now c.type_inv.block) (sym c.open_block-opened.ensures.answer ∙ ap (opened_by c.open_block-opened.result.profile) c.in-Accepted.is) in it)) c.in-Frn.frn
+    → ThereAt c.args.block.now c.args.reference c.args.n c.open_block-opened.result.profile c.in-Accepted.records ((let it : Opens c.args.block.now ((let it : Opening = record { category = category_at c.open_block-opened.result.profile; count = c.in-Accepted.records } in it)) = opens c.args.block.now ((let it : Opening = record { category = category_at c.open_block-opened.result.profile; count = c.in-Accepted.records } in it)) (octets_each c.args.block.now c.type_inv.block) (sym c.open_block-opened.ensures.answer ∙ ap (opened_by c.open_block-opened.result.profile) c.in-Accepted.is) in it)) c.in-Frn.frn
     (get_or c.seek_record-located.result.map.starts (c.in-Frn.frn - 1) 0)
 there c =
-    there_at _ _ _ _ _ ((let it : Opens c.args.block.now (opening c) = opens c.args.block.now (opening c) (octets_each c.args.block.now c.type_inv.block) (sym c.open_block-opened.ensures.answer ∙ ap (opened_by c.open_block-opened.result.profile) c.in-Accepted.is) in it)) _ ((let it : LocatedAt (seek_at ((let it : Opening = record { category = category_at c.open_block-opened.result.profile; count = c.in-Accepted.records } in it)).category 3 (drop 3 c.args.block.now) c.args.n) c.seek_record-located.result c.in-At.start c.in-At.length = located _ c.seek_record-located.result _ _ (subst (λ z. Located c.seek_record-located.result (seek_at ((let it : Opening = record { category = category_at c.open_block-opened.result.profile; count = c.in-Accepted.records } in it)).category 3 z c.args.n)) (to_end c.args.block.now 3) c.seek_record-located.ensures) c.in-At.is in it)).map _ ((let it : NamedAt c.args.reference 1 (places ((let it : Opening = record { category = category_at c.open_block-opened.result.profile; count = c.in-Accepted.records } in it)).category) c.in-Frn.frn = frn_some _ 1 (places ((let it : Opening = record { category = category_at c.open_block-opened.result.profile; count = c.in-Accepted.records } in it)).category) _ (ap (λ z. frn_as c.args.reference 1 (flatten z)) (profile_at_lem c.open_block-opened.result.profile) ∙ sym c.frn_of-named.ensures ∙ ap frn_of c.in-Frn.is) in it)) ((let it : LocatedAt (seek_at ((let it : Opening = record { category = category_at c.open_block-opened.result.profile; count = c.in-Accepted.records } in it)).category 3 (drop 3 c.args.block.now) c.args.n) c.seek_record-located.result c.in-At.start c.in-At.length = located _ c.seek_record-located.result _ _ (subst (λ z. Located c.seek_record-located.result (seek_at ((let it : Opening = record { category = category_at c.open_block-opened.result.profile; count = c.in-Accepted.records } in it)).category 3 z c.args.n)) (to_end c.args.block.now 3) c.seek_record-located.ensures) c.in-At.is in it)).found (ap (λ z. z.starts) ((let it : LocatedAt (seek_at ((let it : Opening = record { category = category_at c.open_block-opened.result.profile; count = c.in-Accepted.records } in it)).category 3 (drop 3 c.args.block.now) c.args.n) c.seek_record-located.result c.in-At.start c.in-At.length = located _ c.seek_record-located.result _ _ (subst (λ z. Located c.seek_record-located.result (seek_at ((let it : Opening = record { category = category_at c.open_block-opened.result.profile; count = c.in-Accepted.records } in it)).category 3 z c.args.n)) (to_end c.args.block.now 3) c.seek_record-located.ensures) c.in-At.is in it)).map_is) c.if-first-eq0.false
+    there_at _ _ _ _ _ ((let it : Opens c.args.block.now ((let it : Opening = record { category = category_at c.open_block-opened.result.profile; count = c.in-Accepted.records } in it)) = opens c.args.block.now ((let it : Opening = record { category = category_at c.open_block-opened.result.profile; count = c.in-Accepted.records } in it)) (octets_each c.args.block.now c.type_inv.block) (sym c.open_block-opened.ensures.answer ∙ ap (opened_by c.open_block-opened.result.profile) c.in-Accepted.is) in it)) _ ((let it : LocatedAt (seek_at ((let it : Opening = record { category = category_at c.open_block-opened.result.profile; count = c.in-Accepted.records } in it)).category 3 (drop 3 c.args.block.now) c.args.n) c.seek_record-located.result c.in-At.start c.in-At.length = located _ c.seek_record-located.result _ _ (subst (λ z. Located c.seek_record-located.result (seek_at ((let it : Opening = record { category = category_at c.open_block-opened.result.profile; count = c.in-Accepted.records } in it)).category 3 z c.args.n)) (to_end c.args.block.now 3) c.seek_record-located.ensures) c.in-At.is in it)).map _ ((let it : NamedAt c.args.reference 1 (places ((let it : Opening = record { category = category_at c.open_block-opened.result.profile; count = c.in-Accepted.records } in it)).category) c.in-Frn.frn = frn_some _ 1 (places ((let it : Opening = record { category = category_at c.open_block-opened.result.profile; count = c.in-Accepted.records } in it)).category) _ (ap (λ z. frn_as c.args.reference 1 (flatten z)) (profile_at_lem c.open_block-opened.result.profile) ∙ sym c.frn_of-named.ensures ∙ ap frn_of c.in-Frn.is) in it)) ((let it : LocatedAt (seek_at ((let it : Opening = record { category = category_at c.open_block-opened.result.profile; count = c.in-Accepted.records } in it)).category 3 (drop 3 c.args.block.now) c.args.n) c.seek_record-located.result c.in-At.start c.in-At.length = located _ c.seek_record-located.result _ _ (subst (λ z. Located c.seek_record-located.result (seek_at ((let it : Opening = record { category = category_at c.open_block-opened.result.profile; count = c.in-Accepted.records } in it)).category 3 z c.args.n)) (to_end c.args.block.now 3) c.seek_record-located.ensures) c.in-At.is in it)).found (ap (λ z. z.starts) ((let it : LocatedAt (seek_at ((let it : Opening = record { category = category_at c.open_block-opened.result.profile; count = c.in-Accepted.records } in it)).category 3 (drop 3 c.args.block.now) c.args.n) c.seek_record-located.result c.in-At.start c.in-At.length = located _ c.seek_record-located.result _ _ (subst (λ z. Located c.seek_record-located.result (seek_at ((let it : Opening = record { category = category_at c.open_block-opened.result.profile; count = c.in-Accepted.records } in it)).category 3 z c.args.n)) (to_end c.args.block.now 3) c.seek_record-located.ensures) c.in-At.is in it)).map_is) c.if-first-eq0.false
 
 -- what its check answers
 checked : (c : Else-first-eq0) → check_at c.open_block-opened.result.profile c.in-Frn.frn (take (length c.args.block.now - get_or c.seek_record-located.result.map.starts (c.in-Frn.frn - 1) 0) (drop (get_or c.seek_record-located.result.map.starts (c.in-Frn.frn - 1) 0) c.args.block.now)) ≡ ok (there c).item.size
