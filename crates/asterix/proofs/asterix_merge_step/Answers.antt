@@ -9,13 +9,13 @@ use Rattle.asterix.proofs.MergeLaws.{stepped, stepped_next, stepped_closed}
 use Rattle.asterix.proofs.asterix_merge_step.Goals as goal
 
 pub returns-in-Next : goal.returns-in-Next
-returns-in-Next c = stepped_next _ _ (c.merge_at-merged.ensures ∙ ap (λ z. merged_of (merge_step categories c.args.log-a.now c.args.log-b.now c.args.place-a c.args.place-b z)) (to_z-of_z w64 c.args.offset c.ranges.offset)) _ _ c.log_number.ensures c.in-Next.is
+returns-in-Next c = stepped_next _ _ (c.merge_at-merged.ensures ∙ ap (λ z. merged_of (merge_step categories c.args.log_a.now c.args.log_b.now c.args.place_a c.args.place_b z)) (to_z-of_z w64 c.args.offset c.ranges.offset)) _ _ c.log_number.ensures c.in-Next.is
 
 pub returns-in-Finished : goal.returns-in-Finished
-returns-in-Finished c = stepped _ _ (c.merge_at-merged.ensures ∙ ap (λ z. merged_of (merge_step categories c.args.log-a.now c.args.log-b.now c.args.place-a c.args.place-b z)) (to_z-of_z w64 c.args.offset c.ranges.offset)) c.in-Finished.is
+returns-in-Finished c = stepped _ _ (c.merge_at-merged.ensures ∙ ap (λ z. merged_of (merge_step categories c.args.log_a.now c.args.log_b.now c.args.place_a c.args.place_b z)) (to_z-of_z w64 c.args.offset c.ranges.offset)) c.in-Finished.is
 
 pub returns-in-NotAccepted : goal.returns-in-NotAccepted
-returns-in-NotAccepted c = stepped_closed _ _ (c.merge_at-merged.ensures ∙ ap (λ z. merged_of (merge_step categories c.args.log-a.now c.args.log-b.now c.args.place-a c.args.place-b z)) (to_z-of_z w64 c.args.offset c.ranges.offset)) _ _ _ _ c.log_number-in-NotAccepted.ensures c.in-NotAccepted.is
+returns-in-NotAccepted c = stepped_closed _ _ (c.merge_at-merged.ensures ∙ ap (λ z. merged_of (merge_step categories c.args.log_a.now c.args.log_b.now c.args.place_a c.args.place_b z)) (to_z-of_z w64 c.args.offset c.ranges.offset)) _ _ _ _ c.log_number-in-NotAccepted.ensures c.in-NotAccepted.is
 
 pub returns-in-Refused : goal.returns-in-Refused
-returns-in-Refused c = stepped _ _ (c.merge_at-merged.ensures ∙ ap (λ z. merged_of (merge_step categories c.args.log-a.now c.args.log-b.now c.args.place-a c.args.place-b z)) (to_z-of_z w64 c.args.offset c.ranges.offset)) c.in-Refused.is
+returns-in-Refused c = stepped _ _ (c.merge_at-merged.ensures ∙ ap (λ z. merged_of (merge_step categories c.args.log_a.now c.args.log_b.now c.args.place_a c.args.place_b z)) (to_z-of_z w64 c.args.offset c.ranges.offset)) c.in-Refused.is

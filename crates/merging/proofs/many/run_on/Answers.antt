@@ -45,13 +45,13 @@ pub bounds-there-log : goal.bounds-there-log
 bounds-there-log c = c.if-log-ge2.false
 
 pub overflow_add-n : goal.overflow_add-n
-overflow_add-n c = record { fits = omega (arith, (overflow_mul-n (goal.at.overflow_add-n c).After-put-arg-1).fits) }
+overflow_add-n c = record { fits = omega (arith, c.loop-n-test.true) }
 
 pub loop-n-smaller : goal.loop-n-smaller
 loop-n-smaller c = omega (arith, c.loop-n-test.true)
 
 pub loop-n-preserved : goal.loop-n-preserved
-loop-n-preserved c = held_on _ _ _ _ _ _ _ _ _ _ c.loop-n.invariant _ c.first_by.ensures c.loop-n-test.true (octets_each c.args.log-a.now c.type_inv.log_a) (octets_each c.args.log-b.now c.type_inv.log_b) _ c.log_number-log.ensures c.if-log-ge2.false _ c.put.ensures _ c.picked_log.ensures _ c.behind.ensures _ c.stand_by-after.ensures
+loop-n-preserved c = held_on _ _ _ _ _ _ _ _ _ _ c.loop-n.invariant _ c.first_by.ensures c.loop-n-test.true (octets_each c.args.log_a.now c.type_inv.log_a) (octets_each c.args.log_b.now c.type_inv.log_b) _ c.log_number-log.ensures c.if-log-ge2.false _ c.put.ensures _ c.picked_log.ensures _ c.behind.ensures _ c.stand_by-after.ensures
 
 pub shape_of-out : goal.shape_of-out
 shape_of-out c = running_long _ _ _ _ _ _ _ _ c.loop-n.invariant.run

@@ -8,10 +8,10 @@ use Rattle.merging.proofs.StepLaws.{at_closed, at_barred, at_ready}
 use Rattle.merging.proofs.step.merge_at.Goals as goal
 
 pub returns-in-NotAccepted : goal.returns-in-NotAccepted
-returns-in-NotAccepted c = c.stay.ensures ∙ at_closed c.args.log-a.now c.args.log-b.now c.args.place-a c.args.place-b c.args.offset (octets_each c.args.log-a.now c.type_inv.log_a) (octets_each c.args.log-b.now c.type_inv.log_b) _ (c.begin_merge-begun.ensures ∙ ap (begin_of c.args.log-a.now c.args.log-b.now) (to_z-of_z w64 c.args.offset c.ranges.offset)) _ _ _ c.in-NotAccepted.is
+returns-in-NotAccepted c = c.stay.ensures ∙ at_closed c.args.log_a.now c.args.log_b.now c.args.place_a c.args.place_b c.args.offset (octets_each c.args.log_a.now c.type_inv.log_a) (octets_each c.args.log_b.now c.type_inv.log_b) _ (c.begin_merge-begun.ensures ∙ ap (begin_of c.args.log_a.now c.args.log_b.now) (to_z-of_z w64 c.args.offset c.ranges.offset)) _ _ _ c.in-NotAccepted.is
 
 pub returns-in-Refused : goal.returns-in-Refused
-returns-in-Refused c = c.stay-in-Refused.ensures ∙ at_barred c.args.log-a.now c.args.log-b.now c.args.place-a c.args.place-b c.args.offset (octets_each c.args.log-a.now c.type_inv.log_a) (octets_each c.args.log-b.now c.type_inv.log_b) _ (c.begin_merge-begun.ensures ∙ ap (begin_of c.args.log-a.now c.args.log-b.now) (to_z-of_z w64 c.args.offset c.ranges.offset)) _ c.in-Refused.is
+returns-in-Refused c = c.stay-in-Refused.ensures ∙ at_barred c.args.log_a.now c.args.log_b.now c.args.place_a c.args.place_b c.args.offset (octets_each c.args.log_a.now c.type_inv.log_a) (octets_each c.args.log_b.now c.type_inv.log_b) _ (c.begin_merge-begun.ensures ∙ ap (begin_of c.args.log_a.now c.args.log_b.now) (to_z-of_z w64 c.args.offset c.ranges.offset)) _ c.in-Refused.is
 
 pub returns-in-Ready : goal.returns-in-Ready
-returns-in-Ready c = at_ready c.args.log-a.now c.args.log-b.now c.args.place-a c.args.place-b c.args.offset (octets_each c.args.log-a.now c.type_inv.log_a) (octets_each c.args.log-b.now c.type_inv.log_b) _ (c.begin_merge-begun.ensures ∙ ap (begin_of c.args.log-a.now c.args.log-b.now) (to_z-of_z w64 c.args.offset c.ranges.offset)) _ c.in-Ready.is _ c.step_from.ensures
+returns-in-Ready c = at_ready c.args.log_a.now c.args.log_b.now c.args.place_a c.args.place_b c.args.offset (octets_each c.args.log_a.now c.type_inv.log_a) (octets_each c.args.log_b.now c.type_inv.log_b) _ (c.begin_merge-begun.ensures ∙ ap (begin_of c.args.log_a.now c.args.log_b.now) (to_z-of_z w64 c.args.offset c.ranges.offset)) _ c.in-Ready.is _ c.step_from.ensures

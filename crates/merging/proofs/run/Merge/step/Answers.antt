@@ -4,10 +4,10 @@ use Rattle.merging.proofs.MoveLaws.{fits_a, move_a, fits_b, move_b, move_none}
 use Rattle.merging.proofs.run.Merge.step.Goals as goal
 
 pub behind-requires : goal.behind-requires
-behind-requires c = omega (arith, fits_a c.args.log-a.now c.args.log-b.now c.args.self _ c.first_of-which.ensures c.in-OfA.is)
+behind-requires c = omega (arith, fits_a c.args.log_a.now c.args.log_b.now c.args.self _ c.first_of-which.ensures c.in-OfA.is)
 
 pub behind-requires-in-OfB : goal.behind-requires-in-OfB
-behind-requires-in-OfB c = omega (arith, fits_b c.args.log-a.now c.args.log-b.now c.args.self _ c.first_of-which.ensures c.in-OfB.is)
+behind-requires-in-OfB c = omega (arith, fits_b c.args.log_a.now c.args.log_b.now c.args.self _ c.first_of-which.ensures c.in-OfB.is)
 
 pub returns-in-OfA : goal.returns-in-OfA
 returns-in-OfA c = move_a _ _ _ _ c.first_of-which.ensures c.in-OfA.is _ _ c.behind.ensures c.stand-after.ensures
