@@ -11,11 +11,11 @@ use native.Mathlib.Nat.{le_refl}
 use lib.Dec.{T, leb, eqb, leb→le}
 use lib.IntN.{ℤ, pos, negsuc}
 use lib.ListN.{length, take}
-use Rattle.rules.specs.Answer.{Answer, ok, refused, ◌>>=◌, need◌or◌then◌, if◌then◌else◌, expect◌or◌, later, Read, Write}
+use Rattle.rules.specs.Answer.{octets_of, Answer, ok, refused, ◌>>=◌, need◌or◌then◌, if◌then◌else◌, expect◌or◌, later, Read, Write}
 use Rattle.rules.specs.Chain.{flatten, read_num}
 use Rattle.rules.specs.Layout.{Values, in_parts, in_subfields}
 use Rattle.rules.specs.Presence.{read_rows, read_places}
-use Rattle.rules.specs.Record.{Place, Message, Category, Record, items, places, value_of, spelled, type_of, message_of, judge, read_place, read_record}
+use Rattle.rules.specs.Record.{write_record, Place, Message, Category, Record, items, places, value_of, spelled, type_of, message_of, judge, read_place, read_record}
 use Rattle.rules.specs.Block.{category_of, read_up_to, read_all, Head, read_head, read_body, read_block}
 use Rattle.rules.specs.Recording.{read_recording}
 use Rattle.rules.specs.Catalogue.{categories}
@@ -178,7 +178,7 @@ record_numbered : (c : Category) (k : ℕ) (rs : List Record) (n : ℕ) → Numb
 unfolding numbered
 record_numbered c k [] n = refusal 19 0 tt
 record_numbered c k (r ∷ rs) zero = done _
-record_numbered c k (r ∷ rs) (suc n) = record_numbered c _ rs n
+record_numbered c k (r ∷ rs) (suc n) = record_numbered c (k + length (octets_of (write_record c r))) rs n
 
 record_found_lem : (cs : List Category) (bs : List ℕ) (n : ℕ) → Octets bs → Numbered (find_record cs bs n)
 unfolding find_record

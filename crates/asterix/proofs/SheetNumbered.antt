@@ -13,7 +13,7 @@ use Rattle.rules.specs.declared.Edition.{Edition}
 use Rattle.rules.specs.declared.Mark.{Mark}
 use Rattle.rules.specs.declared.Shape.{Shape}
 use Rattle.rules.specs.declared.Shape.TheVariants.{Whole}
-use Rattle.rules.specs.Mark.{marks_in}
+use Rattle.rules.specs.Mark.{key, mark_in, marks_in}
 use Rattle.rules.specs.SheetForm.{Form, Holds, the_marks, the_totals, Tagged, fields, form}
 use Rattle.rules.specs.Sheet.{edition_of, told_edition, write_sheet, field_length, read_field, read_edition, read_offset, read_list, read_total, read_held, read_fields, read_sheet}
 use Rattle.rules.specs.SheetChange.{sheet_add, sheet_remove, sheet_empty, at_start, write_marks, fitted}
@@ -57,7 +57,7 @@ offsets bs = numbered.step 16 37 _ _ (bodies 2 bs) (λ x e. numbered.test 16 37 
 marks : (f : Shape) (least n : ℕ) (bs : List ℕ) → Numbered (marks_in f least n bs)
 unfolding marks_in
 marks f least zero bs = done []
-marks f least (suc n) bs = numbered.test 16 37 _ 33 _ tt (numbered.step 16 37 _ _ (numbered.on 16 37 _ _ (marks f _ n _)) (λ ms e. done _))
+marks f least (suc n) bs = numbered.test 16 37 _ 33 _ tt (numbered.step 16 37 _ _ (numbered.on 16 37 _ _ (marks f (suc (key (mark_in f bs))) n _)) (λ ms e. done _))
 
 lists : (t : ℕ) (f : Shape) (limit : ℕ) (bs : List ℕ) → Numbered (read_list t f limit bs)
 unfolding read_list

@@ -39,8 +39,7 @@ pub struct BlockChecked {
 }
 
 // A single block: all of the bytes lent.
-#[unsafe(no_mangle)]
-pub extern "C" fn asterix_check_block(block: &[u8]) -> BlockChecked
+pub fn asterix_check_block(block: &[u8]) -> BlockChecked
     ensures { result ≡ block_checked (check_block categories block.now) }
 {
     match blocks::check_block(block) {
@@ -67,8 +66,7 @@ pub struct RecordingChecked {
 }
 
 // A recording: blocks end to end, or none.
-#[unsafe(no_mangle)]
-pub extern "C" fn asterix_check_recording(recording: &[u8]) -> RecordingChecked
+pub fn asterix_check_recording(recording: &[u8]) -> RecordingChecked
     ensures { result ≡ recording_checked (check_recording categories recording.now) }
 {
     match recordings::check_recording(recording) {
@@ -102,8 +100,7 @@ pub struct RecordFound {
 }
 
 // The record with a number, counted from 0: where it lies, and its map.
-#[unsafe(no_mangle)]
-pub extern "C" fn asterix_find_record(block: &[u8], n: usize) -> RecordFound
+pub fn asterix_find_record(block: &[u8], n: usize) -> RecordFound
     ensures { result ≡ record_found (find_record categories block.now n) }
 {
     let located = finding::locate_record(block, n);
@@ -142,8 +139,7 @@ pub struct ItemFound {
 }
 
 // The item with a reference, the number after its slash, in the record with a number: where it lies.
-#[unsafe(no_mangle)]
-pub extern "C" fn asterix_find_item(block: &[u8], reference: u16, n: usize) -> ItemFound
+pub fn asterix_find_item(block: &[u8], reference: u16, n: usize) -> ItemFound
     ensures { result ≡ item_found (find_item categories block.now reference n) }
 {
     match finding::locate_item(block, reference, n) {
@@ -211,8 +207,7 @@ fn unmet(number: u8, place: usize, next: Cursor) -> RecordMet
 }
 
 // The record at a cursor, or the first of the next block.
-#[unsafe(no_mangle)]
-pub extern "C" fn asterix_next_record(recording: &[u8], cursor: Cursor) -> RecordMet
+pub fn asterix_next_record(recording: &[u8], cursor: Cursor) -> RecordMet
     ensures { result ≡ record_met (next_record recording.now (cursor_in cursor)) }
 {
     let walked = walking::next_record(
@@ -286,8 +281,7 @@ pub struct MergeStepped {
 }
 
 // Which record of two logs comes next, from a place in each; and the new places.
-#[unsafe(no_mangle)]
-pub extern "C" fn asterix_merge_step(
+pub fn asterix_merge_step(
     log_a: &[u8],
     log_b: &[u8],
     place_a: usize,
@@ -454,8 +448,7 @@ fn none_begun(number: u8, log: u8, place: usize) -> MergeBegun
 }
 
 // A run from both first records: both logs are checked, whole, once.
-#[unsafe(no_mangle)]
-pub extern "C" fn asterix_begin_merge(log_a: &[u8], log_b: &[u8], offset: i64) -> MergeBegun
+pub fn asterix_begin_merge(log_a: &[u8], log_b: &[u8], offset: i64) -> MergeBegun
     ensures { result ≡ merge_begun (begin_of log_a.now log_b.now offset) }
 {
     let begun = merging::begin_merge(log_a, log_b, offset);
@@ -482,8 +475,7 @@ pub struct MergeNext {
 }
 
 // The next records of two logs, six numbers each, as many as there is room for. Of any run: what comes out lies in its log.
-#[unsafe(no_mangle)]
-pub extern "C" fn asterix_next_merged_words<'a>(
+pub fn asterix_next_merged_words<'a>(
     log_a: &'a [u8],
     log_b: &'a [u8],
     merge: Merge,
@@ -518,8 +510,7 @@ pub struct ItemRead {
 }
 
 // The fields of an item that is all of the bytes lent, at the start of the output.
-#[unsafe(no_mangle)]
-pub extern "C" fn asterix_read_item(
+pub fn asterix_read_item(
     category: u8,
     reference: u16,
     item: &[u8],
@@ -551,8 +542,7 @@ pub struct ItemWritten {
 }
 
 // An item from its fields, at the start of the output.
-#[unsafe(no_mangle)]
-pub extern "C" fn asterix_write_item(
+pub fn asterix_write_item(
     category: u8,
     reference: u16,
     fields: &[i64],
@@ -587,13 +577,7 @@ pub struct RecordAdded {
 }
 
 // Into an output whose first bytes, so many as are used, are a block: the record of a set of FRNs, FRN f being bit 63 - f, whose items are lent end to end.
-#[unsafe(no_mangle)]
-pub extern "C" fn asterix_add_record(
-    out: &mut [u8],
-    used: usize,
-    frns: u64,
-    items: &[u8],
-) -> RecordAdded
+pub fn asterix_add_record(out: &mut [u8], used: usize, frns: u64, items: &[u8]) -> RecordAdded
     ensures answer { result ≡ record_added (add_record categories out.old used (frns_of frns) items.now) }
     ensures left { out.new ≡ leaves_added (add_record categories out.old used (frns_of frns) items.now) out.old }
 {
@@ -622,8 +606,7 @@ pub extern "C" fn asterix_add_record(
 // ---- lengths
 
 // The fewest octets that the items take that an octet of an FSPEC names, by its place, counted from 0; 0 where the category has no such octet.
-#[unsafe(no_mangle)]
-pub extern "C" fn asterix_least_length(category: u8, place: usize, octet: u8) -> usize
+pub fn asterix_least_length(category: u8, place: usize, octet: u8) -> usize
     ensures { result ≡ least_length categories (profile_in category categories) place octet }
 {
     lengths::least_length(tables::profile_of(category), place, octet)

@@ -56,8 +56,7 @@ fn marks_in(marks: Marks) -> Lists
 }
 
 // A sheet that is all of the bytes lent.
-#[unsafe(no_mangle)]
-pub extern "C" fn asterix_read_sheet(sheet: &[u8]) -> SheetRead
+pub fn asterix_read_sheet(sheet: &[u8]) -> SheetRead
     ensures { result ≡ sheet_told (read_sheet form sheet.now) }
 {
     match sheets::read_sheet(sheet) {
@@ -106,8 +105,7 @@ pub struct MarkFound {
 }
 
 // The mark with a number, counted from 0, of a sheet that was read. Of any bytes and marks: there is none where they do not lie in these bytes.
-#[unsafe(no_mangle)]
-pub extern "C" fn asterix_find_mark(sheet: &[u8], marks: Marks, n: usize) -> MarkFound
+pub fn asterix_find_mark(sheet: &[u8], marks: Marks, n: usize) -> MarkFound
     ensures { result ≡ mark_found (found_mark (marks_in marks) sheet.now n) }
 {
     match marks::find_mark(sheet, marks_in(marks), n) {
@@ -160,8 +158,7 @@ fn written(answer: Written) -> SheetWritten
 }
 
 // The sheet of an offset and of marks that are lent end to end, as tag 3 has them, at the start of the output.
-#[unsafe(no_mangle)]
-pub extern "C" fn asterix_write_sheet(offset: i64, marks: &[u8], out: &mut [u8]) -> SheetWritten
+pub fn asterix_write_sheet(offset: i64, marks: &[u8], out: &mut [u8]) -> SheetWritten
     ensures answer { result ≡ sheet_written (fitted (length out.old) (write_marks form form.least offset marks.now)) }
     ensures left { out.new ≡ leaves (fitted (length out.old) (write_marks form form.least offset marks.now)) out.old }
 {
@@ -169,8 +166,7 @@ pub extern "C" fn asterix_write_sheet(offset: i64, marks: &[u8], out: &mut [u8])
 }
 
 // The sheet with a mark more.
-#[unsafe(no_mangle)]
-pub extern "C" fn asterix_add_mark(sheet: &[u8], mark: Mark, out: &mut [u8]) -> SheetWritten
+pub fn asterix_add_mark(sheet: &[u8], mark: Mark, out: &mut [u8]) -> SheetWritten
     ensures answer { result ≡ sheet_written (fitted (length out.old) (sheet_add form (mark_in mark) sheet.now)) }
     ensures left { out.new ≡ leaves (fitted (length out.old) (sheet_add form (mark_in mark) sheet.now)) out.old }
 {
@@ -184,13 +180,7 @@ pub extern "C" fn asterix_add_mark(sheet: &[u8], mark: Mark, out: &mut [u8]) -> 
 }
 
 // The sheet without its mark at a log and place.
-#[unsafe(no_mangle)]
-pub extern "C" fn asterix_remove_mark(
-    sheet: &[u8],
-    log: u8,
-    place: u32,
-    out: &mut [u8],
-) -> SheetWritten
+pub fn asterix_remove_mark(sheet: &[u8], log: u8, place: u32, out: &mut [u8]) -> SheetWritten
     ensures answer { result ≡ sheet_written (fitted (length out.old) (sheet_remove form log place sheet.now)) }
     ensures left { out.new ≡ leaves (fitted (length out.old) (sheet_remove form log place sheet.now)) out.old }
 {
@@ -198,8 +188,7 @@ pub extern "C" fn asterix_remove_mark(
 }
 
 // The sheet without its marks.
-#[unsafe(no_mangle)]
-pub extern "C" fn asterix_empty_sheet(sheet: &[u8], out: &mut [u8]) -> SheetWritten
+pub fn asterix_empty_sheet(sheet: &[u8], out: &mut [u8]) -> SheetWritten
     ensures answer { result ≡ sheet_written (fitted (length out.old) (sheet_empty form sheet.now)) }
     ensures left { out.new ≡ leaves (fitted (length out.old) (sheet_empty form sheet.now)) out.old }
 {
