@@ -7,7 +7,6 @@ use mathlib.Core.List.{List, [], ◌∷◌, map}
 use native.Mathlib.Omega.{arith}
 use native.Mathlib.Nat.{mod-lt}
 use native.Mathlib.Numerals.{add-one}
-use lib.IntN.{pos}
 use lib.ListN.{take, drop_of_length-le}
 use lib.Seq.{slice-cons, length-take-le}
 use lib.Pow.{pow_pos, shr_lt}

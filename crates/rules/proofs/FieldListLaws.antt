@@ -15,7 +15,7 @@ use borrow.Author.Tests.{eqb-true, ltb-true}
 use lib.ListN.{length, take, drop, replicate, take-append-drop, length-append, length-replicate, length-map}
 use lib.Seq.{take_at, drop_at, length-take-le}
 use lib.IntN.{ℤ, pos, negsuc}
-use Rattle.rules.specs.Answer.{Answer, ok, refused, ◌>>=◌}
+use Rattle.rules.specs.Answer.{Answer, ok, refused}
 use Rattle.rules.specs.Field.{Kind, Field, spare, value, any, arity, put, pack}
 use Rattle.rules.specs.Chain.{flatten}
 use Rattle.rules.specs.Format.{Group, Format, fixed, repeated, led, extended, PartValues, groups, least, pack_all, write_plain}

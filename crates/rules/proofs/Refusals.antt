@@ -9,7 +9,7 @@ use mathlib.Core.List.{List, [], ◌∷◌}
 use lib.Dec.{leb}
 use lib.ListN.{length, drop, replicate}
 use lib.IntN.{ℤ, pos, negsuc}
-use Rattle.rules.specs.Answer.{Answer, ok, refused, ◌>>=◌, need◌or◌then◌}
+use Rattle.rules.specs.Answer.{Answer, ok, refused, need◌or◌then◌}
 use Rattle.rules.specs.Field.{Kind, unsigned, signed, Field, spare, value, bits, arity, put, pack, get, unpack}
 use Rattle.rules.specs.Chain.{read_num, write_num, read_many, write_many, read_chain, write_chain}
 use Rattle.rules.specs.Format.{Format, fixed, repeated, led, extended, PartValues, groups, least, pack_all, unpack_all, read_parts, write_parts, read_plain, write_plain}

@@ -10,7 +10,7 @@ use borrow.Author.Tests.{eqb-true, lt-ltb, le-ltb}
 use lib.ListN.{length, take, drop, get_or, length-append, length-drop, take-append-drop}
 use lib.Seq.{drop_at, take_at, length-take-le, drop-drop}
 use lib.IntN.{ℤ, pos, negsuc}
-use Rattle.rules.specs.Answer.{ok, ◌>>=◌}
+use Rattle.rules.specs.Answer.{ok}
 use Rattle.rules.specs.declared.Mark.{Mark}
 use Rattle.rules.specs.declared.Shape.{Shape}
 use Rattle.rules.specs.declared.Shape.TheVariants.{Whole, InLog}

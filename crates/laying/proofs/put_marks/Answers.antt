@@ -1,5 +1,4 @@
 -- `laying::put_marks` meets its contract. Assumes nothing.
-use Prim.Native.Nat.{◌-◌}
 use native.Mathlib.Omega.{arith}
 use Rattle.laying.proofs.PutLaws.{laid_all, laid_more, laid_none, laid_room}
 use Rattle.laying.proofs.put_marks.Goals as goal

@@ -1,6 +1,5 @@
 -- `laying::put_totals` meets its contract. Assumes nothing.
 use mathlib.Core.Path.{◌∙◌}
-use Prim.Native.Nat.{◌-◌}
 use native.Mathlib.Omega.{arith}
 use lib.ListN.{length-set}
 use Rattle.laying.proofs.PutLaws.{start_second, totalled_all, totalled_more, totalled_none, totalled_room}

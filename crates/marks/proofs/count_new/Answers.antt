@@ -1,5 +1,4 @@
 -- `marks::count_new` meets its contract. Assumes nothing.
-use Prim.Native.Nat.{◌-◌}
 use native.Mathlib.Omega.{arith}
 use Rattle.marks.proofs.NumberLaws.{counting_all, counting_more, counting_none}
 use Rattle.marks.proofs.count_new.Goals as goal

@@ -1,6 +1,5 @@
 -- `marks::pass_marks` meets its contract: what was told of the marks so far, with what is told of the others, is what is told of all. Assumes nothing.
 use mathlib.Core.Path.{◌∙◌, sym}
-use Prim.Native.Nat.{◌-◌}
 use native.Mathlib.Omega.{arith}
 use Rattle.marks.proofs.MarkSteps.{passed_all, passed_at, passed_fault, passed_more, passed_none, passed_size, size_least}
 use Rattle.marks.proofs.pass_marks.Goals as goal

@@ -1,5 +1,4 @@
 -- `sets::octets_of` meets its contract: at each turn, counting on from what is left gives what the whole gives. Assumes nothing.
-use Prim.Native.Nat.{◌-◌}
 use native.Mathlib.Omega.{arith}
 use lib.Pow.{pow_pos}
 use Rattle.sets.proofs.FspecLaws.{count_first, count_less, count_next, count_end}

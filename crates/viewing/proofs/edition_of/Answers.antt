@@ -1,5 +1,4 @@
 -- `viewing::edition_of` meets its contract: row by row. Assumes nothing.
-use Prim.Native.Nat.{◌-◌}
 use native.Mathlib.Omega.{arith}
 use Rattle.rules.specs.SheetForm.{form}
 use Rattle.viewing.proofs.FieldLaws.{searched_all, searched_here, searched_more, searched_none}

@@ -1,6 +1,5 @@
 -- `viewing::totals_agree` meets its contract. Assumes nothing.
 use mathlib.Core.Path.{refl}
-use Prim.Native.Nat.{◌-◌}
 use native.Mathlib.Omega.{arith}
 use Rattle.viewing.proofs.TotalLaws.{agreed_all, agreed_high, agreed_low, agreed_more, agreed_none, kept_count}
 use Rattle.viewing.proofs.totals_agree.Goals as goal

@@ -1,5 +1,4 @@
 -- `layouts::fields::fields_store` meets its contract: what is left to store makes of the output what all makes. Assumes nothing.
-use Prim.Native.Nat.{◌-◌}
 use mathlib.Core.Path.{refl, ◌∙◌}
 use native.Mathlib.Omega.{arith}
 use mir.Syntax.{w64}

@@ -1,5 +1,4 @@
 -- `layouts::parts::chain_of` meets its contract: the parts from a group on say what all say. Assumes nothing.
-use Prim.Native.Nat.{◌-◌}
 use mathlib.Core.Path.{sym, ◌∙◌}
 use native.Mathlib.Omega.{arith}
 use Rattle.layouts.proofs.ShapeLaws.{chain_begun, chain_some, chain_short, chain_last, chain_more, chain_past}

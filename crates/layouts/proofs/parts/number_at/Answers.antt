@@ -1,5 +1,4 @@
 -- `layouts::parts::number_at` meets its contract: what was gathered is the number of the octets passed. Assumes nothing.
-use Prim.Native.Nat.{◌-◌}
 use native.Mathlib.Omega.{arith}
 use Rattle.layouts.proofs.OctetLaws.{begun, gathered, more_fits, times_fits, all_read}
 use Rattle.layouts.proofs.parts.number_at.Goals as goal

@@ -1,5 +1,4 @@
 -- `tables::field_rules::are_obeyed` meets its contract: what is left to ask says what all says. Assumes nothing.
-use Prim.Native.Nat.{◌-◌}
 use mathlib.Core.Path.{refl}
 use Rattle.tables.proofs.RuleLaws.{asked_bad, asked_good, asked_none}
 use Rattle.tables.proofs.field_rules.are_obeyed.Goals as goal

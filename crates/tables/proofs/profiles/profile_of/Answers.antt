@@ -1,5 +1,4 @@
 -- `tables::profiles::profile_of` meets its contract: the search from an index on says what the whole search says. Assumes nothing.
-use Prim.Native.Nat.{◌-◌}
 use Rattle.rules.specs.Catalogue.{categories}
 use Rattle.tables.proofs.ProfileLaws.{seek_first, seek_found, seek_next, seek_end}
 use Rattle.tables.proofs.profiles.profile_of.Goals as goal

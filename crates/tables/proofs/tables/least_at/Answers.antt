@@ -1,7 +1,7 @@
 -- `tables::tables::least_at` meets its contract: the code's table is, row by row, the one that the rules' profiles give. Assumes nothing.
 use Rattle.rules.specs.Catalogue.{categories}
 use Rattle.tables.specs.Tables.{least, ranges, fields, groups, layouts}
-use mathlib.Core.Path.{◌≡◌, refl, sym}
+use mathlib.Core.Path.{◌≡◌, sym}
 use Prim.Native.Nat.{ℕ}
 use lib.IntN.{pos}
 use lib.ListN.{get_or, get_or-map}
