@@ -23,8 +23,8 @@ use merging::{Begun, Told};
 use records::PLACES;
 use sets::ItemSet;
 pub use sheet::{
-    asterix_add_mark, asterix_empty_sheet, asterix_find_mark, asterix_read_sheet,
-    asterix_remove_mark, asterix_write_sheet,
+    Mark, MarkFound, Marks, SheetRead, SheetWritten, asterix_add_mark, asterix_empty_sheet,
+    asterix_find_mark, asterix_read_sheet, asterix_remove_mark, asterix_write_sheet,
 };
 use walking::Met;
 
