@@ -31,7 +31,7 @@ use Rattle.tables.specs.Tables.{subfield_at, layout_at, format_is, bits_is, prim
 use Rattle.writing.specs.Write.{parts_from, marked, Cut, cut_at}
 use Rattle.writing.specs.Compound.{spanned, span_to, sub_span, span_from, within, Place, place_in, place_from, Row, row_from, Rows, join_rows, rows_from, primary_octets, all_rows, item_octets, compound_at}
 use Rattle.writing.proofs.CutLaws.{over_written}
-use Rattle.writing.proofs.SpanLaws.{SubRow, no_sub, one_sub, list_sub, sub_row, there}
+use Rattle.writing.proofs.SpanLaws.{SubRow, no_sub, one_sub, list_sub, sub_row}
 use Rattle.writing.proofs.BitTurns.{sub_few}
 use Rattle.writing.proofs.PrimaryTurns.{row_facts, kept_cons}
 use Rattle.writing.proofs.RunLaws.{Run, run, run_there}

@@ -1,5 +1,4 @@
 -- `items::frn_of` meets its contract: the search from an FRN on says what the whole search says. Assumes nothing.
-use Prim.Native.Nat.{◌-◌}
 use mathlib.Core.Path.{sym, ◌∙◌}
 use Rattle.items.proofs.PlaceLaws.{seek_first, seek_found, seek_next, seek_end}
 use Rattle.items.proofs.frn_of.Goals as goal

@@ -1,5 +1,4 @@
 -- What the loop keeps, and how much is left.
-use Prim.Native.Nat.{◌-◌}
 use Rattle.compounds.proofs.SubfieldLaws.{Walking}
 use Rattle.compounds.proofs.subfields.subfields_of.Given as goal
 

@@ -1,6 +1,5 @@
 -- `writing::compound::lay_row` meets its contract. The loop's invariant: the subfields that are left, laid where the next one goes, make the output that is
 -- to be (`Stepping`). The measure is how many bits are left. Assumes nothing.
-use Prim.Native.Nat.{◌-◌}
 use native.Mathlib.Omega.{arith}
 use Rattle.writing.proofs.BitTurns.{sub_many, kind_few, stepping, step_all, step_in, step_fits, step}
 use Rattle.writing.proofs.compound.lay_row.Goals as goal

@@ -1,6 +1,6 @@
 -- `writing::compound::lay_rows` meets its contract. The loop's invariant: the subfields that are left, laid where the next one goes, and the primary octets
 -- that are left make the output that is to be (`Filling`). The measure is how many primary octets are left. Assumes nothing.
-use Prim.Native.Nat.{◌+◌, ◌-◌, ◌<◌}
+use Prim.Native.Nat.{◌+◌, ◌<◌}
 use mathlib.Core.Path.{sym, subst}
 use native.Mathlib.Omega.{arith}
 use lib.Dec.{ltb}

@@ -1,6 +1,5 @@
 -- `writing::compound::size_row` meets its contract. The loop's invariant: the bits and octets so far, with those that are left, are those of the primary
 -- octet (`Summing`). The measure is how many bits are left. Assumes nothing.
-use Prim.Native.Nat.{◌-◌}
 use mathlib.Core.Path.{◌≡◌, sym, ap, ◌∙◌}
 use native.Mathlib.Omega.{arith}
 use Rattle.rules.specs.Answer.{ok}

@@ -1,6 +1,6 @@
 -- `writing::compound::size_rows` meets its contract. The loop's invariant: the primary octets and the octets so far, with those that are left, are those of
 -- the item (`Adding`). The measure is how many primary octets are left. Assumes nothing.
-use Prim.Native.Nat.{◌-◌, ◌*◌, ◌+◌}
+use Prim.Native.Nat.{◌*◌, ◌+◌}
 use mathlib.Core.Path.{◌≡◌, sym, ap, ◌∙◌}
 use native.Mathlib.Omega.{arith}
 use Rattle.rules.specs.Answer.{ok}

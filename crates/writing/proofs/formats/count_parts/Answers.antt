@@ -1,6 +1,6 @@
 -- `writing::formats::count_parts` meets its contract. The loop's invariant: the parts so far and those that are left make the count of all (`Counting`).
 -- The measure is how many parts there may still be. Assumes nothing.
-use Prim.Native.Nat.{◌+◌, ◌-◌, ◌*◌, ◌≤◌, ◌<◌}
+use Prim.Native.Nat.{◌+◌, ◌*◌, ◌≤◌, ◌<◌}
 use mathlib.Core.Path.{sym, ap, ◌∙◌}
 use native.Mathlib.Omega.{arith}
 use Rattle.writing.specs.Write.{packed_as}

@@ -1,6 +1,6 @@
 -- `writing::formats::lay_parts` meets its contract. The loop's invariant: the parts that are left, laid at the place where the next one goes, make the output
 -- that is to be (`Placing`). The measure is how many parts are left. Assumes nothing.
-use Prim.Native.Nat.{◌-◌, ◌*◌, ◌^◌, ◌<◌}
+use Prim.Native.Nat.{◌*◌, ◌^◌, ◌<◌}
 use mathlib.Core.Path.{sym, ap, ◌∙◌, subst}
 use native.Mathlib.Omega.{arith}
 use lib.Dec.{eqb}

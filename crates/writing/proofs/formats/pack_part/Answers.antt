@@ -1,6 +1,6 @@
 -- `writing::formats::pack_part` meets its contract. The loop's invariant: the fields that are left, added to the number so far, make what all fields make
 -- (`Packing`). The measure is how many fields are left. Assumes nothing.
-use Prim.Native.Nat.{◌+◌, ◌-◌, ◌<◌}
+use Prim.Native.Nat.{◌+◌, ◌<◌}
 use mathlib.Core.Path.{sym, ap, ◌∙◌}
 use native.Mathlib.Omega.{arith}
 use lib.ListN.{length}

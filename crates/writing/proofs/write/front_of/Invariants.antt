@@ -1,5 +1,4 @@
 -- What the loop keeps, and how much is left.
-use Prim.Native.Nat.{◌-◌}
 use Rattle.writing.proofs.AbsentLaws.{Trimming}
 use Rattle.writing.proofs.write.front_of.Given as goal
 
