@@ -2,15 +2,14 @@
 --
 -- In order: profiles; `HeadRead::number`; `front_head`. Assumes nothing.
 use Prim.Native.Nat.{ℕ}
-use mathlib.Core.Path.{◌≡◌, refl, sym, ap, ap₂, ◌∙◌}
+use mathlib.Core.Path.{◌≡◌, sym, ap, ap₂, ◌∙◌}
 use mathlib.Core.Option.{some}
 use mathlib.Core.List.{List}
 use native.Mathlib.Omega.{arith}
 use lib.Dec.{leb}
 use Rattle.rules.specs.Block.{Head, category_of}
 use Rattle.rules.specs.Catalogue.{categories}
-use Rattle.rules.proofs.AnswerLaws.{ok_inj, some_inj, none_some}
-use Rattle.rules.proofs.BlockLaws.{category_cat}
+use Rattle.rules.proofs.AnswerLaws.{ok_inj}
 use Rattle.tables.specs.Profiles.{profile_in}
 use Rattle.tables.proofs.ProfileLaws.{index_is}
 use Rattle.sets.specs.Sets.{category_at}

@@ -3,7 +3,7 @@
 -- Not `steps`, `quick_item` and `told_item`, which state less by design. A table may say less of an item than the rules do, which is only slow, and none may say more
 -- (`sound_steps`); so both, which go by any such table, answer an item's length or 0, and where they answer a length it is the right one (`Plainly`).
 -- Assumes nothing.
-use Prim.Native.Nat.{ℕ, ◌<◌}
+use Prim.Native.Nat.{ℕ}
 use mathlib.Core.Path.{◌≡◌, sym, ◌∙◌}
 use mathlib.Core.Bool.{Bool}
 use mathlib.Core.List.{List}

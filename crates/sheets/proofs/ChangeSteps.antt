@@ -3,7 +3,7 @@
 -- In order: editions; what is known of a sheet that was read; its new bytes, whatever the change; emptying; adding; removing; reading.
 use Prim.Native.Nat.{ℕ, ◌+◌, ◌-◌, ◌*◌, ◌≤◌, ◌<◌}
 use mathlib.Core.Path.{◌≡◌, refl, sym, ap, ap₂, ◌∙◌, subst}
-use mathlib.Core.Logic.{⊎_elim, ◌⊎◌}
+use mathlib.Core.Logic.{⊎_elim}
 use mathlib.Core.Bool.{Bool, true, false}
 use mathlib.Core.List.{List, [], ◌∷◌, ◌++◌, append_assoc}
 use native.Mathlib.Omega.{arith}
@@ -17,7 +17,7 @@ use Rattle.rules.proofs.AnswerLaws.{Octets}
 use Rattle.rules.specs.declared.Shape.TheVariants.{Whole, InLog}
 use Rattle.rules.specs.declared.Edition.{Edition}
 use Rattle.rules.specs.declared.Mark.{Mark}
-use Rattle.rules.specs.SheetForm.{Form, one, form}
+use Rattle.rules.specs.SheetForm.{Form, form}
 use Rattle.rules.specs.Mark.{key, ok_mark, bytes4, number4, marks_bytes, rising, plus, of_log}
 use Rattle.rules.specs.Sheet.{Sheet, edition_of, offset_code, field_bytes, sheet_bytes, told_edition, read_sheet}
 use Rattle.rules.proofs.SheetSteps.{marks_fields, totals_fields, step_bytes, bytes_are}

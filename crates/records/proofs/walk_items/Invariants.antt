@@ -1,5 +1,4 @@
 -- What the loop keeps, and how much is left.
-use Prim.Native.Nat.{◌-◌}
 use Rattle.records.proofs.WalkLaws.{Standing}
 use Rattle.records.proofs.walk_items.Given as goal
 

@@ -1,5 +1,4 @@
 -- What the loop keeps, and how much is left.
-use Prim.Native.Nat.{◌-◌}
 use Rattle.measuring.proofs.EndLaws.{Standing}
 use Rattle.measuring.proofs.record.items_from.Given as goal
 

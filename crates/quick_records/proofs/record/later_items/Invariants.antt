@@ -1,5 +1,4 @@
 -- What the loop keeps, and how much is left.
-use Prim.Native.Nat.{◌-◌}
 use Rattle.quick_records.proofs.RecordLaws.{Standing}
 use Rattle.quick_records.proofs.record.later_items.Given as goal
 
