@@ -22,12 +22,12 @@ octets_at_lem : (c : After-shared_slice_known-1) → Octets c.args.part.now
 octets_at_lem c = octets_known c.args.part.now (λ i. omega (arith, c.type_inv.part i))
 
 -- it has one part, with a rule
-single-here : (c : Then-single-ge8) → Single (layout_at (place_row_at c.args.place).layout) (c.single_at-single.result - 8)
-single-here c = single_of_lem _ _ (layout_sound _ (place_row_lem _)) ((c.single_at-single.ensures ∙ single_is c.args.place)) c.if-single-ge8.true
+single_here : (c : Then-single-ge8) → Single (layout_at (place_row_at c.args.place).layout) (c.single_at-single.result - 8)
+single_here c = single_of_lem _ _ (layout_sound _ (place_row_lem _)) ((c.single_at-single.ensures ∙ single_is c.args.place)) c.if-single-ge8.true
 
 -- or it is free
-free-here : (c : Then-single-gt0) → Free (layout_at (place_row_at c.args.place).layout) c.single_at-single.result
-free-here c = free_of _ _ ((c.single_at-single.ensures ∙ single_is c.args.place)) c.if-single-gt0.true c.if-single-ge8.false
+free_here : (c : Then-single-gt0) → Free (layout_at (place_row_at c.args.place).layout) c.single_at-single.result
+free_here c = free_of _ _ ((c.single_at-single.ensures ∙ single_is c.args.place)) c.if-single-gt0.true c.if-single-ge8.false
 
 -- the layout of any other item, and its check
 row_at : (c : After-layout_at) → c.layout_at.result ≡ layout_at (place_row_at c.args.place).layout
@@ -38,16 +38,16 @@ shape_at : (c : After-item_of)
 shape_at c = c.item_of.ensures ∙ ap (λ (l : LayoutRow). shaped l c.args.part.now) ((c.layout_at.ensures ∙ ap layout_at c.layout_row.ensures))
 
 pub check_single-requires : goal.check_single-requires
-check_single-requires c = single_sound _ _ (layout_sound _ (place_row_lem _)) (single-here (goal.at.check_single-requires c).Then-single-ge8)
+check_single-requires c = single_sound _ _ (layout_sound _ (place_row_lem _)) (single_here (goal.at.check_single-requires c).Then-single-ge8)
 
 pub returns-then-single-ge8 : goal.returns-then-single-ge8
-returns-then-single-ge8 c = c.check_single.ensures ∙ single_size_lem _ _ _ (single-here (goal.at.returns-then-single-ge8 c).Then-single-ge8) ∙ one_part _ _ (single-here (goal.at.returns-then-single-ge8 c).Then-single-ge8).kind
+returns-then-single-ge8 c = c.check_single.ensures ∙ single_size_lem _ _ _ (single_here (goal.at.returns-then-single-ge8 c).Then-single-ge8) ∙ one_part _ _ (single_here (goal.at.returns-then-single-ge8 c).Then-single-ge8).kind
 
 pub returns-then-part-single : goal.returns-then-part-single
-returns-then-part-single c = free_cut _ _ _ (layout_sound _ (place_row_lem _)) (octets_at_lem (goal.at.returns-then-part-single c).After-shared_slice_known-1) (free-here (goal.at.returns-then-part-single c).Then-single-gt0) c.if-part-single.true ∙ one_part _ _ (free-here (goal.at.returns-then-part-single c).Then-single-gt0).kind
+returns-then-part-single c = free_cut _ _ _ (layout_sound _ (place_row_lem _)) (octets_at_lem (goal.at.returns-then-part-single c).After-shared_slice_known-1) (free_here (goal.at.returns-then-part-single c).Then-single-gt0) c.if-part-single.true ∙ one_part _ _ (free_here (goal.at.returns-then-part-single c).Then-single-gt0).kind
 
 pub returns-then-single-gt0 : goal.returns-then-single-gt0
-returns-then-single-gt0 c = free_there _ _ _ (layout_sound _ (place_row_lem _)) (octets_at_lem (goal.at.returns-then-single-gt0 c).After-shared_slice_known-1) (free-here (goal.at.returns-then-single-gt0 c).Then-single-gt0) c.if-part-single.false ∙ one_part _ _ (free-here (goal.at.returns-then-single-gt0 c).Then-single-gt0).kind
+returns-then-single-gt0 c = free_there _ _ _ (layout_sound _ (place_row_lem _)) (octets_at_lem (goal.at.returns-then-single-gt0 c).After-shared_slice_known-1) (free_here (goal.at.returns-then-single-gt0 c).Then-single-gt0) c.if-part-single.false ∙ one_part _ _ (free_here (goal.at.returns-then-single-gt0 c).Then-single-gt0).kind
 
 pub layout_at-requires : goal.layout_at-requires
 layout_at-requires c = subst (λ j. j < layout_count) (sym c.layout_row.ensures) (place_row_lem _)

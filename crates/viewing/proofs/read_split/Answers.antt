@@ -17,8 +17,8 @@ use Rattle.viewing.proofs.read_split.Goals as goal
 use Rattle.viewing.proofs.read_split.Goals.{After-shared_slice_known-1, After-struct_known-1, In-Marks}
 
 -- what is known once log 0's list is read
-bytes-at : (c : After-shared_slice_known-1) → Octets c.args.bs.now
-bytes-at c = are_bytes c.args.bs.now (λ i. omega (arith, c.type_inv.bs i))
+bytes_at : (c : After-shared_slice_known-1) → Octets c.args.bs.now
+bytes_at c = are_bytes c.args.bs.now (λ i. omega (arith, c.type_inv.bs i))
 
 first_at : (c : In-Marks) → ok c.in-Marks.t ≡ fmap (λ x. tally c.args.key x.0) (read_list 5 (InLog 0) form.limit c.args.bs.now)
 first_at c = ap list_answer (sym c.in-Marks.is) ∙ c.read_list.ensures
@@ -28,7 +28,7 @@ room_at c = split_room form.limit _ small _ ((are_bytes c.args.bs.now (λ i. ome
 
 pub returns-in-Fault : goal.returns-in-Fault
 returns-in-Fault c =
-    split_refused form.limit _ small _ (bytes-at (goal.at.returns-in-Fault c).After-shared_slice_known-1) _ _ (ap list_answer (sym c.in-Fault.is) ∙ c.read_list.ensures)
+    split_refused form.limit _ small _ (bytes_at (goal.at.returns-in-Fault c).After-shared_slice_known-1) _ _ (ap list_answer (sym c.in-Fault.is) ∙ c.read_list.ensures)
 
 pub overflow_mul-at : goal.overflow_mul-at
 overflow_mul-at c = omega (arith, (room_at (goal.at.overflow_mul-at c).In-Marks).1)
@@ -51,11 +51,11 @@ second_at c = ap list_answer (sym c.in-Marks-read_list.is) ∙ c.read_list-2.ens
 
 pub overflow_add-result : goal.overflow_add-result
 overflow_add-result c =
-    omega (arith, split_few form.limit _ small c.args.bs.now (bytes-at (goal.at.overflow_add-result c).After-shared_slice_known-1) _ (first_at (goal.at.overflow_add-result c).In-Marks) _ (second_at (goal.at.overflow_add-result c).After-struct_known-1))
+    omega (arith, split_few form.limit _ small c.args.bs.now (bytes_at (goal.at.overflow_add-result c).After-shared_slice_known-1) _ (first_at (goal.at.overflow_add-result c).In-Marks) _ (second_at (goal.at.overflow_add-result c).After-struct_known-1))
 
 pub both_tallies-requires : goal.both_tallies-requires
 both_tallies-requires c =
-    split_small form.limit _ small c.args.bs.now (bytes-at (goal.at.both_tallies-requires c).After-shared_slice_known-1) _ (first_at (goal.at.both_tallies-requires c).In-Marks) _ (second_at (goal.at.both_tallies-requires c).After-struct_known-1)
+    split_small form.limit _ small c.args.bs.now (bytes_at (goal.at.both_tallies-requires c).After-shared_slice_known-1) _ (first_at (goal.at.both_tallies-requires c).In-Marks) _ (second_at (goal.at.both_tallies-requires c).After-struct_known-1)
 
 pub overflow_add-result-in-Fault-read_list : goal.overflow_add-result-in-Fault-read_list
 overflow_add-result-in-Fault-read_list c =
@@ -63,8 +63,8 @@ overflow_add-result-in-Fault-read_list c =
 
 pub returns-in-Marks-read_list : goal.returns-in-Marks-read_list
 returns-in-Marks-read_list c =
-    split_marks form.limit _ small c.args.bs.now (bytes-at (goal.at.returns-in-Marks-read_list c).After-shared_slice_known-1) _ (first_at (goal.at.returns-in-Marks-read_list c).In-Marks) _ (second_at (goal.at.returns-in-Marks-read_list c).After-struct_known-1) _ c.both_tallies.ensures
+    split_marks form.limit _ small c.args.bs.now (bytes_at (goal.at.returns-in-Marks-read_list c).After-shared_slice_known-1) _ (first_at (goal.at.returns-in-Marks-read_list c).In-Marks) _ (second_at (goal.at.returns-in-Marks-read_list c).After-struct_known-1) _ c.both_tallies.ensures
 
 pub returns-in-Fault-read_list : goal.returns-in-Fault-read_list
 returns-in-Fault-read_list c =
-    split_refused_2 form.limit _ small _ (bytes-at (goal.at.returns-in-Fault-read_list c).After-shared_slice_known-1) _ (first_at (goal.at.returns-in-Fault-read_list c).In-Marks) _ _ (ap list_answer (sym c.in-Fault-read_list.is) ∙ c.read_list-2.ensures)
+    split_refused_2 form.limit _ small _ (bytes_at (goal.at.returns-in-Fault-read_list c).After-shared_slice_known-1) _ (first_at (goal.at.returns-in-Fault-read_list c).In-Marks) _ _ (ap list_answer (sym c.in-Fault-read_list.is) ∙ c.read_list-2.ensures)

@@ -24,19 +24,19 @@ abbrev start : In-Head → ℕ
 start c = c.args.start
 
 -- the head that was read
-abbrev head-of : In-Head → Head
-head-of c = record { category = category_at c.in-Head.profile; len = c.in-Head.len }
+abbrev head_of_here : In-Head → Head
+head_of_here c = record { category = category_at c.in-Head.profile; len = c.in-Head.len }
 
-has-head : (c : In-Head) → head_by leb (drop (start c) (recording c)) ≡ ok (head-of c)
-has-head c =
+has_head : (c : In-Head) → head_by leb (drop (start c) (recording c)) ≡ ok (head_of_here c)
+has_head c =
     ap (head_by leb) (sym (to_end (recording c) (start c))) ∙ sym c.front_head-head.ensures ∙ ap head_of c.in-Head.is
 
-is_head_lem : (c : In-Head) → Headed leb (drop (start c) (recording c)) (head-of c)
-is_head_lem c = headed leb (drop (start c) (recording c)) (head-of c) (has-head c)
+is_head_lem : (c : In-Head) → Headed leb (drop (start c) (recording c)) (head_of_here c)
+is_head_lem c = headed leb (drop (start c) (recording c)) (head_of_here c) (has_head c)
 
 -- LEN is no more than is left
-inside : (c : In-Head) → (head-of c).len ≤ length (recording c) - start c
-inside c = omega (arith, leb→le (head-of c).len (length (drop (start c) (recording c))) (is_head_lem c).fitted, length-drop (start c) (recording c))
+inside : (c : In-Head) → (head_of_here c).len ≤ length (recording c) - start c
+inside c = omega (arith, leb→le (head_of_here c).len (length (drop (start c) (recording c))) (is_head_lem c).fitted, length-drop (start c) (recording c))
 
 pub returns-in_default : goal.returns-in_default
 returns-in_default c =
@@ -45,7 +45,7 @@ returns-in_default c =
     (ap (head_by leb) (sym (to_end c.args.recording.now c.args.start)) ∙ sym c.front_head-head.ensures ∙ ap head_of c.in_default.is))
 
 pub returns-then-len-eq-HEAD : goal.returns-then-len-eq-HEAD
-returns-then-len-eq-HEAD c = sym (open_empty _ _ (head-of (goal.at.returns-then-len-eq-HEAD c).In-Head) (has-head (goal.at.returns-then-len-eq-HEAD c).In-Head) c.if-len-eq-HEAD.true)
+returns-then-len-eq-HEAD c = sym (open_empty _ _ (head_of_here (goal.at.returns-then-len-eq-HEAD c).In-Head) (has_head (goal.at.returns-then-len-eq-HEAD c).In-Head) c.if-len-eq-HEAD.true)
 
 pub overflow_add-result-2 : goal.overflow_add-result-2
 overflow_add-result-2 c = omega (arith, inside (goal.at.overflow_add-result-2 c).In-Head)
@@ -55,6 +55,6 @@ bounds-part-0 c = omega (arith, (is_head_lem (goal.at.bounds-part-0 c).In-Head).
 
 pub returns : goal.returns
 returns c =
-    ap (λ z. ok (record { block = start (goal.at.returns c).In-Head; place = start (goal.at.returns c).In-Head + 3; end = start (goal.at.returns c).In-Head + (head-of (goal.at.returns c).In-Head).len; category = z }))
-    (ap (λ l. get_or l 0 0) (to_end (recording (goal.at.returns c).In-Head) (start (goal.at.returns c).In-Head)) ∙ cat_is (drop (start (goal.at.returns c).In-Head) (recording (goal.at.returns c).In-Head)) (head-of (goal.at.returns c).In-Head) (has-head (goal.at.returns c).In-Head))
-    ∙ sym (open_head _ _ (head-of (goal.at.returns c).In-Head) (has-head (goal.at.returns c).In-Head) (omega (arith, (is_head_lem (goal.at.returns c).In-Head).least, c.if-len-eq-HEAD.false)))
+    ap (λ z. ok (record { block = start (goal.at.returns c).In-Head; place = start (goal.at.returns c).In-Head + 3; end = start (goal.at.returns c).In-Head + (head_of_here (goal.at.returns c).In-Head).len; category = z }))
+    (ap (λ l. get_or l 0 0) (to_end (recording (goal.at.returns c).In-Head) (start (goal.at.returns c).In-Head)) ∙ cat_is (drop (start (goal.at.returns c).In-Head) (recording (goal.at.returns c).In-Head)) (head_of_here (goal.at.returns c).In-Head) (has_head (goal.at.returns c).In-Head))
+    ∙ sym (open_head _ _ (head_of_here (goal.at.returns c).In-Head) (has_head (goal.at.returns c).In-Head) (omega (arith, (is_head_lem (goal.at.returns c).In-Head).least, c.if-len-eq-HEAD.false)))

@@ -15,23 +15,23 @@ use Rattle.blocks.proofs.check.check_front.Goals as goal
 use Rattle.blocks.proofs.check.check_front.Goals.{Else-len-eq-HEAD}
 
 -- the head that was read
-abbrev head-of : Else-len-eq-HEAD → Head
-head-of c = record { category = category_at c.in-Head.profile; len = c.in-Head.len }
+abbrev head_of_here : Else-len-eq-HEAD → Head
+head_of_here c = record { category = category_at c.in-Head.profile; len = c.in-Head.len }
 
-has-head : (c : Else-len-eq-HEAD) → head_by leb c.args.part.now ≡ ok (head-of c)
-has-head c = sym c.front_head-head.ensures ∙ ap head_of c.in-Head.is
+has_head : (c : Else-len-eq-HEAD) → head_by leb c.args.part.now ≡ ok (head_of_here c)
+has_head c = sym c.front_head-head.ensures ∙ ap head_of c.in-Head.is
 
 -- LEN is no more than is left, and has two octets
-len_is : (c : Else-len-eq-HEAD) → (head-of c).len ≤ length c.args.part.now
-len_is c = leb→le _ _ (headed leb c.args.part.now (head-of c) (has-head c)).fitted
+len_is : (c : Else-len-eq-HEAD) → (head_of_here c).len ≤ length c.args.part.now
+len_is c = leb→le _ _ (headed leb c.args.part.now (head_of_here c) (has_head c)).fitted
 
-few : (c : Else-len-eq-HEAD) → (head-of c).len < 65_536
+few : (c : Else-len-eq-HEAD) → (head_of_here c).len < 65_536
 few c =
-    len_few leb c.args.part.now (head-of c)
-    (octets_each c.args.part.now c.type_inv.part) (has-head c)
+    len_few leb c.args.part.now (head_of_here c)
+    (octets_each c.args.part.now c.type_inv.part) (has_head c)
 
-least : (c : Else-len-eq-HEAD) → 3 ≤ (head-of c).len
-least c = (headed leb c.args.part.now (head-of c) (has-head c)).least
+least : (c : Else-len-eq-HEAD) → 3 ≤ (head_of_here c).len
+least c = (headed leb c.args.part.now (head_of_here c) (has_head c)).least
 
 pub returns-in_default : goal.returns-in_default
 returns-in_default c =
@@ -57,10 +57,10 @@ check_records_by-checked-requires c =
 pub returns-in_default-checked : goal.returns-in_default-checked
 returns-in_default-checked c =
     ap₂ refused (c.number-in_default-checked.ensures ∙ ap checked_number c.in_default-checked.is) (c.place.ensures ∙ ap checked_place c.in_default-checked.is)
-    ∙ sym (front_stop _ (head-of (goal.at.returns-in_default-checked c).Else-len-eq-HEAD) _ _ (has-head (goal.at.returns-in_default-checked c).Else-len-eq-HEAD) c.if-len-eq-HEAD.false
+    ∙ sym (front_stop _ (head_of_here (goal.at.returns-in_default-checked c).Else-len-eq-HEAD) _ _ (has_head (goal.at.returns-in_default-checked c).Else-len-eq-HEAD) c.if-len-eq-HEAD.false
     (sym c.check_records_by-checked.ensures ∙ ap checked_of c.in_default-checked.is))
 
 pub returns : goal.returns
 returns c =
-    sym (front_all _ (head-of (goal.at.returns c).Else-len-eq-HEAD) _ (has-head (goal.at.returns c).Else-len-eq-HEAD) c.if-len-eq-HEAD.false
+    sym (front_all _ (head_of_here (goal.at.returns c).Else-len-eq-HEAD) _ (has_head (goal.at.returns c).Else-len-eq-HEAD) c.if-len-eq-HEAD.false
     (sym c.check_records_by-checked.ensures ∙ ap checked_of c.in-Accepted.is))

@@ -16,23 +16,23 @@ use Rattle.blocks.proofs.check.open_block.Goals as goal
 use Rattle.blocks.proofs.check.open_block.Goals.{After-check_records-checked, Else-len-least, In_default, Then-len-least}
 
 -- the head that was read
-abbrev head-of : Else-len-least → Head
-head-of c = record { category = category_at c.in-Head.profile; len = c.in-Head.len }
+abbrev head_of_here : Else-len-least → Head
+head_of_here c = record { category = category_at c.in-Head.profile; len = c.in-Head.len }
 
-has-head : (c : Else-len-least) → head_by eqb c.args.block.now ≡ ok (head-of c)
-has-head c = sym c.single_head-head.ensures ∙ ap head_of c.in-Head.is
+has_head : (c : Else-len-least) → head_by eqb c.args.block.now ≡ ok (head_of_here c)
+has_head c = sym c.single_head-head.ensures ∙ ap head_of c.in-Head.is
 
 -- LEN is the length lent, and so has two octets
-len_is : (c : Else-len-least) → (head-of c).len ≡ length c.args.block.now
-len_is c = eqb→eq _ _ (headed eqb c.args.block.now (head-of c) (has-head c)).fitted
+len_is : (c : Else-len-least) → (head_of_here c).len ≡ length c.args.block.now
+len_is c = eqb→eq _ _ (headed eqb c.args.block.now (head_of_here c) (has_head c)).fitted
 
-few : (c : Else-len-least) → (head-of c).len < 65_536
+few : (c : Else-len-least) → (head_of_here c).len < 65_536
 few c =
-    len_few eqb c.args.block.now (head-of c)
-    (octets_each c.args.block.now c.type_inv.block) (has-head c)
+    len_few eqb c.args.block.now (head_of_here c)
+    (octets_each c.args.block.now c.type_inv.block) (has_head c)
 
 least : (c : Else-len-least) → 3 ≤ length c.args.block.now
-least c = (headed eqb c.args.block.now (head-of c) (has-head c)).room
+least c = (headed eqb c.args.block.now (head_of_here c) (has_head c)).room
 
 -- no head
 no_head_lem : (c : In_default) → open_from c.args.least c.args.block.now ≡ refused c.in_default.field-0 0
@@ -72,4 +72,4 @@ returns-in_default-checked c = record { answer = opened_any _ _ _ _ _ c.in_defau
 
 -- all are accepted
 pub returns : goal.returns
-returns c = record { answer = found (goal.at.returns c).After-check_records-checked; profile = profile_opened _ _ _ _ _ (has-head (goal.at.returns c).Else-len-least) (sym (found (goal.at.returns c).After-check_records-checked) ∙ ap (opened_by c.in-Head.profile) c.in-Accepted.is) }
+returns c = record { answer = found (goal.at.returns c).After-check_records-checked; profile = profile_opened _ _ _ _ _ (has_head (goal.at.returns c).Else-len-least) (sym (found (goal.at.returns c).After-check_records-checked) ∙ ap (opened_by c.in-Head.profile) c.in-Accepted.is) }

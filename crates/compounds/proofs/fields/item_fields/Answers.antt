@@ -34,9 +34,9 @@ returns-in_default c =
     absurd (primary_passes c.args.l c.args.s.now c.args.parts c.requires.2 c.if-l-ne-COMPOUND.false _ _ (sym (ap primary_is c.in_default.is) ∙ c.primary_of.ensures))
 
 -- what its primary octets say
-primary-at : (c : In-Octets)
+primary_at : (c : In-Octets)
     → ok (c.in-Octets.bits, c.in-Octets.count) ≡ primary c.args.l.first (printed c.args.l) c.args.s.now
-primary-at c = sym (ap primary_is c.in-Octets.is) ∙ c.primary_of.ensures
+primary_at c = sym (ap primary_is c.in-Octets.is) ∙ c.primary_of.ensures
 
 octets_at_lem : (c : After-shared_slice_known-1) → Octets c.args.s.now
 octets_at_lem c = octets_known c.args.s.now (λ i. omega (arith, c.type_inv.s i))
@@ -48,16 +48,16 @@ pub overflow_mul-octets : goal.overflow_mul-octets
 overflow_mul-octets c = let r = row_at (goal.at.overflow_mul-octets c).Else-l-ne-COMPOUND in record { fits = omega (arith, r.few) }
 
 pub slice_bounds-subfields_fields-count : goal.slice_bounds-subfields_fields-count
-slice_bounds-subfields_fields-count c = primary_there c.args.l _ _ _ (primary-at (goal.at.slice_bounds-subfields_fields-count c).In-Octets)
+slice_bounds-subfields_fields-count c = primary_there c.args.l _ _ _ (primary_at (goal.at.slice_bounds-subfields_fields-count c).In-Octets)
 
 pub slice_bounds-subfields_fields-start : goal.slice_bounds-subfields_fields-start
-slice_bounds-subfields_fields-start c = primary_there c.args.l _ _ _ (primary-at (goal.at.slice_bounds-subfields_fields-start c).In-Octets)
+slice_bounds-subfields_fields-start c = primary_there c.args.l _ _ _ (primary_at (goal.at.slice_bounds-subfields_fields-start c).In-Octets)
 
 pub subfields_fields-requires : goal.subfields_fields-requires
 subfields_fields-requires c =
     let r = row_at (goal.at.subfields_fields-requires c).Else-l-ne-COMPOUND in
-    let p = primary-at (goal.at.subfields_fields-requires c).In-Octets in record { places_bound = (rows_in _ _ r.order r.inside, omega (arith, r.few), (small_said _ _ _ (primary_small _ _ _ (octets_at_lem (goal.at.subfields_fields-requires c).After-shared_slice_known-1)) (sym p)).0); places_bound_2 = r.room; passes = named_passes c.args.l c.args.s.now c.args.parts c.requires.2 c.if-l-ne-COMPOUND.false _ _ p }
+    let p = primary_at (goal.at.subfields_fields-requires c).In-Octets in record { places_bound = (rows_in _ _ r.order r.inside, omega (arith, r.few), (small_said _ _ _ (primary_small _ _ _ (octets_at_lem (goal.at.subfields_fields-requires c).After-shared_slice_known-1)) (sym p)).0); places_bound_2 = r.room; passes = named_passes c.args.l c.args.s.now c.args.parts c.requires.2 c.if-l-ne-COMPOUND.false _ _ p }
 
 pub returns : goal.returns
 returns c =
-    compound_kept c.args.l c.args.s.now c.args.parts c.requires.2 c.if-l-ne-COMPOUND.false _ _ (primary-at (goal.at.returns c).In-Octets) _ _ _ c.subfields_fields.ensures
+    compound_kept c.args.l c.args.s.now c.args.parts c.requires.2 c.if-l-ne-COMPOUND.false _ _ (primary_at (goal.at.returns c).In-Octets) _ _ _ c.subfields_fields.ensures

@@ -24,15 +24,15 @@ returns-then-not-there c = absent_kept c.args.place c.args.s.now c.args.start c.
 row_at : (c : After-layout_at-l) → c.layout_at-l.result ≡ layout_at (subfield_at c.args.place)
 row_at c = c.layout_at-l.ensures ∙ ap layout_at c.subfield_at-row.ensures.0
 
-sound-at : (c : After-layout_at-l) → row_sound c.layout_at-l.result ≡ true
-sound-at c = subst (λ (l : LayoutRow). row_sound l ≡ true) (sym (row_at c)) (layout_sound _ (subfield_row _))
+sound_at : (c : After-layout_at-l) → row_sound c.layout_at-l.result ≡ true
+sound_at c = subst (λ (l : LayoutRow). row_sound l ≡ true) (sym (row_at c)) (layout_sound _ (subfield_row _))
 
 pub whole_of-requires : goal.whole_of-requires
-whole_of-requires c = sound-at (goal.at.whole_of-requires c).After-layout_at-l
+whole_of-requires c = sound_at (goal.at.whole_of-requires c).After-layout_at-l
 
 pub parts_fields-requires : goal.parts_fields-requires
 parts_fields-requires c = (
-  sound-at (goal.at.parts_fields-requires c).After-layout_at-l,
+  sound_at (goal.at.parts_fields-requires c).After-layout_at-l,
   (_, sym c.whole_of.ensures ∙ ap shape_is c.in-Parts.is),
   subst (λ (l : LayoutRow). c.args.start + most_fields l ≤ 8_192) (sym (row_at (goal.at.parts_fields-requires c).After-layout_at-l)) c.requires.1,
 )

@@ -17,9 +17,9 @@ octets_at_lem : (c : After-shared_slice_known-1) → Octets c.args.s.now
 octets_at_lem c = octets_known c.args.s.now (λ i. omega (arith, c.type_inv.s i))
 
 -- what its primary octets say
-primary-at : (c : In-Octets)
+primary_at : (c : In-Octets)
     → ok (c.in-Octets.bits, c.in-Octets.count) ≡ primary c.args.l.first (printed c.args.l) c.args.s.now
-primary-at c = sym (ap primary_is c.in-Octets.is) ∙ c.primary_of.ensures
+primary_at c = sym (ap primary_is c.in-Octets.is) ∙ c.primary_of.ensures
 
 -- src/subfields.rt:67:38
 pub overflow_mul-first : goal.overflow_mul-first
@@ -27,25 +27,25 @@ overflow_mul-first c = record { fits = omega (arith, primaries_few, c.requires.0
 
 -- src/subfields.rt:67:67
 pub slice_bounds-subfields_of-count : goal.slice_bounds-subfields_of-count
-slice_bounds-subfields_of-count c = primary_there c.args.l _ _ _ (primary-at (goal.at.slice_bounds-subfields_of-count c).In-Octets)
+slice_bounds-subfields_of-count c = primary_there c.args.l _ _ _ (primary_at (goal.at.slice_bounds-subfields_of-count c).In-Octets)
 
 -- src/subfields.rt:67:67
 pub slice_bounds-subfields_of-start : goal.slice_bounds-subfields_of-start
-slice_bounds-subfields_of-start c = primary_there c.args.l _ _ _ (primary-at (goal.at.slice_bounds-subfields_of-start c).In-Octets)
+slice_bounds-subfields_of-start c = primary_there c.args.l _ _ _ (primary_at (goal.at.slice_bounds-subfields_of-start c).In-Octets)
 
 -- src/subfields.rt:67:17
 pub subfields_of-shape-requires : goal.subfields_of-shape-requires
 subfields_of-shape-requires c = (
   rows_in _ _ c.requires.0 c.requires.1,
   omega (arith, c.requires.2),
-  (small_said _ _ _ (primary_small _ _ _ (octets_at_lem (goal.at.subfields_of-shape-requires c).After-shared_slice_known-1)) (sym (primary-at (goal.at.subfields_of-shape-requires c).In-Octets))).0,
+  (small_said _ _ _ (primary_small _ _ _ (octets_at_lem (goal.at.subfields_of-shape-requires c).After-shared_slice_known-1)) (sym (primary_at (goal.at.subfields_of-shape-requires c).In-Octets))).0,
 )
 
 -- src/subfields.rt:69:17
 pub returns-in_default : goal.returns-in_default
 returns-in_default c =
     ap shape_is c.in_default.is
-    ∙ compound_stopped _ _ _ _ (primary-at (goal.at.returns-in_default c).In-Octets) _ _ (sym (ap shape_is c.in_default.is) ∙ c.subfields_of-shape.ensures)
+    ∙ compound_stopped _ _ _ _ (primary_at (goal.at.returns-in_default c).In-Octets) _ _ (sym (ap shape_is c.in_default.is) ∙ c.subfields_of-shape.ensures)
 
 -- and its subfields
 read_at : (c : In-Parts)

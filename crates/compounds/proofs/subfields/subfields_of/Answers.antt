@@ -11,8 +11,8 @@ use Rattle.compounds.proofs.SubfieldLaws.{subfields_few, Walking, walk_begun, wa
 use Rattle.compounds.proofs.subfields.subfields_of.Goals as goal
 use Rattle.compounds.proofs.subfields.subfields_of.Goals.{After-pow2-weight, In-Parts}
 
-weight-at : (c : After-pow2-weight) → c.pow2-weight.result ≡ 2 ^ (c.loop-more.more - 1)
-weight-at c = c.pow2-weight.ensures
+weight_at : (c : After-pow2-weight) → c.pow2-weight.result ≡ 2 ^ (c.loop-more.more - 1)
+weight_at c = c.pow2-weight.ensures
 
 -- a turn, where the subfield is read
 turned : (c : In-Parts)
@@ -51,7 +51,7 @@ place_of-shape-requires c = omega (arith, c.loop-more-test.true, c.loop-more.inv
 pub returns-in_default : goal.returns-in_default
 returns-in_default c =
     ap shape_is c.in_default.is
-    ∙ walk_refused _ _ _ _ _ _ _ _ c.loop-more.invariant c.loop-more-test.true (weight-at (goal.at.returns-in_default c).After-pow2-weight) _ _
+    ∙ walk_refused _ _ _ _ _ _ _ _ c.loop-more.invariant c.loop-more-test.true (weight_at (goal.at.returns-in_default c).After-pow2-weight) _ _
     (sym (ap shape_is c.in_default.is) ∙ c.place_of-shape.ensures)
 
 -- src/subfields.rt:50:16

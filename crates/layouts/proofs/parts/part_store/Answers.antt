@@ -13,25 +13,25 @@ use Rattle.layouts.proofs.parts.part_store.Goals as goal
 use Rattle.layouts.proofs.parts.part_store.Goals.{After-group_at-r}
 
 -- the group's row is sound
-sound-at : (c : After-group_at-r) → PartSound c.args.step c.group_at-r.result
-sound-at c =
+sound_at : (c : After-group_at-r) → PartSound c.args.step c.group_at-r.result
+sound_at c =
     subst (PartSound c.args.step) (sym c.group_at-r.ensures) (part_sound_lem c.args.step (group_at c.args.group) c.requires.step_bound.2)
 
 pub overflow_mul-w : goal.overflow_mul-w
-overflow_mul-w c = omega (arith, (sound-at (goal.at.overflow_mul-w c).After-group_at-r).short)
+overflow_mul-w c = omega (arith, (sound_at (goal.at.overflow_mul-w c).After-group_at-r).short)
 
 pub overflow_sub-w : goal.overflow_sub-w
-overflow_sub-w c = omega (arith, (sound-at (goal.at.overflow_sub-w c).After-group_at-r).some)
+overflow_sub-w c = omega (arith, (sound_at (goal.at.overflow_sub-w c).After-group_at-r).some)
 
 pub number_at-requires : goal.number_at-requires
 number_at-requires c =
-    (omega (arith, (sound-at (goal.at.number_at-requires c).After-group_at-r).short), subst (λ (r : GroupRow). c.args.at + r.octets ≤ length c.args.s.now) (sym c.group_at-r.ensures) c.requires.step_bound.3)
+    (omega (arith, (sound_at (goal.at.number_at-requires c).After-group_at-r).short), subst (λ (r : GroupRow). c.args.at + r.octets ≤ length c.args.s.now) (sym c.group_at-r.ensures) c.requires.step_bound.3)
 
 pub fields_store-requires : goal.fields_store-requires
 fields_store-requires c =
     let r = c.group_at-r in
-    let o = one_part c.args.step r.result c.number_at.result (sound-at (goal.at.fields_store-requires c).After-group_at-r) c.number_at.ensures.1 in
-    record { e_le_field_count = ((sound-at (goal.at.fields_store-requires c).After-group_at-r).inside, o.wide); w_bound = (omega (arith, o.few), o.small); e_bound = subst (λ (x : GroupRow). c.args.q + count (rows x.first x.end) ≤ 8_192) (sym r.ensures) c.requires.group_bound }
+    let o = one_part c.args.step r.result c.number_at.result (sound_at (goal.at.fields_store-requires c).After-group_at-r) c.number_at.ensures.1 in
+    record { e_le_field_count = ((sound_at (goal.at.fields_store-requires c).After-group_at-r).inside, o.wide); w_bound = (omega (arith, o.few), o.small); e_bound = subst (λ (x : GroupRow). c.args.q + count (rows x.first x.end) ≤ 8_192) (sym r.ensures) c.requires.group_bound }
 
 pub returns : goal.returns
 returns c =

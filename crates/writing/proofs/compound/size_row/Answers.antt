@@ -10,10 +10,10 @@ use Rattle.writing.proofs.compound.size_row.Goals as goal
 use Rattle.writing.proofs.compound.size_row.Goals.{In-Sized}
 
 -- the subfield was sized
-sized-at : (c : In-Sized)
+sized_at : (c : In-Sized)
     → ok (record { there = c.in-Sized.there; size = c.in-Sized.more; next = c.in-Sized.next })
     ≡ place_size (subfield_at c.loop-i.i) c.args.values.now c.loop-i.k
-sized-at c =
+sized_at c =
     sym (ap place_as c.in-Sized.is) ∙ c.size_place.ensures ∙ ap (λ x. place_size x c.args.values.now c.loop-i.k) c.subfield_at.ensures.0
 
 pub overflow_add-end : goal.overflow_add-end
@@ -38,7 +38,7 @@ pub mark-bits-requires : goal.mark-bits-requires
 mark-bits-requires c = mark_fits_lem _ _ _ _ _ _ _ _ c.loop-i.invariant c.loop-i-test.true c.in-Sized.there
 
 pub overflow_add-size : goal.overflow_add-size
-overflow_add-size c = omega (arith, sum_short _ _ _ _ _ _ _ _ c.loop-i.invariant c.loop-i-test.true (sized-at (goal.at.overflow_add-size c).In-Sized), c.loop-i.invariant.end_is, c.loop-i-test.true)
+overflow_add-size c = omega (arith, sum_short _ _ _ _ _ _ _ _ c.loop-i.invariant c.loop-i-test.true (sized_at (goal.at.overflow_add-size c).In-Sized), c.loop-i.invariant.end_is, c.loop-i-test.true)
 
 pub overflow_add-i : goal.overflow_add-i
 overflow_add-i c = omega (arith, sub_many, c.requires, c.loop-i.invariant.end_is, c.loop-i-test.true)
@@ -47,7 +47,7 @@ pub loop-i-smaller : goal.loop-i-smaller
 loop-i-smaller c = omega (arith, c.loop-i-test.true)
 
 pub loop-i-preserved : goal.loop-i-preserved
-loop-i-preserved c = sum_next _ _ _ _ _ _ _ _ c.loop-i.invariant c.loop-i-test.true (sized-at (goal.at.loop-i-preserved c).In-Sized) c.mark-bits.ensures
+loop-i-preserved c = sum_next _ _ _ _ _ _ _ _ c.loop-i.invariant c.loop-i-test.true (sized_at (goal.at.loop-i-preserved c).In-Sized) c.mark-bits.ensures
 
 -- all bits are summed
 pub returns : goal.returns

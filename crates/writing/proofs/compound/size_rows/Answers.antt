@@ -11,10 +11,10 @@ use Rattle.writing.proofs.compound.size_rows.Goals as goal
 use Rattle.writing.proofs.compound.size_rows.Goals.{In-Row}
 
 -- a primary octet was sized
-sized-at : (c : In-Row)
+sized_at : (c : In-Row)
     → ok (record { bits = c.in-Row.bits; size = c.in-Row.more; next = c.in-Row.next })
     ≡ row_size (7 * (c.layout_at-l.result.first + c.loop-row.row)) c.args.values.now c.loop-row.at
-sized-at c = sym (ap row_as c.in-Row.is) ∙ c.size_row.ensures
+sized_at c = sym (ap row_as c.in-Row.is) ∙ c.size_row.ensures
 
 pub overflow_sub-rows : goal.overflow_sub-rows
 overflow_sub-rows c = compound_order _ c.layout_at-l.ensures c.requires.1
@@ -40,13 +40,13 @@ overflow_add-row c = omega (arith, adding_in _ _ _ _ _ _ _ _ c.loop-row.invarian
 
 pub overflow_add-size : goal.overflow_add-size
 overflow_add-size c =
-    omega (arith, add_short _ _ _ _ _ _ _ _ c.loop-row.invariant c.loop-row-test.true (sized-at (goal.at.overflow_add-size c).In-Row), adding_in _ _ _ _ _ _ _ _ c.loop-row.invariant c.requires.1 c.loop-row-test.true, sub_many)
+    omega (arith, add_short _ _ _ _ _ _ _ _ c.loop-row.invariant c.loop-row-test.true (sized_at (goal.at.overflow_add-size c).In-Row), adding_in _ _ _ _ _ _ _ _ c.loop-row.invariant c.requires.1 c.loop-row-test.true, sub_many)
 
 pub loop-row-smaller : goal.loop-row-smaller
 loop-row-smaller c = omega (arith, c.loop-row-test.true)
 
 pub loop-row-preserved : goal.loop-row-preserved
-loop-row-preserved c = add_next _ _ _ _ _ _ _ _ c.loop-row.invariant c.loop-row-test.true (sized-at (goal.at.loop-row-preserved c).In-Row) c.rows_to-count.ensures
+loop-row-preserved c = add_next _ _ _ _ _ _ _ _ c.loop-row.invariant c.loop-row-test.true (sized_at (goal.at.loop-row-preserved c).In-Row) c.rows_to-count.ensures
 
 -- a number is left
 pub returns-then-at-values : goal.returns-then-at-values
