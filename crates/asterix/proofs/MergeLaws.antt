@@ -1,7 +1,7 @@
 -- The structs that the code makes of a step of two logs, of a run's beginning and of its next records are those of the rule's. Assumes nothing.
 use Prim.Native.Nat.{ℕ}
-use mathlib.Core.Path.{◌≡◌, refl, sym, ap, ap₂, ◌∙◌, subst}
-use mathlib.Core.Bool.{Bool, true, false}
+use mathlib.Core.Path.{◌≡◌, sym, ap, ap₂, ◌∙◌}
+use mathlib.Core.Bool.{true, false}
 use mathlib.Core.List.{List}
 use Rattle.rules.specs.Answer.{if◌then◌else◌}
 use Rattle.rules.specs.Entry.{over}
@@ -16,8 +16,7 @@ use Rattle.merging.specs.declared.run.Begun.TheVariants as begun
 use Rattle.merging.specs.declared.many.Ran.{Ran}
 use Rattle.merging.specs.declared.step.Merged.{Merged}
 use Rattle.merging.specs.Step.{merged_of}
-use Rattle.merging.specs.Many.{Many, many_of, ran_of}
-use Rattle.asterix.specs.declared.MergeStepped.{MergeStepped}
+use Rattle.merging.specs.Many.{many_of, ran_of}
 use Rattle.asterix.specs.declared.MergeHead.{MergeHead}
 use Rattle.asterix.specs.declared.Merge.{Merge}
 use Rattle.asterix.specs.declared.MergeBegun.{MergeBegun}

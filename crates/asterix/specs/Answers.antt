@@ -2,7 +2,7 @@
 -- there is none; every other member is 0 on refusal, but for a walk's `next` and a step's places. `proofs/NumberLaws` has that no refusal's number is 0. Assumes nothing.
 --
 -- In order: checking; finding; walking a log; two logs on one line; one item; adding a record.
-use Rattle.std.specs.Prelude.{ℕ, ◌-◌, Bool, true, false, not, List, eqb, ℤ, length, replicate}
+use Rattle.std.specs.Prelude.{ℕ, ◌-◌, not, List, eqb, ℤ, length, replicate}
 use Rattle.rules.specs.Answer.{Answer, ok, refused, if◌then◌else◌}
 use Rattle.rules.specs.Entry.{map_places, Counts, RecordMap, Laid, Added, added, refused_old, refused_new}
 use Rattle.walking.specs.declared.Cursor as walking-cursor

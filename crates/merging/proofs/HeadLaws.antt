@@ -2,7 +2,7 @@
 --
 -- In order: where a walk stands; whether there is a record; the record that a walk comes to; all that come; the records from a standing on.
 use Prim.Native.Nat.{ℕ, zero, suc, ◌+◌, ◌-◌, ◌<◌, ◌≤◌}
-use mathlib.Core.Path.{◌≡◌, refl, sym, ap, ap₂, ◌∙◌, subst}
+use mathlib.Core.Path.{◌≡◌, refl, sym, ap, ◌∙◌, subst}
 use mathlib.Core.Bool.{Bool, true, false, ◌&&◌, true≢false}
 use mathlib.Core.Option.{Option, none, some}
 use mathlib.Core.List.{List, [], ◌∷◌}
@@ -12,7 +12,6 @@ use lib.ListN.{length}
 use borrow.Author.Tests.{eq-eqb, ne_eqb, eqb-true, eqb-false, le-leb, lt-leb, leb-true, lt-ltb, le-ltb, ltb-true, ltb-false}
 use Rattle.rules.specs.Answer.{Answer, ok, refused, if◌then◌else◌}
 use Rattle.rules.specs.Catalogue.{categories}
-use Rattle.rules.specs.Merge.{Head}
 use Rattle.rules.proofs.AnswerLaws.{both_left, both_right, Octets}
 use Rattle.measuring.specs.declared.record.Measured.{Measured}
 use Rattle.measuring.specs.Measure.{end_of, time_in, sized, measure_by, measure_in, measure_of}
@@ -21,9 +20,9 @@ use Rattle.sets.specs.Sets.{set_at}
 use Rattle.walking.specs.declared.Cursor.{Cursor}
 use Rattle.walking.specs.Walk.{part, open_at, block_at}
 use Rattle.walking.specs.Walk as walk
-use Rattle.walking.proofs.StepLaws.{length_part, Opens, opens, opens_stands}
+use Rattle.walking.proofs.StepLaws.{length_part, opens, opens_stands}
 use Rattle.merging.specs.declared.heads.Standing.{Standing}
-use Rattle.merging.specs.Heads.{in_log, end_cursor, end_at, found_in, cursor_at, stood_by, stood_at, stand_of, is_head, behind_of, time_by, head_of, heads_up_to, heads_left, left_of, Stands}
+use Rattle.merging.specs.Heads.{in_log, end_cursor, end_at, found_in, cursor_at, stood_by, stood_at, stand_of, is_head, behind_of, head_of, heads_up_to, heads_left, left_of, Stands}
 
 -- ---- where a walk stands
 

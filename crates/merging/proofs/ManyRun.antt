@@ -1,6 +1,6 @@
 -- What comes out many at once is the rule's run: the same records in the same order, in however many calls. Assumes nothing.
 use Prim.Native.Nat.{ℕ, zero, suc, ◌+◌}
-use mathlib.Core.Path.{◌≡◌, refl, sym, ap, ap₂, ◌∙◌}
+use mathlib.Core.Path.{◌≡◌, refl, sym, ap, ◌∙◌}
 use mathlib.Core.List.{List, [], ◌∷◌, ◌++◌}
 use native.Mathlib.Nat.{zero-add, suc-add}
 use lib.ListN.{length}
@@ -14,10 +14,9 @@ use Rattle.merging.specs.declared.run.Log.TheVariants as log
 use Rattle.merging.specs.declared.run.Told.{Told}
 use Rattle.merging.specs.declared.run.Told.TheVariants as told
 use Rattle.merging.specs.declared.run.Merge.{Merge}
-use Rattle.merging.specs.declared.run.Moved.{Moved}
 use Rattle.merging.specs.declared.run.Begun.TheVariants as begun
-use Rattle.merging.specs.Run.{move_of, begin_of, when_moved, moves, moves_of}
-use Rattle.merging.specs.Many.{log_number, numbers_of, Many, nothing, and_then, many_of}
+use Rattle.merging.specs.Run.{move_of, begin_of, moves, moves_of}
+use Rattle.merging.specs.Many.{numbers_of, many_of}
 use Rattle.merging.proofs.RunLaws.{run_is}
 
 -- ---- the records that numbers tell, six to each: log, length, and the cursor's block, place, end and category

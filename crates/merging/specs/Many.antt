@@ -1,14 +1,13 @@
 -- So many steps of the run at once: six numbers of each record that comes out, and the state after them. Assumes nothing.
-use Rattle.std.specs.Prelude.{ℕ, zero, suc, ◌+◌, List, [], ◌∷◌, ◌++◌, eqb, ltb}
+use Rattle.std.specs.Prelude.{ℕ, zero, suc, List, [], ◌∷◌, ◌++◌, eqb, ltb}
 use Rattle.std.proofs.Math.Option.{Option, none, some}
 use Rattle.rules.specs.Answer.{if◌then◌else◌}
-use Rattle.rules.specs.Merge.{Log, log_a, log_b, Span}
+use Rattle.rules.specs.Merge.{Log, log_a, log_b}
 use Rattle.walking.specs.declared.Cursor.{Cursor}
 use Rattle.merging.specs.declared.run.Log.TheVariants as log
 use Rattle.merging.specs.declared.run.Told.{Told}
 use Rattle.merging.specs.declared.run.Told.TheVariants as told
 use Rattle.merging.specs.declared.run.Merge.{Merge}
-use Rattle.merging.specs.declared.run.Moved.{Moved}
 use Rattle.merging.specs.declared.many.Ran.{Ran}
 use Rattle.merging.specs.Run.{move_of}
 

@@ -1,5 +1,4 @@
 -- `add::lay_octets` meets its contract. The loop's invariant: so many octets are laid. The measure is how many are left. Assumes nothing.
-use Prim.Native.Nat.{◌-◌}
 use mathlib.Core.Path.{refl}
 use native.Mathlib.Omega.{arith}
 use Rattle.adding.proofs.AddLaws.{lay_start, lay_length, lay_again, lay_end}

@@ -1,5 +1,4 @@
 -- What the loop keeps, and how much is left.
-use Prim.Native.Nat.{◌-◌}
 use lib.ListN.{length}
 use Rattle.sets.specs.Sets.{category_at}
 use Rattle.finding.proofs.SeekLaws.{Seeking}

@@ -1,6 +1,5 @@
 -- `many::run_on` meets its contract. The loop's invariant: what is stored and what is still to come make the whole; the measure is the room that is left.
 -- Assumes nothing.
-use Prim.Native.Nat.{◌-◌}
 use mathlib.Core.Path.{refl}
 use native.Mathlib.Omega.{arith}
 use Rattle.blocks.proofs.LoopLaws.{octets_each}
