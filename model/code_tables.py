@@ -208,7 +208,7 @@ def number_spec(name, number):
 
 
 def profile_counts():
-    return number_spec("profileCount", len(PROFILES)) + [""] + number_spec("frnCount", FRNS)
+    return number_spec("profile_count", len(PROFILES)) + [""] + number_spec("frn_count", FRNS)
 
 
 # ---- crates/sets/src/messages.rt: a message type is found by its profile and its number
@@ -224,10 +224,18 @@ def messages():
     return [" " * 8 + line for line in out]
 
 
+def answers(unfolding, proof, arms):
+    """The answers of a proof to a goal for each arm of a match: they are alike, and the tool asks for one by one. Each arm is its goal's name and its hypothesis's."""
+    out = []
+    for goal, arm in arms:
+        out += ["pub %s : goal.%s" % (goal, goal), "unfolding " + unfolding, "%s c = %s" % (goal, proof.replace("ARM", arm)), ""]
+    return out[:-1]
+
+
 def message_arms():
-    """The proof has the same line for each arm of the match, and the tool asks for one by one."""
-    line = "    (λ c. row-key _ _ (c .before .before .fits .kind .fits) (c .match .keys%d))"
-    return [line % arm for arm in range(1, 1 + sum(len(category.messages) for category in PROFILES))]
+    numbers = [256 * profile + message.number for profile, category in enumerate(PROFILES) for message in category.messages]
+    return answers("row_at message_of if◌then◌else◌ ◌>>=◌ category_at categories bits_of number", "row_key _ _ c.ranges.kind.fits c.ARM.is",
+                   [("returns-in-%d" % number, "in-%d" % number) for number in numbers])
 
 
 # ---- crates/lengths
@@ -270,8 +278,10 @@ def sums_arms():
             for profile, place, _ in fspec_octets()]
 
 
-def sums_lines():
-    """The proof has the same lines for each arm of the match, and the tool asks for one by one: that the
-    table passes the test, and then that the answer is the callee's."""
-    arms = [1 + arm for arm, _ in enumerate(fspec_octets())]
-    return ["    (λ c κs. exact-at _ (c .match .keys%d) refl)" % arm for arm in arms] + ["    (λ c. search needs)" for _ in arms]
+def sums_answers():
+    """That the table of each arm passes the test, and then that the answer is the callee's. The first arm's goal of the former has no number."""
+    numbers = [16 * profile + place for profile, place, _ in fspec_octets()]
+    unfolding = "tested least_length flags categories"
+    tests = [("sum_in-requires" + ("-in-%d" % number) * (n > 0), "in-%d" % number) for n, number in enumerate(numbers)]
+    return answers(unfolding, "exact_at _ c.ARM.is refl", tests) + [""] + answers(
+        unfolding, "search rules", [("returns-in-%d" % number, "") for number in numbers])

@@ -104,7 +104,7 @@ def subfield(term):
     if term == "none":
         return None
     form, *rest = term
-    return {"sub": fixed, "subList": lambda *parts: listed(0, 255, *parts)}[form](*rest)
+    return {"sub": fixed, "sub_list": lambda *parts: listed(0, 255, *parts)}[form](*rest)
 
 
 def layout(term, groups):

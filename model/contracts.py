@@ -5,11 +5,12 @@
 A function is callable from another crate where it is `pub` in a crate's lib.rt, is exported there by
 `pub use`, or is a `pub` method of a type that is. For each, the table has which definitions of the
 crates' specs its statement cites, whether it asks something of its caller, and the theorem that no
-two results meet its statement, or on what ground there is none.
+two results meet its statement, or on what ground there is none. The exports to C have no rows of their
+own: each is held to state, word for word, what the function of its name in the crate `asterix` states.
 
 Held, each difference being a line and the exit status 1: no function without a row, no row without a
 function; each function states its result, and of each buffer lent to be written to what it then
-holds; a theorem is named `one-` and the function's name, stands in a file of the crate's proofs
+holds; a theorem is named `one_` and the function's name, stands in a file of the crate's proofs
 whose name ends in Unique, has as hypotheses, twice, the very words of the function's statement, and
 beside them only what types give (a bound by a power of two) or the function asks, and ends in that
 the results, and what is left in lent buffers, are the same; a function without one has its ground in
@@ -23,6 +24,9 @@ import sys
 ROOT = pathlib.Path(__file__).resolve().parents[1]
 PAGE = ROOT / "docs" / "CONTRACTS.md"
 HEAD = "| Crate | Function | Its statement cites | Asks | One result |\n|--|--|--|--|--|\n"
+
+# The crate whose functions are exported to C, and the one that has them under the same names with the same statements. Those have the rows.
+EXPORTS, EXPORTED = "asterix_c", "asterix"
 
 differences = []
 
@@ -64,7 +68,7 @@ class Function:
         self.result = ""
         self.requires, self.ensures = [], []
         while True:
-            word = re.compile(r"\s*(->\s*[^{;]*?(?=\s+(?:requires|ensures)\b|\s*\{)|requires|ensures)").match(text, at)
+            word = re.compile(r"\s*(->\s*[^{;]*?(?=\s+(?:requires|ensures)\b|\s*\{)|(requires|ensures)(?:\s+\w+)?(?=\s*\{))").match(text, at)
             if not word:
                 break
             if word.group(1).startswith("->"):
@@ -72,9 +76,7 @@ class Function:
                 at = word.end()
                 continue
             body, at = clause(text, word.end())
-            stated = re.fullmatch(r"\s*(?:λ\s*(\S+)\.)?\s*⌜(.*)⌝\s*", body, re.S)
-            said = (stated.group(1), " ".join(stated.group(2).split()))
-            (self.requires if word.group(1) == "requires" else self.ensures).append(said)
+            (self.requires if word.group(2) == "requires" else self.ensures).append(" ".join(body.split()))
 
     @property
     def title(self):
@@ -83,27 +85,23 @@ class Function:
     @property
     def theorems(self):
         """What its theorem may be called: by its name, or by its type's and its own where two of a crate share a name."""
-        bare = re.sub(r"^asterix_", "", self.name).replace("_", "-")
+        bare = re.sub(r"^asterix_", "", self.name)
         if not self.owner:
-            return ["one-" + bare]
-        return ["one-" + bare, "one-%s-%s" % (re.sub(r"(?<=.)([A-Z])", r"-\1", self.owner).lower(), bare)]
+            return ["one_" + bare]
+        return ["one_" + bare, "one_%s_%s" % (re.sub(r"(?<=.)([A-Z])", r"_\1", self.owner).lower(), bare)]
 
-    def hypothesis(self, result, said, which):
+    def hypothesis(self, said, which):
         """A clause in a theorem's words, of the result a and what is left, or of b and what is right."""
         for name, kind in self.parameters.items():
-            lent = kind.startswith("&")
-            if not lent:
-                continue
-            name = "«%s»" % name if "_" in name else name
-            if re.search(r"(?<!now )\(%s \.entry\)" % name, said):
-                said = said.replace("now (%s .entry)" % name, "%s .now" % name).replace("(%s .entry)" % name, name)
-            else:
-                said = said.replace("(now (%s .entry))" % name, name).replace("now (%s .entry)" % name, name)
-            said = said.replace("(now (%s .exit))" % name, "left" if which == "a" else "right")
-            said = said.replace("now (%s .exit)" % name, "left" if which == "a" else "right")
-        if result and result != "_":
-            said = re.sub(r"(?<![^\s(])%s(?=[\s)]|$)" % re.escape(result), which, said)
-        return said
+            if kind.startswith("&"):
+                # a clause that speaks of the reference itself has what it holds beside it
+                said = re.sub(r"(?<![\w.])%s\.(?:%s)\b" % (name, "entry" if name + ".entry" in said else "now|old"), name, said)
+                said = re.sub(r"(?<![\w.])%s\.new\b" % name, "left" if which == "a" else "right", said)
+        return re.sub(r"(?<![\w.])result\b", which, said)
+
+
+def same_statement(one, other):
+    return all(getattr(one, part) == getattr(other, part) for part in ("name", "parameters", "result", "requires", "ensures"))
 
 
 def bare(text):
@@ -113,11 +111,11 @@ def bare(text):
 def functions_in(crate, text, exported, everything):
     found = []
     impls = []
-    known = {name for names in re.findall(r"(?m)^ghost use Rattle·\S+\.\{(.*)\};", text) for name in names.split(", ")}
+    known = {name for names in re.findall(r"(?m)^ghost use Rattle\.(?!std\.)\S+\.\{(.*)\};", text) for name in names.split(", ")}
     for block in re.finditer(r"(?m)^impl (\w+) ", text):
         _, end = clause(text, block.end())
         impls.append((block.start(), end, block.group(1)))
-    for word in re.finditer(r"(?m)^[ \t]*pub (?:extern \"C\" )?fn (\w+)", text):
+    for word in re.finditer(r"(?m)^[ \t]*pub (?:extern \"C\" )?fn (\w+)(?:<[^>]*>)?", text):
         owner = next((name for first, last, name in impls if first < word.start() < last), None)
         if everything or (owner or word.group(1)) in exported:
             found.append(Function(crate, owner, word.group(1), known, text, word.end()))
@@ -127,12 +125,12 @@ def functions_in(crate, text, exported, everything):
 def callable_functions():
     found = []
     for line in (ROOT / "crates.txt").read_text().splitlines():
-        crate = line.split("#")[0].split(":")[0].strip()
+        crate = line.split("#")[0].split(":")[0].partition(" ")[0].strip()
         root = ROOT / "crates" / crate / "src" / "lib.rt"
         if not crate or not root.exists():
             continue
         text = bare(root.read_text())
-        exported = set(re.findall(r"(?m)^pub use (?:\w+::)*(\w+);", text))
+        exported = {name for names in re.findall(r"(?m)^pub use (?:\w+::)*(\w+|\{[^}]*\});", text) for name in re.findall(r"\w+", names)}
         found += functions_in(crate, text, exported, True)
         for other in sorted(root.parent.glob("*.rt")):
             if other != root:
@@ -147,7 +145,7 @@ def theorems(crate):
     found = {}
     for proof in (ROOT / "crates" / crate / "proofs").glob("*Unique.antt"):
         text = re.sub(r"--[^\n]*", "", proof.read_text(encoding="utf-8"))
-        for name, statement in re.findall(r"(?m)^pub (one-\S+) :(.*?)\n(?=\S)", text + "\n", re.S):
+        for name, statement in re.findall(r"(?m)^pub (one_\S+) :(.*?)\n(?=\S)", text + "\n", re.S):
             found[name] = " ".join(statement.split())
     return found
 
@@ -171,23 +169,23 @@ def check(function, statements, plain):
     if not function.ensures:
         differ("%s states nothing" % where)
     for name, kind in function.parameters.items():
-        if kind.startswith("&mut") and not any("(%s .exit)" % name in said for _, said in function.ensures):
+        if kind.startswith("&mut") and not any(re.search(r"(?<![\w.])%s\.new\b" % name, said) for said in function.ensures):
             differ("%s does not state what %s then holds" % (where, name))
     name = next((n for n in reversed(function.theorems) if n in statements and not (function.owner and n in plain)), None)
     if name is None:
         return None
     there, last = parts(statements[name])
-    wanted = [function.hypothesis(result, said, which) for result, said in function.ensures for which in ("a", "b")]
+    wanted = [function.hypothesis(said, which) for said in function.ensures for which in ("a", "b")]
     for said in wanted:
         if said not in there:
             differ("%s: %s does not have the hypothesis %s" % (where, name, said))
-    given = [function.hypothesis(result, said, "a") for result, said in function.requires]
+    given = [function.hypothesis(said, "a") for said in function.requires]
     for said in there:
-        if said not in wanted and said not in given and not re.fullmatch(r"\S+(?: \.\S+)? < 2 \^ \d+", said):
+        if said not in wanted and said not in given and not re.fullmatch(r"\S+ < 2 \^ \d+", said):
             differ("%s: %s has the hypothesis %s, which is not the function's" % (where, name, said))
     same = []
     if function.result.startswith("&"):
-        same += ["(a .ptr ≡ b .ptr)", "(a .now ≡ b .now)"]
+        same += ["(a.ref_ptr ≡ b.ref_ptr)", "(a.now ≡ b.now)"]
     elif function.result:
         same += ["a ≡ b"]
     if any(kind.startswith("&mut") for kind in function.parameters.values()):
@@ -219,26 +217,35 @@ def main(arguments):
     used = {}
     functions = callable_functions()
     for function in functions:
+        if function.crate == EXPORTS:
+            continue
         statements = theorems(function.crate)
         plain = {f.theorems[0] for f in functions if f.crate == function.crate and not f.owner}
         key = (function.crate, function.title)
         name = check(function, statements, plain)
         used.setdefault(function.crate, set()).add(name)
         cited = []
-        for _, said in function.ensures:
+        for said in function.ensures:
             for word in re.findall(r"[^\s(){},;.]+", said):
                 if word in function.known and word not in function.parameters and word not in cited:
                     cited.append(word)
-        says = ", ".join("`%s`" % word for word in cited) or "; ".join("`%s`" % said for _, said in function.ensures)
+        says = ", ".join("`%s`" % word for word in cited) or "; ".join("`%s`" % said for said in function.ensures)
         ground = there.get(key, ("", "", ""))[2]
         if name:
             once = "`%s`" % name
-        elif ground and not ground.startswith("`one-"):
+        elif ground and not ground.startswith("`one_"):
             once = ground
         else:
             once = ""
             differ("%s::%s: no theorem %s, and no ground in docs/CONTRACTS.md" % (*key, " or ".join(function.theorems)))
         made[key] = (says, "yes" if function.requires else "", once)
+    exported = {function.name: function for function in functions if function.crate == EXPORTS}
+    own = {function.name: function for function in functions if function.crate == EXPORTED}
+    for name in sorted(exported.keys() ^ own.keys()):
+        differ("%s: it is in one of %s and %s alone" % (name, EXPORTED, EXPORTS))
+    for name in sorted(exported.keys() & own.keys()):
+        if not same_statement(exported[name], own[name]):
+            differ("%s::%s does not state what %s::%s states" % (EXPORTS, name, EXPORTED, name))
     for crate in used:
         for name in theorems(crate):
             if name not in used[crate]:
@@ -257,8 +264,8 @@ def main(arguments):
                 differ("docs/CONTRACTS.md has no row for %s::%s" % key)
             elif there[key] != cells:
                 differ("docs/CONTRACTS.md on %s::%s: it has %s, the code %s" % (*key, there[key], cells))
-    print("contracts: %d callable functions, %d with a theorem of one result, %d differences" % (
-        len(made), sum(cells[2].startswith("`one-") for cells in made.values()), len(differences)))
+    print("contracts: %d callable functions, %d with a theorem of one result; %d exported to C; %d differences" % (
+        len(made), sum(cells[2].startswith("`one_") for cells in made.values()), len(exported), len(differences)))
     return 1 if differences else 0
 
 

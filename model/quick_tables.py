@@ -164,7 +164,7 @@ def type_rows():
         cited = rows.cited(rows.places_of(profile)[rows.type_frn(profile) - 1]).rstrip()
         for number in range(KINDS):
             row, message = row_of.get((profile, number), (0, None))
-            yield "    %d," % row + (" // %s  %s  %s" % (cited, rows.kind(category, number), rows.message_name(message)) if row else "")
+            yield row, "%s  %s  %s" % (cited, rows.kind(category, number), rows.message_name(message)) if row else ""
 
 
 def first_octets():
@@ -175,14 +175,14 @@ def first_octets():
             there = [frn for frn in FIRST_ITEMS if presence >> FIRST_ITEMS[-1] - frn & 1]
             some = [sizes[frn] for frn in [1, 2, 3] + there]
             octets = sum(some) if all(some) and has_front(profile) else 0
-            yield "    %d, // category %03d, FRN %s" % (octets, category.number, ", ".join(["1 to 3"] + list(map(str, there))))
+            yield octets, "category %03d, FRN %s" % (category.number, ", ".join(["1 to 3"] + list(map(str, there))))
 
 
 def type_places():
     """By profile, where among the octets of FRN 1 to 3 the message type stands; 0 where they are not told."""
     for profile, category in enumerate(PROFILES):
         cited = rows.cited(rows.places_of(profile)[rows.type_frn(profile) - 1]).rstrip()
-        yield "    %d, // %s  among FRN 1 to 3" % (type_at(profile), cited) if has_front(profile) else "    0, // category %03d, not told" % category.number
+        yield (type_at(profile), "%s  among FRN 1 to 3" % cited) if has_front(profile) else (0, "category %03d, not told" % category.number)
 
 
 def lent_sizes():
@@ -190,11 +190,23 @@ def lent_sizes():
 
 
 def lent_sizes_spec():
-    return number_spec("kindCount", KINDS) + [""] + number_spec("rowCount", ROWS)
+    return number_spec("kind_count", KINDS) + [""] + number_spec("row_count", ROWS)
+
+
+def filled(table):
+    """Rows, each a short number and what stands beside it or nothing, as `rt fmt` has them: up to 100 columns to a line, which what stands beside a number ends."""
+    out, line = [], "   "
+    for number, says in table:
+        if len("%s %d," % (line, number)) > 100:
+            out, line = out + [line], "   "
+        line = "%s %d," % (line, number)
+        if says:
+            out, line = out + ["%s // %s" % (line, says)], "   "
+    return out + [line] * bool(line.strip())
 
 
 def types():
-    return ["const TYPES: Types = ["] + list(type_rows()) + list(first_octets()) + list(type_places()) + ["];"]
+    return ["const TYPES: Types = ["] + filled([*type_rows(), *first_octets(), *type_places()]) + ["];"]
 
 
 def set_rows(profile):

@@ -8,6 +8,7 @@ use Rattle.lengths.specs.Least.{tested}
 use Rattle.lengths.proofs.LeastLaws.{exact_at, unknown}
 use Rattle.lengths.proofs.sums.sum_at.Goals as goal
 
+-- ---- made by model/make.py: two answers to an arm
 pub sum_in-requires : goal.sum_in-requires
 unfolding tested least_length flags categories
 sum_in-requires c = exact_at _ c.in-0.is refl
@@ -103,6 +104,8 @@ returns-in-34 c = search rules
 pub returns-in-35 : goal.returns-in-35
 unfolding tested least_length flags categories
 returns-in-35 c = search rules
+
+-- ---- end of what is made
 
 pub returns-in_default : goal.returns-in_default
 unfolding tested least_length flags categories

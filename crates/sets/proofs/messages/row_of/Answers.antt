@@ -12,6 +12,7 @@ use Rattle.sets.proofs.messages.row_of.Goals as goal
 pub returns-then-profile-ge-PROFILES : goal.returns-then-profile-ge-PROFILES
 returns-then-profile-ge-PROFILES c = row_none_lem _ _ c.if-profile-ge-PROFILES.true
 
+-- ---- made by model/make.py: an answer to an arm
 pub returns-in-0 : goal.returns-in-0
 unfolding row_at message_of if◌then◌else◌ ◌>>=◌ category_at categories bits_of number
 returns-in-0 c = row_key _ _ c.ranges.kind.fits c.in-0.is
@@ -211,6 +212,8 @@ returns-in-552 c = row_key _ _ c.ranges.kind.fits c.in-552.is
 pub returns-in-559 : goal.returns-in-559
 unfolding row_at message_of if◌then◌else◌ ◌>>=◌ category_at categories bits_of number
 returns-in-559 c = row_key _ _ c.ranges.kind.fits c.in-559.is
+
+-- ---- end of what is made
 
 pub returns-in_default : goal.returns-in_default
 unfolding row_at message_of if◌then◌else◌ ◌>>=◌ category_at categories bits_of number
