@@ -1,7 +1,7 @@
 #!/bin/sh
 # Times two builds of the library in one program, in turn over the same inputs: bench/pair.sh BEFORE.a [AFTER.a [ROUNDS]]
 #
-# Each is what `rt staticlib asterix` wrote; by default AFTER.a is that of this checkout. Both are made shared libraries, so that each keeps its own names.
+# Each is what tools/library.sh put in target/staticlib; by default AFTER.a is that of this checkout. Both are made shared libraries, so that each keeps its own names.
 set -eu
 before=$(realpath "$1")
 after=$(realpath "${2:-$(dirname "$0")/../target/staticlib/libasterix.a}")

@@ -5,7 +5,7 @@
  * and message type of the three. The functions are those of the crate `asterix`, proved to answer as its contracts
  * say for any bytes; this file says the same in words.
  *
- *     rt staticlib asterix                                     writes target/staticlib/libasterix.a
+ *     tools/library.sh                                         writes target/staticlib/libasterix.a
  *     cc -Iinclude program.c target/staticlib/libasterix.a     x86-64 Linux; C99, C11 or C++
  *
  * In order: what holds of every call; refusals; checking; finding; walking a log; merging two logs; one item; adding

@@ -1,7 +1,7 @@
 """./asterix as a person or a script runs it, for tests/programs.sh: python3 tests/command.py
 
 It is tried in a copy of the repository's folder that has one source, with a stand-in for `rt`, which proves nothing: it notes what it was asked, says a
-line for each of two crates, and puts the programs there that stand in target/.
+line for each of two crates, and puts into a crate's out/ what is built in this folder.
 
 In order: the copy; words; recordings; questions; building; a terminal.
 """
@@ -25,41 +25,43 @@ trials = 0
 
 STANDIN = """#!/bin/sh
 echo "$*" >>"$STANDIN/asked"
-case "$*" in
-"check asterix_check") program=asterix_check to=target/bin ;;
-"staticlib asterix") program=libasterix.a to=target/staticlib ;;
+case "$* ${PWD##*/}" in
+"run asterix_check") made=asterix_check ;;
+"lib asterix_c") made=libasterix_c.a ;;
 *) exit 2 ;;
 esac
-echo "rt: rules proved (unchanged since it was last proved)"
-[ ! -e "$STANDIN/fails" ] || { echo "rt: blocks NOT PROVED"; exit 1; }
+echo "rt: rules: begins with what a check kept"
+echo "rt: chose --jobs 2 for blocks" >&2
+[ ! -e "$STANDIN/fails" ] || { echo "fn blocks::one: open goal"; exit 1; }
 echo "fn blocks::one: proved"
-echo "rt: blocks proved (3 s)"
-mkdir -p $to && cp "$STANDIN/$program" $to/
+mkdir -p out && cp "$STANDIN/$made" out/
 """
 
 # What ./asterix, tests/x86_64.sh and the stand-in run of the system's own.
-TOOLS = ["bash", "cp", "dirname", "find", "mkdir", "mv", "readlink", "tail", "tee", "touch", "uname"]
+TOOLS = ["bash", "cmp", "cp", "dirname", "find", "mkdir", "mv", "readlink", "sh", "tail", "tee", "touch"]
 
 made = tempfile.TemporaryDirectory()
 top = pathlib.Path(made.name)
 copy, work, standin, tools = top / "copy", top / "work", top / "standin", top / "tools"
-for folder in [copy / "tests" / "c", copy / "crates" / "one", work, standin, tools, top / "kit" / "bin"]:
+for folder in ["tests/c", "tools", "crates/one/src", "crates/asterix_check", "crates/asterix_c"]:
+    (copy / folder).mkdir(parents=True)
+for folder in [work, standin, tools, top / "kit" / "bin"]:
     folder.mkdir(parents=True)
-for name in ["asterix", "tests/x86_64.sh", "tests/c/answers.c", "tests/c/tables.h"]:
+for name in ["asterix", "tests/x86_64.sh", "tests/c/answers.c", "tests/c/tables.h", "tools/library.sh"]:
     shutil.copy(root / name, copy / name)
 for name in ["include", "tests/libc"]:
     shutil.copytree(root / name, copy / name)
-source = copy / "crates" / "one" / "lib.rt"
+source = copy / "crates" / "one" / "src" / "lib.rt"
 for file in [source, copy / "crates.txt"]:
     file.write_text("")
-for name in ["target/bin/asterix_check", "target/staticlib/libasterix.a"]:
-    shutil.copy(root / name, standin)
+for name in ["asterix_check/out/asterix_check", "asterix_c/out/libasterix_c.a"]:
+    shutil.copy(root / "crates" / name, standin)
 for name in TOOLS:
     (tools / name).symlink_to(shutil.which(name))
 rt = top / "kit" / "bin" / "rt"
 rt.write_text(STANDIN)
 rt.chmod(0o755)
-(top / "kit" / "on").symlink_to(pathlib.Path(shutil.which("rt")).resolve().parent.parent / "on")
+(top / "kit" / "toolchain").symlink_to(pathlib.Path(shutil.which("rt")).resolve().parent.parent / "toolchain")
 for name, octets in [("good.rec", sample), ("with space.rec", sample), ("bad.rec", b"\x11\0\3"), ("-x", b"")]:
     (work / name).write_bytes(octets)
 (work / "link").symlink_to(copy / "asterix")
@@ -132,27 +134,27 @@ if asked():
 
 # ---- building: where it is not there, where a source is newer, and not else
 
-lines = ["blocks proved (3 s)", "proved and built in "]
+lines = ["proving blocks", "proved and built in "]
 (standin / "fails").touch()
-asterix("a proof that fails", ["check"], b"", 2, given=sample, says=["blocks NOT PROVED", "is not built"])
+asterix("a proof that fails", ["check"], b"", 2, given=sample, says=["blocks::one: open goal", "is not built"])
 (standin / "fails").unlink()
 asterix("the first run", ["check"], accepted, 0, given=sample, says=["is not there", *lines], quiet="rules")
 asterix("the second run", ["check"], accepted, 0, given=sample)
-if asked() != ["check asterix_check"] * 2:
+if asked() != ["run"] * 2:
     differ("the first runs", "rt was asked otherwise", "twice")
-stamp, program = copy / "target" / "asterix-check.stamp", copy / "target" / "bin" / "asterix_check"
+stamp, program = copy / "target" / "asterix-check.stamp", copy / "crates" / "asterix_check" / "out" / "asterix_check"
 age(stamp, 500)
 age(source, 400)
 asterix("a newer source", ["check"], accepted, 0, given=sample, says=["newer", *lines])
 asterix("and then", ["check"], accepted, 0, given=sample)
 age(stamp, 500)
-(copy / "crates" / "one" / "gone.rt").write_text("")
+source.with_name("gone.rt").write_text("")
 asterix("a new source", ["check"], accepted, 0, given=sample, says=["newer", *lines])
 age(stamp, 500)
 age(source, 400)
 (standin / "fails").touch()
 for _ in range(2):
-    asterix("a newer source that is not proved", ["check", "good.rec"], b"", 2, says=["blocks NOT PROVED", "is not built"])
+    asterix("a newer source that is not proved", ["check", "good.rec"], b"", 2, says=["blocks::one: open goal", "is not built"])
 (standin / "fails").unlink()
 stamp.unlink()
 age(program, 500)

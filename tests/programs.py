@@ -18,17 +18,13 @@ sys.path.insert(0, str(root / "model"))
 import reading
 
 everything, start = sys.argv[1] == "--all", sys.argv[2:]
-emulated = start and start[0].endswith("qemu-x86_64")
-places = {"asterix_check": "target/bin/asterix_check", "answers": "target/c/answers"}
+places = {"asterix_check": "crates/asterix_check/out/asterix_check", "answers": "target/c/answers"}
 sample = (root / "samples" / "messages.rec").read_bytes()
 failures = []
 
 # What a program may hold at most, by the system's count of its largest resident size; `answers` beside its longest line, which it may hold some three times
 # while room for it grows.
 MEMORY = 16 * 1024
-
-# Under the emulator: how much more than for an empty input. Less than the recording that it is given, so that one that is kept whole is found.
-MORE = 4 * 1024
 
 # ---- starting a program
 
@@ -176,11 +172,10 @@ with open("/dev/full", "wb") as full:
 same("answers: a write that fails", (done.stderr, done.returncode), (b"answers: standard output cannot be written\n", 2))
 done = subprocess.run([*command("answers"), "recording"], stdin=subprocess.DEVNULL, stdout=subprocess.PIPE, stderr=subprocess.DEVNULL)
 same("answers: a word", (done.stdout, done.returncode), (b"", 2))
-if not emulated:
-    most = 100 * 1024 * 1024
-    limit = lambda: resource.setrlimit(resource.RLIMIT_AS, (most, most))
-    done = subprocess.run(command("answers"), input=b"recording -\n" + b"x" * most, stdout=subprocess.PIPE, stderr=subprocess.PIPE, preexec_fn=limit)
-    same("answers: a line that memory does not hold", (done.stdout, done.stderr, done.returncode), (b"ok 0 0\n", b"answers: a line is longer than memory holds\n", 2))
+most = 100 * 1024 * 1024
+limit = lambda: resource.setrlimit(resource.RLIMIT_AS, (most, most))
+done = subprocess.run(command("answers"), input=b"recording -\n" + b"x" * most, stdout=subprocess.PIPE, stderr=subprocess.PIPE, preexec_fn=limit)
+same("answers: a line that memory does not hold", (done.stdout, done.stderr, done.returncode), (b"ok 0 0\n", b"answers: a line is longer than memory holds\n", 2))
 
 # The same questions in pieces of odd sizes: lines end anywhere in what a read brings. The last line has no line feed.
 questions = (root / "tests" / "vectors" / "edges-questions.txt").read_bytes().rstrip(b"\n")
@@ -215,18 +210,12 @@ def repeated(octets, times):
     yield octets * (times % 1000)
 
 
-def emulator_alone(program):
-    """The largest resident size in KiB for an empty input: what the emulator takes for itself, on some machines more than MEMORY."""
-    child = subprocess.Popen(command(program), stdin=subprocess.DEVNULL, stdout=subprocess.DEVNULL)
-    return os.wait4(child.pid, 0)[2].ru_maxrss
-
-
 def large(what, program, pieces, expected, line=0):
     """line: how many octets the longest line has."""
     began = time.monotonic()
     found, status, peak = fed(program, pieces)
     same(what, (found[:200], status), (expected[:200], 0))
-    most = 3 * line // 1024 + (emulator_alone(program) + MORE if emulated else MEMORY)
+    most = 3 * line // 1024 + MEMORY
     if peak >= most:
         failures.append(f"{what}: {peak} KiB")
         print(f"TOO MUCH: {what}: {peak} KiB, where {most} are the bound")

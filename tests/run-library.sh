@@ -1,7 +1,7 @@
 #!/bin/sh
 # The C tests of the library: tests/run-library.sh [INPUTS]
 #
-# Where the crate `asterix` is there, the library is asked every vector, by answers.c, and compared with the plain implementation over INPUTS inputs (a
+# The library is proved and built (tools/library.sh), asked every vector, by answers.c, and compared with the plain implementation over INPUTS inputs (a
 # million) from a fixed seed and as many from a fresh one, which is printed. FRESH=SEED repeats a fresh run. Status 1 where anything differs. Output goes to target/c.
 set -eu
 cd "$(dirname "$0")/.."
@@ -11,15 +11,11 @@ inputs=${1:-1000000}
 made=target/c
 mkdir -p $made
 
-if [ ! -d crates/asterix ]; then
-    echo "== no library: there is no crate asterix"
-    exit 0
-fi
 echo "== the library"
 for c in plain generate answers differ; do
     compile -O2 -Iinclude -c tests/c/$c.c -o $made/$c.o
 done
-rt staticlib asterix >$made/staticlib.txt || { tail -n 20 $made/staticlib.txt; exit 1; }
+tools/library.sh >$made/library.txt 2>&1 || { tail -n 20 $made/library.txt; exit 1; }
 library=target/staticlib/libasterix.a
 link $made/answers $made/answers.o $library
 python3 tests/vectors.py $start $made/answers

@@ -2,13 +2,13 @@
 # The C tests that need no library: tests/run-plain.sh
 #
 # The plain implementation is asked every vector, by answers.c; differ.c is tried on it with each fault of faults/ planted, and must find each.
-# Status 1 where anything differs. Output goes to $MADE, or to target/plain.
+# Status 1 where anything differs. Output goes to target/plain.
 set -eu
 cd "$(dirname "$0")/.."
 root=$PWD
 . tests/x86_64.sh
-made=${MADE:-target/plain}
-mkdir -p "$made"
+made=target/plain
+mkdir -p $made
 
 for c in plain standin generate answers differ; do
     compile -O2 -Iinclude -c tests/c/$c.c -o $made/$c.o

@@ -2,7 +2,7 @@
 # The Rust tests: tests/run-rust.sh
 #
 # The crate of bindings/rust is checked and documented, warnings being errors, wherever there is cargo; its tests run where the machine is x86-64 and the
-# archive of `rt staticlib asterix` is there, or in the folder that ASTERIX_LIB_DIR names. Status 1 where anything fails.
+# archive of tools/library.sh is there, or in the folder that ASTERIX_LIB_DIR names. Status 1 where anything fails.
 set -eu
 cd "$(dirname "$0")/.."
 if ! command -v cargo >/dev/null; then

@@ -1,10 +1,6 @@
-# Compiling, linking and running C for x86-64 by the toolchain beside `rt`, on every machine that has it: to be read by the scripts
-# that build C (`. tests/x86_64.sh`, with `root` the repository's folder). Where the machine isn't x86-64, programs run under the toolchain's emulator,
-# as `rt` runs them.
-kit=$(dirname "$(dirname "$(readlink -f "$(command -v rt)")")")
-toolchain=$kit/on/$(uname -m)/toolchain
-emulator=$toolchain/bin/qemu-x86_64
-[ -x "$emulator" ] || emulator=
+# Compiling, linking and running C by the toolchain beside `rt`, so that a machine needs no compiler of its own: to be read by the scripts
+# that build C (`. tests/x86_64.sh`, with `root` the repository's folder). The toolchain is for x86-64, as `rt` is.
+toolchain=$(dirname "$(dirname "$(readlink -f "$(command -v rt)")")")/toolchain
 
 # compile ARG..: clang, with the declarations of tests/libc as the C library's headers.
 compile() {
@@ -22,7 +18,7 @@ link() {
 }
 
 # The words that start a program, and run PROGRAM ARG..
-start="$emulator $toolchain/lib/ld-linux-x86-64.so.2 --library-path $toolchain/lib"
+start="$toolchain/lib/ld-linux-x86-64.so.2 --library-path $toolchain/lib"
 run() {
     $start "$@"
 }

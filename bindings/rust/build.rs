@@ -1,4 +1,4 @@
-//! Says where the archive of `rt staticlib asterix` is: in the repository's target/staticlib, or in
+//! Says where the archive of tools/library.sh is: in the repository's target/staticlib, or in
 //! the folder that ASTERIX_LIB_DIR names. The archive holds x86-64 code; for another target, or
 //! without it, nothing is linked, and `cargo check` and `cargo doc` still work.
 

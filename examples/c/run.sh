@@ -5,11 +5,11 @@
 # category 017 and those of category 018 as two logs, merged; then on what a user logged of a session of category 061, and on that and what the SDPS logged,
 # merged; then sheet on an exercise sheet for the logs of 017 and 018. It should print examples/c/expected.txt. On x86-64 this is all that it takes:
 #
-#     rt staticlib asterix
+#     tools/library.sh
 #     cc -Iinclude examples/c/log.c target/staticlib/libasterix.a -o log && ./log FILE
 #     cc -Iinclude examples/c/sheet.c target/staticlib/libasterix.a -o sheet && ./sheet FILE
 #
-# LIBRARY=FILE.a takes another archive. Here it is the toolchain's clang, and its emulator where the machine needs one.
+# LIBRARY=FILE.a takes another archive. Here it is the toolchain's clang.
 set -eu
 cd "$(dirname "$0")/../.."
 root=$PWD
@@ -17,7 +17,7 @@ root=$PWD
 made=target/examples
 mkdir -p $made
 library=${LIBRARY:-target/staticlib/libasterix.a}
-[ -n "${LIBRARY:-}" ] || rt staticlib asterix >$made/staticlib.txt || { tail -n 20 $made/staticlib.txt; exit 1; }
+[ -n "${LIBRARY:-}" ] || tools/library.sh >$made/library.txt 2>&1 || { tail -n 20 $made/library.txt; exit 1; }
 for c in log sheet; do
     compile -O2 -Iinclude -c examples/c/$c.c -o $made/$c.o
     link $made/$c $made/$c.o $library

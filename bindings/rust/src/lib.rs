@@ -3,7 +3,7 @@
 //! Messages, edition 1.2): checking, finding, walking a log, merging two logs, reading and writing;
 //! and exercise sheets.
 //!
-//! The work is done by the proved library, the archive that `rt staticlib asterix` writes; this
+//! The work is done by the proved library, the archive that `tools/library.sh` writes; this
 //! crate gives it safe functions on slices. Any bytes may be given to any function. Each either
 //! does its work or refuses, with one of 30 [`Refusal`]s and a place; a refused call changes no
 //! byte that was lent to it. Nothing is kept between calls, and nothing is allocated but the bytes
