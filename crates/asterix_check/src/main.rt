@@ -12,8 +12,9 @@ ghost use Rattle.asterix_check.specs.Turn.{is_refused, turn_of, turned, Came, Wa
 ghost use Rattle.asterix_check.specs.Verdict.{sentence, verdict_text};
 
 use input::Filled;
-use libc::{STDERR_FILENO, STDOUT_FILENO};
 use recordings::{RecordingChecked, RecordingState};
+use std::io;
+use std::io::Write;
 
 // How many octets the whole blocks at the front of a part take, as their LEN says.
 fn whole_blocks(part: &[u8]) -> usize
@@ -121,30 +122,25 @@ fn verdict(checked: RecordingChecked, out: &mut [u8; 66]) -> usize
     }
 }
 
-fn main() {
+fn main(rt: HostRuntime) -> io::Result<()> {
+    let mut stdin = rt.stdin();
     // A block has 65,535 octets at most, so that a full buffer always holds a whole one.
     let mut buffer = [0u8; 131072];
     let mut state = RecordingState::start();
     let mut from: usize = 0;
     let mut to: usize = 0;
-    let mut turns = u64::MAX;
-    while turns > 0 {
-        turns = turns - 1;
-        let filled = input::refill(&mut buffer, from, to);
-        let turn = advance(state, filled, &buffer);
-        match turn {
+    for _ in 0..u64::MAX {
+        let filled = input::refill(&mut stdin, &mut buffer, from, to);
+        match advance(state, filled, &buffer) {
             Turn::Failed => {
-                io::write_all(
-                    STDERR_FILENO,
-                    b"asterix_check: standard input cannot be read\n",
-                );
-                return;
+                return rt
+                    .stderr()
+                    .write_all(b"asterix_check: standard input cannot be read\n");
             }
             Turn::Verdict(checked) => {
                 let mut line = [0u8; 66];
                 let n = verdict(checked, &mut line);
-                io::write_all(STDOUT_FILENO, &line[0..n]);
-                return;
+                return rt.stdout().write_all(&line[0..n]);
             }
             Turn::On {
                 state: next,
@@ -157,4 +153,5 @@ fn main() {
             }
         }
     }
+    Ok(())
 }

@@ -4,7 +4,7 @@
 ghost use Rattle.std.specs.Prelude.{◌≡◌, ◌+◌, ◌-◌, ◌<◌, ◌≤◌, length, take, drop};
 ghost use Rattle.input.specs.Filled.{Comes, Fills, Keeps};
 
-use libc::STDIN_FILENO;
+use std::io::Read;
 
 // What one more read brings.
 #[derive(Drop)]
@@ -24,15 +24,13 @@ enum Came {
     Failed,
 }
 
-fn read_some(part: &mut [u8]) -> Came
+fn read_some<R: Read>(reader: &mut R, part: &mut [u8]) -> Came
     ensures { Comes result (length part.new) }
 {
-    let got = libc::read(STDIN_FILENO, part);
-    if got < 0 {
-        return Came::Failed;
+    match reader.read(part) {
+        Ok(n) => Came::Octets(n),
+        Err(_) => Came::Failed,
     }
-    let n = io::count(got, part);
-    Came::Octets(n)
 }
 
 // Moves so many octets from a place to the front.
@@ -50,14 +48,14 @@ fn shift(buffer: &mut [u8], from: usize, count: usize)
 // Keeps the octets from a place to before another, which move to the front, and reads once behind them. Stated of the buffer are its length and the
 // octets kept, whatever is answered. Left open is what no contract of a read says: what stands behind those kept, whether octets came or not; and which of
 // the three answers it is. Where those kept fill the buffer, nothing can come, and the answer is `End` or `Failed`.
-pub fn refill(buffer: &mut [u8], from: usize, to: usize) -> Filled
+pub fn refill<R: Read>(reader: &mut R, buffer: &mut [u8], from: usize, to: usize) -> Filled
     requires { (from ≤ to) × (to ≤ length buffer.old) }
     ensures came { Fills result (to - from) (length buffer.old) }
     ensures kept { Keeps buffer.old buffer.new from to }
 {
     let kept = to - from;
     shift(buffer, from, kept);
-    let came = read_some(&mut buffer[kept..]);
+    let came = read_some(reader, &mut buffer[kept..]);
     match came {
         Came::Failed => Filled::Failed,
         Came::Octets(n) => {
