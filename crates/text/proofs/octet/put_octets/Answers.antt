@@ -1,5 +1,4 @@
 -- `octet::put_octets` meets its contract: the octets that are left, put on the page so far, give what all give. Assumes nothing.
-use Prim.Native.Nat.{◌-◌}
 use Rattle.text.specs.Octet.{octet_text}
 use Rattle.text.proofs.OctetLaws.{hex_step, hex_nil, octets_none, octets_some}
 use Rattle.text.proofs.PageLaws.{instead, spelling_first, spelling_next, spelling_last}

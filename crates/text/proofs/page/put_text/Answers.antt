@@ -1,9 +1,7 @@
 -- `page::put_text` meets its contract: what is left of the text, put on the page so far, gives what the whole text gives. Assumes nothing.
-use Rattle.text.specs.Page.{page}
 use mathlib.Core.List.{[], ◌∷◌}
 use mathlib.Core.Path.{refl}
 use Rattle.text.proofs.PageLaws.{spelling_first, spelling_next, spelling_last}
-use Prim.Native.Nat.{◌-◌}
 use Rattle.text.proofs.page.put_text.Goals as goal
 
 pub loop-i-init : goal.loop-i-init
