@@ -1,4 +1,4 @@
-// Standard input through a buffer: what is still wanted of it moves to the front, and what comes next is read behind that.
+// A reader, as standard input, through a buffer: what is still wanted of it moves to the front, and what comes next is read behind that.
 #![tactic(auto)]
 
 ghost use Rattle.std.specs.Prelude.{◌≡◌, ◌+◌, ◌-◌, ◌<◌, ◌≤◌, length, take, drop};
@@ -45,7 +45,7 @@ fn shift(buffer: &mut [u8], from: usize, count: usize)
     }
 }
 
-// Keeps the octets from a place to before another, which move to the front, and reads once behind them. Stated of the buffer are its length and the
+// Keeps the octets from a place to before another, which move to the front, and reads once from a reader behind them. Stated of the buffer are its length and the
 // octets kept, whatever is answered. Left open is what no contract of a read says: what stands behind those kept, whether octets came or not; and which of
 // the three answers it is. Where those kept fill the buffer, nothing can come, and the answer is `End` or `Failed`.
 pub fn refill<R: Read>(reader: &mut R, buffer: &mut [u8], from: usize, to: usize) -> Filled
