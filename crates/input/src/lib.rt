@@ -45,9 +45,9 @@ fn shift(buffer: &mut [u8], from: usize, count: usize)
     }
 }
 
-// Keeps the octets from a place to before another, which move to the front, and reads once from a reader behind them. Stated of the buffer are its length and the
-// octets kept, whatever is answered. Left open is what no contract of a read says: what stands behind those kept, whether octets came or not; and which of
-// the three answers it is. Where those kept fill the buffer, nothing can come, and the answer is `End` or `Failed`.
+// Keeps the octets from a place to before another, which move to the front, and reads once from a reader behind them. Stated of the buffer are its length
+// and the octets kept, whatever is answered. Left open is what no contract of a read says: what stands behind those kept, whether octets came or not; and
+// which of the three answers it is. Where those kept fill the buffer, nothing can come, and the answer is `End` or `Failed`.
 pub fn refill<R: Read>(reader: &mut R, buffer: &mut [u8], from: usize, to: usize) -> Filled
     requires { (from ≤ to) × (to ≤ length buffer.old) }
     ensures came { Fills result (to - from) (length buffer.old) }
