@@ -234,7 +234,7 @@ def answers(unfolding, proof, arms):
 
 def message_arms():
     numbers = [256 * profile + message.number for profile, category in enumerate(PROFILES) for message in category.messages]
-    return answers("row_at message_of if◌then◌else◌ ◌>>=◌ category_at categories bits_of number", "row_key _ _ c.ranges.kind.fits c.ARM.is",
+    return answers("row_at message_of when◌then◌else◌ ◌>>=◌ category_at categories bits_of number", "row_key _ _ c.ranges.kind.fits c.ARM.is",
                    [("returns-in-%d" % number, "in-%d" % number) for number in numbers])
 
 

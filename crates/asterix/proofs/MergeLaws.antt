@@ -3,7 +3,7 @@ use Prim.Native.Nat.{ℕ}
 use mathlib.Core.Path.{◌≡◌, sym, ap, ap₂, ◌∙◌}
 use mathlib.Core.Bool.{true, false}
 use mathlib.Core.List.{List}
-use Rattle.rules.specs.Answer.{if◌then◌else◌}
+use Rattle.rules.specs.Answer.{when◌then◌else◌}
 use Rattle.rules.specs.Entry.{over}
 use Rattle.rules.specs.Merge.{Step}
 use Rattle.merging.specs.declared.heads.Standing.{Standing}
@@ -45,11 +45,11 @@ module _ (m : Merged) (s : Step) (h : m ≡ merged_of s) where
 -- ---- a run, as C has it
 
 pub head_timed : (s : Standing) → s.timed ≡ true → record { at = cursor_out s.at; length = s.size; timed = 1; time = s.time } ≡ head_out s
-unfolding if◌then◌else◌
+unfolding when◌then◌else◌
 head_timed s e = rw e
 
 pub head_untimed : (s : Standing) → s.timed ≡ false → record { at = cursor_out s.at; length = s.size; timed = 0; time = s.time } ≡ head_out s
-unfolding if◌then◌else◌
+unfolding when◌then◌else◌
 head_untimed s e = rw e
 
 pub merge_made : (m : code-merge.Merge) (x y : MergeHead) → x ≡ head_out m.a → y ≡ head_out m.b → record { a = x; b = y; turn = m.turn } ≡ merge_out m

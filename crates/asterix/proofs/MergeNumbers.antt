@@ -9,7 +9,7 @@ use native.Mathlib.Omega.{arith}
 use lib.Dec.{T, leb, leb→le}
 use lib.IntN.{ℤ}
 use lib.ListN.{length}
-use Rattle.rules.specs.Answer.{Answer, ok, refused, if◌then◌else◌}
+use Rattle.rules.specs.Answer.{Answer, ok, refused, when◌then◌else◌}
 use Rattle.rules.specs.Block.{Block}
 use Rattle.rules.specs.Recording.{read_recording}
 use Rattle.rules.specs.Catalogue.{categories}
@@ -67,12 +67,12 @@ places_tells o m n p q (some us) none = (omega arith, omega arith)
 places_tells o m n p q (some us) (some vs) = from_tells o m n p q us vs
 
 step_tells : (x y : Checked) → Refuses x → Refuses y → (p q : ℕ) (o : ℤ) → Tells (step_of x y p q o).told
-unfolding step_of if◌then◌else◌
+unfolding step_of when◌then◌else◌
 step_tells (unread r f) y h g p q o = h
 step_tells (accepted xs m) (unread r f) h g p q o = g
 step_tells (accepted xs m) (accepted ys n) h g p q o = go (in_range o)
   where
-    go : (t : Bool) → Tells (if t then with_places o m n p q (from_place m p xs) (from_place n q ys) else stay (barred 22) p q).told
+    go : (t : Bool) → Tells (when t then with_places o m n p q (from_place m p xs) (from_place n q ys) else stay (barred 22) p q).told
     go true = places_tells o m n p q (from_place m p xs) (from_place n q ys)
     go false = (omega arith, omega arith)
 
@@ -115,7 +115,7 @@ Begins (begun.NotAccepted l n p) = (1 ≤ n) × (n ≤ 21)
 Begins (begun.Refused n) = n ≡ 22
 
 begins : (as' bs : List ℕ) (o : ℤ) → Octets as' → Octets bs → Begins (begin_of as' bs o)
-unfolding begin_of if◌then◌else◌
+unfolding begin_of when◌then◌else◌
 begins as' bs o oa ob = by (check_recording categories as') (check_recording categories bs) refl refl
   where
     numbered : (cs : List ℕ) → Octets cs → (n p : ℕ) → check_recording categories cs ≡ refused n p → (1 ≤ n) × (n ≤ 21)

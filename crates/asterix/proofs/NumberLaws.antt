@@ -11,7 +11,7 @@ use native.Mathlib.Nat.{le_refl}
 use lib.Dec.{T, leb, eqb, leb→le}
 use lib.IntN.{ℤ, pos, negsuc}
 use lib.ListN.{length, take}
-use Rattle.rules.specs.Answer.{octets_of, Answer, ok, refused, ◌>>=◌, need◌or◌then◌, if◌then◌else◌, expect◌or◌, later, Read, Write}
+use Rattle.rules.specs.Answer.{octets_of, Answer, ok, refused, ◌>>=◌, need◌or◌then◌, when◌then◌else◌, expect◌or◌, later, Read, Write}
 use Rattle.rules.specs.Chain.{flatten, read_num}
 use Rattle.rules.specs.Layout.{Values, in_parts, in_subfields}
 use Rattle.rules.specs.Presence.{read_rows, read_places}
@@ -57,7 +57,7 @@ refusal m q h = numbered.refusal 1 21 m q h
 test : {A : Type 0} (t : Bool) (m : ℕ) (x : Answer A) → Number m → Numbered x → Numbered (need t or m then x)
 test t m x h i = numbered.test 1 21 t m x h i
 
-either : {A : Type 0} (t : Bool) (x y : Answer A) → Numbered x → Numbered y → Numbered (if t then x else y)
+either : {A : Type 0} (t : Bool) (x y : Answer A) → Numbered x → Numbered y → Numbered (when t then x else y)
 either t x y h i = numbered.either 1 21 t x y h i
 
 lookup : {A : Type 0} (x : Option A) (m : ℕ) → Number m → Numbered (expect x or m)
@@ -221,8 +221,8 @@ answer_met c (ok w) h i n p e =
 answer_met c (refused m q) h i n p e = let z : m ≡ n = cc in subst Number z (h m q refl)
 
 step_met : (t : Bool) (c : walking-cursor.Cursor) (a : Answer Walked) → Numbered a → ((w : Walked) → a ≡ ok w → (s l k : ℕ) × (w.met ≡ met.Record k s l))
-    → (n p : ℕ) → (if t then answered c a else stays c met.Finished).met ≡ met.Refused n p → Number n
-unfolding if◌then◌else◌
+    → (n p : ℕ) → (when t then answered c a else stays c met.Finished).met ≡ met.Refused n p → Number n
+unfolding when◌then◌else◌
 step_met true c a h i n p e = answer_met c a h i n p e
 step_met false c a h i n p e = let z : ◌≡◌ {A = ℕ} 0 1 = cc in absurd (omega arith)
 

@@ -4,7 +4,7 @@ use mathlib.Core.Path.{◌≡◌, refl, sym, subst}
 use mathlib.Core.Bool.{Bool, true, false, ◌&&◌}
 use mathlib.Core.Option.{Option, none, some}
 use lib.Dec.{T, leb}
-use Rattle.rules.specs.Answer.{Answer, ok, refused, ◌>>=◌, need◌or◌then◌, if◌then◌else◌, expect◌or◌, later}
+use Rattle.rules.specs.Answer.{Answer, ok, refused, ◌>>=◌, need◌or◌then◌, when◌then◌else◌, expect◌or◌, later}
 use Rattle.rules.proofs.AnswerLaws.{refused_ok}
 
 module _ (lo hi : ℕ) where
@@ -25,8 +25,8 @@ module _ (lo hi : ℕ) where
   test true m x h i = i
   test false m x h i = refusal m 0 h
 
-  pub either : {A : Type 0} (t : Bool) (x y : Answer A) → Numbered x → Numbered y → Numbered (if t then x else y)
-  unfolding if◌then◌else◌
+  pub either : {A : Type 0} (t : Bool) (x y : Answer A) → Numbered x → Numbered y → Numbered (when t then x else y)
+  unfolding when◌then◌else◌
   either true x y h i = h
   either false x y h i = i
 

@@ -7,7 +7,7 @@ use mathlib.Core.Bool.{true, false}
 use mathlib.Core.List.{List}
 use lib.IntN.{ℤ, pos}
 use lib.ListN.{length}
-use Rattle.rules.specs.Answer.{Answer, ok, refused, if◌then◌else◌}
+use Rattle.rules.specs.Answer.{Answer, ok, refused, when◌then◌else◌}
 use Rattle.rules.specs.Entry.{leaves}
 use Rattle.rules.specs.SheetForm.{form}
 use Rattle.rules.specs.Sheet.{Sheet}
@@ -31,11 +31,11 @@ use Rattle.asterix.specs.Sheets.{marks_out, sheet_told, mark_found, written_by, 
 -- ---- where the marks lie
 
 pub marks_split : (c : Lists) → c.split ≡ true → ◌≡◌ {A = Marks} (record { base = c.base; first = c.first; count = c.count; split = 1 }) (marks_out c)
-unfolding if◌then◌else◌
+unfolding when◌then◌else◌
 marks_split c h = rw h
 
 pub marks_whole : (c : Lists) → c.split ≡ false → ◌≡◌ {A = Marks} (record { base = c.base; first = c.first; count = c.count; split = 0 }) (marks_out c)
-unfolding if◌then◌else◌
+unfolding when◌then◌else◌
 marks_whole c h = rw h
 
 -- ---- reading

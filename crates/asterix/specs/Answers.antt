@@ -3,7 +3,7 @@
 --
 -- In order: checking; finding; walking a log; two logs on one line; one item; adding a record.
 use Rattle.std.specs.Prelude.{ℕ, ◌-◌, not, List, eqb, ℤ, length, replicate}
-use Rattle.rules.specs.Answer.{Answer, ok, refused, if◌then◌else◌}
+use Rattle.rules.specs.Answer.{Answer, ok, refused, when◌then◌else◌}
 use Rattle.rules.specs.Entry.{map_places, Counts, RecordMap, Laid, Added, added, refused_old, refused_new}
 use Rattle.walking.specs.declared.Cursor as walking-cursor
 use Rattle.walking.specs.declared.Met.{Met}
@@ -159,7 +159,7 @@ merge_stepped s = stepped_by (merged_of s).told (merged_of s)
 
 -- a run of C as the code has it, and back
 abbrev pub head_out : Standing → MergeHead
-head_out s = record { at = cursor_out s.at; length = s.size; timed = (if s.timed then 1 else 0); time = s.time }
+head_out s = record { at = cursor_out s.at; length = s.size; timed = (when s.timed then 1 else 0); time = s.time }
 
 abbrev pub head_in : MergeHead → Standing
 head_in h = record { at = cursor_in h.at; size = h.length; timed = not (eqb h.timed 0); time = h.time }

@@ -1,6 +1,6 @@
 -- The struct that an answer on exercise sheets makes, for C and Rust, as `Answers` has the others. Assumes nothing.
 use Rattle.std.specs.Prelude.{ℕ, not, List, eqb, pos, length}
-use Rattle.rules.specs.Answer.{Answer, ok, refused, if◌then◌else◌}
+use Rattle.rules.specs.Answer.{Answer, ok, refused, when◌then◌else◌}
 use Rattle.rules.specs.Sheet.{Sheet}
 use Rattle.rules.specs.declared.Mark as rules
 use Rattle.marks.specs.declared.Lists.{Lists}
@@ -18,7 +18,7 @@ use Rattle.asterix.specs.declared.sheet.SheetWritten.{SheetWritten}
 -- ---- reading
 
 abbrev pub marks_out : Lists → Marks
-marks_out c = record { base = c.base; first = c.first; count = c.count; split = (if c.split then 1 else 0) }
+marks_out c = record { base = c.base; first = c.first; count = c.count; split = (when c.split then 1 else 0) }
 
 abbrev pub marks_in : Marks → Lists
 marks_in m = record { split = not (eqb m.split 0); base = m.base; first = m.first; count = m.count }

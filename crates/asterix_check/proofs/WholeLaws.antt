@@ -8,14 +8,14 @@ use native.Mathlib.Omega.{arith}
 use lib.Dec.{leb}
 use lib.ListN.{length, take, drop, length-take, length-drop}
 use borrow.Author.Tests.{le-leb, lt-leb, leb-true, leb-false}
-use Rattle.rules.specs.Answer.{if◌then◌else◌}
+use Rattle.rules.specs.Answer.{when◌then◌else◌}
 use Rattle.rules.proofs.AnswerLaws.{if_true, if_false}
 use Rattle.blocks.specs.Read.{len_at}
 use Rattle.recordings.specs.Feed.{block_length}
 use Rattle.asterix_check.specs.Whole.{whole_up_to, whole_in}
 
-at_least : (t : Bool) (n : ℕ) → 3 ≤ (if t then max 3 n else 3)
-unfolding if◌then◌else◌
+at_least : (t : Bool) (n : ℕ) → 3 ≤ (when t then max 3 n else 3)
+unfolding when◌then◌else◌
 at_least true n = omega arith
 at_least false n = omega arith
 

@@ -1,7 +1,7 @@
 -- One turn of the program: what the octets at the front of the buffer make of what is known so far. Which octets come, no contract can say.
 -- Assumes nothing.
 use Rattle.std.specs.Prelude.{ℕ, ◌≤◌, Bool, true, false, List, take}
-use Rattle.rules.specs.Answer.{Answer, ok, refused, if◌then◌else◌}
+use Rattle.rules.specs.Answer.{Answer, ok, refused, when◌then◌else◌}
 use Rattle.rules.specs.Entry.{Counts}
 use Rattle.recordings.specs.Feed.{SoFar, fed, finished}
 use Rattle.recordings.specs.Answers.{counts_of, state_of}
@@ -28,7 +28,7 @@ turn_of turn.Failed = failed
 
 -- n octets came, of which the whole blocks at the front take k: they are fed, and the first fault found ends the work
 unfoldable pub fed_whole : Answer SoFar → ℕ → ℕ → Turned
-fed_whole s k n = if is_refused s then verdict (finished s) else on s k n
+fed_whole s k n = when is_refused s then verdict (finished s) else on s k n
 
 -- at the input's end what is left over is fed
 unfoldable pub turned : Answer SoFar → Filled → List ℕ → Turned

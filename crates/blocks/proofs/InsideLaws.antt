@@ -10,7 +10,7 @@ use native.Mathlib.Omega.{arith}
 use lib.Dec.{leb}
 use lib.IntN.{ℤ, pos, negsuc}
 use lib.ListN.{length, take, length-append, length-take}
-use Rattle.rules.specs.Answer.{Answer, ok, refused, ◌>>=◌, need◌or◌then◌, if◌then◌else◌, expect◌or◌, later, Read, Write}
+use Rattle.rules.specs.Answer.{Answer, ok, refused, ◌>>=◌, need◌or◌then◌, when◌then◌else◌, expect◌or◌, later, Read, Write}
 use Rattle.rules.specs.Chain.{flatten, read_num}
 use Rattle.rules.specs.Layout.{Values, in_parts, in_subfields}
 use Rattle.rules.specs.Presence.{flag_rows, write_presence, read_presence, write_row, read_row, read_rows, read_places}
@@ -46,8 +46,8 @@ unfolding need◌or◌then◌
 need_inside k true m x h = h
 need_inside k false m x h = no_inside k m
 
-if_inside : {A : Type 0} (k : ℕ) (t : Bool) (x y : Answer A) → Inside k x → Inside k y → Inside k (if t then x else y)
-unfolding if◌then◌else◌
+if_inside : {A : Type 0} (k : ℕ) (t : Bool) (x y : Answer A) → Inside k x → Inside k y → Inside k (when t then x else y)
+unfolding when◌then◌else◌
 if_inside k true x y h i = h
 if_inside k false x y h i = i
 

@@ -13,7 +13,7 @@ use lib.IntN.{ℤ, pos}
 use lib.ListN.{length, take, drop, replicate, length-append, length-drop, length-map}
 use borrow.Author.Tests.{eqb-true, ne_eqb}
 use lib.Seq.{drop_at, drop-drop, slice, length-take-le}
-use Rattle.rules.specs.Answer.{Answer, ok, refused, ◌>>=◌, if◌then◌else◌, later, Write}
+use Rattle.rules.specs.Answer.{Answer, ok, refused, ◌>>=◌, when◌then◌else◌, later, Write}
 use Rattle.rules.specs.Chain.{flatten}
 use Rattle.rules.specs.Format.{Group, Format, fixed, repeated, led, extended, PartValues, read_plain}
 use Rattle.rules.specs.Presence.{flags, number, present, usable, read_row, read_rows, read_places}
@@ -422,13 +422,13 @@ item_told l i bs r s h o = go (eqb l.kind 5) refl h
         ∙ plain_told false l f bs r e o
 
     go : (t : Bool) → eqb l.kind 5 ≡ t → cond t (some (compound (primaries_is (l.end - l.first) l.first))) (as_plain (format_is l)) ≡ some i
-        → (read_item i bs >>= told_of (field_list i) bs) ≡ (if t then compound_read l bs else plain_read false l bs)
+        → (read_item i bs >>= told_of (field_list i) bs) ≡ (when t then compound_read l bs else plain_read false l bs)
     go true e d =
         let c : Compounded l = compounded l s (eqb-true l.kind 5 e) in
         ap (λ x. read_item x bs >>= told_of (field_list x) bs) (sym (some_inj d))
         ∙ compound_told (printed l) l.first bs (let z : l.first + printed l ≤ primary_count = omega (arith, c.order, c.inside) in z) o
-        ∙ unfold compound_read if◌then◌else◌ in refl
-    go false e d = plain_read_lem (format_is l) refl d ∙ unfold if◌then◌else◌ in refl
+        ∙ unfold compound_read when◌then◌else◌ in refl
+    go false e d = plain_read_lem (format_is l) refl d ∙ unfold when◌then◌else◌ in refl
 
 -- a row that is no item's
 pub no_row : (l : LayoutRow) (bs : List ℕ) → layout_is l ≡ none → item_read l bs ≡ refused 21 0
@@ -440,10 +440,10 @@ no_row l bs h = go l.kind refl
     by k e = subst (λ x. cond (eqb x 5) (some (compound (primaries_is (l.end - l.first) l.first))) (as_plain (format_by x l.least l.most (group_is (group_at l.first)) (slice l.first l.end (map group_is (group_rows 0 groups))))) ≡ none) e h
 
     none_read : (k : ℕ) → l.kind ≡ k → eqb k 5 ≡ false → shape_by k l.least l.most l.first l.end bs ≡ refused 21 0
-        → (if eqb l.kind 5 then compound_read l bs else plain_read false l bs) ≡ refused 21 0
+        → (when eqb l.kind 5 then compound_read l bs else plain_read false l bs) ≡ refused 21 0
     none_read k e f s = if_false _ (ap (λ x. eqb x 5) e ∙ f) (unfold plain_read whole_of shape_of in (bind_out _ (bind_out _ (ap (λ x. shape_by x l.least l.most l.first l.end bs) e ∙ s))))
 
-    go : (k : ℕ) → l.kind ≡ k → (if eqb l.kind 5 then compound_read l bs else plain_read false l bs) ≡ refused 21 0
+    go : (k : ℕ) → l.kind ≡ k → (when eqb l.kind 5 then compound_read l bs else plain_read false l bs) ≡ refused 21 0
     go zero e = none_read 0 e refl (unfold shape_by in refl)
     go (suc zero) e = none_some (sym (by 1 e))
     go (suc (suc zero)) e = none_some (sym (by 2 e))

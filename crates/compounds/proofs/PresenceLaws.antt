@@ -11,7 +11,7 @@ use native.Mathlib.Omega.{arith}
 use lib.Dec.{T, eqb, ltb}
 use lib.ListN.{length, drop, replicate, length-append, length-replicate}
 use borrow.Author.Tests.{le-leb, lt-ltb}
-use Rattle.rules.specs.Answer.{Answer, ok, refused, ◌>>=◌, need◌or◌then◌, if◌then◌else◌}
+use Rattle.rules.specs.Answer.{Answer, ok, refused, ◌>>=◌, need◌or◌then◌, when◌then◌else◌}
 use Rattle.rules.specs.Catalogue.{categories}
 use Rattle.rules.specs.Chain.{joined, read_num, read_chain}
 use Rattle.rules.specs.Format.{Format}
@@ -82,7 +82,7 @@ unfoldable pub in_turn : List (List (Option Format)) → List ℕ → Answer Cam
 in_turn [] bs = refused 6 0
 in_turn (p ∷ ps) [] = refused 9 0
 in_turn (p ∷ ps) (x ∷ bs) =
-    if eqb (x % 2) 0
+    when eqb (x % 2) 0
     then need ltb 0 (x / 2) or 7 then before_row p (x / 2) ([], bs)
     else in_turn ps bs >>= before_row p (x / 2)
 
@@ -145,7 +145,7 @@ last p ps n rest l small = rw (l, lt-ltb n 128 small) (go (ltb 0 n) (usable p (f
     go false u = refl
 
 chain_one : (p : List (Option Format)) (ps : List (List (Option Format))) (x : ℕ) (bs : List ℕ)
-    → read_chain 9 6 (ones (p ∷ ps)) (x ∷ bs) ≡ (if eqb (x % 2) 0 then ok (x / 2 ∷ [], bs) else (read_chain 9 6 (ones ps) bs >>= (λ y. ok (x / 2 ∷ y.0, y.1))))
+    → read_chain 9 6 (ones (p ∷ ps)) (x ∷ bs) ≡ (when eqb (x % 2) 0 then ok (x / 2 ∷ [], bs) else (read_chain 9 6 (ones ps) bs >>= (λ y. ok (x / 2 ∷ y.0, y.1))))
 unfolding read_chain
 chain_one p ps x bs = bind_in _ (read_one_lem 9 x bs) refl
 
@@ -159,11 +159,11 @@ presence_in_turn (p ∷ ps) (x ∷ bs) s o = ap (λ m. m >>= chained (p ∷ ps))
     small = omega (arith, o.0)
 
     go : (t : Bool) → (read_chain 9 6 (ones ps) bs >>= chained ps) ≡ in_turn ps bs
-        → ((if t then ok (x / 2 ∷ [], bs) else (read_chain 9 6 (ones ps) bs >>= (λ y. ok (x / 2 ∷ y.0, y.1)))) >>= chained (p ∷ ps))
-        ≡ (if t then (need ltb 0 (x / 2) or 7 then before_row p (x / 2) ([], bs)) else (in_turn ps bs >>= before_row p (x / 2)))
-    go true ih = unfold if◌then◌else◌ in (bind_in (chained (p ∷ ps)) refl (last p ps (x / 2) bs s.0 small))
+        → ((when t then ok (x / 2 ∷ [], bs) else (read_chain 9 6 (ones ps) bs >>= (λ y. ok (x / 2 ∷ y.0, y.1)))) >>= chained (p ∷ ps))
+        ≡ (when t then (need ltb 0 (x / 2) or 7 then before_row p (x / 2) ([], bs)) else (in_turn ps bs >>= before_row p (x / 2)))
+    go true ih = unfold when◌then◌else◌ in (bind_in (chained (p ∷ ps)) refl (last p ps (x / 2) bs s.0 small))
     go false ih =
-        unfold if◌then◌else◌ in
+        unfold when◌then◌else◌ in
         (bind_assoc (read_chain 9 6 (ones ps) bs) _ _
         ∙ bind_same (read_chain 9 6 (ones ps) bs) _ _ (λ y e. bind_in _ refl (step p ps (x / 2) y.0 y.1 s.0 small (chain_some 9 6 (ones ps) bs y e)))
         ∙ sym (bind_assoc (read_chain 9 6 (ones ps) bs) _ _) ∙ ap (λ m. m >>= before_row p (x / 2)) ih)
@@ -275,11 +275,11 @@ primary_in_turn (suc n) row (x ∷ bs) h o = go (eqb (x % 2) 0) (primary_in_turn
     more k (refused a b) c = unfold need◌or◌then◌ ◌>>=◌ in refl
 
     go : (t : Bool) → (in_turn (primaries_is n (row + 1)) bs >>= bits_of n bs) ≡ primary (row + 1) n bs → ((y : Came) → in_turn (primaries_is n (row + 1)) bs ≡ ok y → CameOf n (row + 1) bs y)
-        → ((if t then (need ltb 0 (x / 2) or 7 then before_row (bits_is 7 (7 * row)) (x / 2) ([], bs)) else (in_turn (primaries_is n (row + 1)) bs >>= before_row (bits_is 7 (7 * row)) (x / 2))) >>= bits_of (suc n) (x ∷ bs))
-        ≡ (if t then (need ltb 0 (x / 2) or 7 then need known row (x / 2) or 8 then ok (x / 2 * 2 ^ (7 * n), 1)) else (primary (row + 1) n bs >>= (λ b. need known row (x / 2) or 8 then ok (x / 2 * 2 ^ (7 * n) + b.0, b.1 + 1))))
-    go true ih c = unfold if◌then◌else◌ in (one (ltb 0 (x / 2)) (usable (bits_is 7 (7 * row)) (flags 7 (x / 2))) ∙ ap (λ k. need ltb 0 (x / 2) or 7 then need◌or◌then◌ {A = Bits} k 8 (ok (x / 2 * 2 ^ (7 * n), 1))) u)
+        → ((when t then (need ltb 0 (x / 2) or 7 then before_row (bits_is 7 (7 * row)) (x / 2) ([], bs)) else (in_turn (primaries_is n (row + 1)) bs >>= before_row (bits_is 7 (7 * row)) (x / 2))) >>= bits_of (suc n) (x ∷ bs))
+        ≡ (when t then (need ltb 0 (x / 2) or 7 then need known row (x / 2) or 8 then ok (x / 2 * 2 ^ (7 * n), 1)) else (primary (row + 1) n bs >>= (λ b. need known row (x / 2) or 8 then ok (x / 2 * 2 ^ (7 * n) + b.0, b.1 + 1))))
+    go true ih c = unfold when◌then◌else◌ in (one (ltb 0 (x / 2)) (usable (bits_is 7 (7 * row)) (flags 7 (x / 2))) ∙ ap (λ k. need ltb 0 (x / 2) or 7 then need◌or◌then◌ {A = Bits} k 8 (ok (x / 2 * 2 ^ (7 * n), 1))) u)
     go false ih c =
-        unfold if◌then◌else◌ in
+        unfold when◌then◌else◌ in
         (more (usable (bits_is 7 (7 * row)) (flags 7 (x / 2))) (in_turn (primaries_is n (row + 1)) bs) c
         ∙ ap (λ k. (in_turn (primaries_is n (row + 1)) bs >>= bits_of n bs) >>= (λ (b : Bits). need◌or◌then◌ {A = Bits} k 8 (ok (x / 2 * 2 ^ (7 * n) + b.0, b.1 + 1)))) u
         ∙ ap (λ m. m >>= (λ (b : Bits). need◌or◌then◌ {A = Bits} (known row (x / 2)) 8 (ok (x / 2 * 2 ^ (7 * n) + b.0, b.1 + 1)))) ih)

@@ -12,7 +12,7 @@ use lib.Dec.{eqb, lit≤}
 use lib.Pow.{pow-add, pow_mono, pow_pos}
 use lib.ListN.{length, drop, get_or}
 use borrow.Author.Tests.{lt-ltb, eq-eqb, ne_eqb, not-true, not-false}
-use Rattle.rules.specs.Answer.{Answer, ok, refused, ◌>>=◌, need◌or◌then◌, if◌then◌else◌}
+use Rattle.rules.specs.Answer.{Answer, ok, refused, ◌>>=◌, need◌or◌then◌, when◌then◌else◌}
 use Rattle.rules.proofs.AnswerLaws.{Octets, ok_inj, refused_ok, bind_elim, need_elim, if_inv, if_true, if_false}
 use Rattle.rules.specs.Catalogue.{categories}
 use Rattle.tables.specs.Tables.{primary_count, primaries, layouts}
@@ -92,12 +92,12 @@ module _ (row left x : ℕ) {m : Answer Bits} where
 -- ---- all of them
 
 pub primary_small : (row left : ℕ) (bs : List ℕ) → Octets bs → Small left (primary row left bs)
-unfolding primary if◌then◌else◌
+unfolding primary when◌then◌else◌
 primary_small row zero bs o = tt
 primary_small row (suc left) [] o = tt
 primary_small row (suc left) (x ∷ bs) o = go (eqb (x % 2) 0) (primary_small (row + 1) left bs o.1)
   where
-    go : (t : Bool) → Small left (primary (row + 1) left bs) → Small (suc left) (if t then last_of row left x else before_of row left x (primary (row + 1) left bs))
+    go : (t : Bool) → Small left (primary (row + 1) left bs) → Small (suc left) (when t then last_of row left x else before_of row left x (primary (row + 1) left bs))
     go true s = small_last row left x o.0
     go false s = small_before row left x (primary (row + 1) left bs) o.0 s
 
@@ -128,12 +128,12 @@ primary_cut row (suc left) (x ∷ bs) h e = absurd (omega arith)
 
 module _ (row left : ℕ) (bs : List ℕ) (h : left ≡ 0 → ⊥) (some : length bs ≡ 0 → ⊥) where
   primary_cons : primary row left bs
-      ≡ (if eqb (get_or bs 0 0 % 2) 0 then last_of row (left - 1) (get_or bs 0 0) else before_of row (left - 1) (get_or bs 0 0) (primary (row + 1) (left - 1) (drop 1 bs)))
+      ≡ (when eqb (get_or bs 0 0 % 2) 0 then last_of row (left - 1) (get_or bs 0 0) else before_of row (left - 1) (get_or bs 0 0) (primary (row + 1) (left - 1) (drop 1 bs)))
   unfolding primary
   primary_cons = go left bs h some
     where
       go : (n : ℕ) (us : List ℕ) → (n ≡ 0 → ⊥) → (length us ≡ 0 → ⊥) → primary row n us
-          ≡ (if eqb (get_or us 0 0 % 2) 0 then last_of row (n - 1) (get_or us 0 0) else before_of row (n - 1) (get_or us 0 0) (primary (row + 1) (n - 1) (drop 1 us)))
+          ≡ (when eqb (get_or us 0 0 % 2) 0 then last_of row (n - 1) (get_or us 0 0) else before_of row (n - 1) (get_or us 0 0) (primary (row + 1) (n - 1) (drop 1 us)))
       go zero us p q = absurd (p refl)
       go (suc n) [] p q = absurd (q refl)
       go (suc n) (x ∷ us) p q = let e : suc n - 1 ≡ n = omega arith in rw e

@@ -7,7 +7,7 @@ use native.Mathlib.Omega.{arith}
 use lib.Dec.{eqb}
 use lib.ListN.{drop}
 use borrow.Author.Tests.{ne_eqb}
-use Rattle.rules.specs.Answer.{Answer, ok, refused, ◌>>=◌, if◌then◌else◌}
+use Rattle.rules.specs.Answer.{Answer, ok, refused, ◌>>=◌, when◌then◌else◌}
 use Rattle.rules.specs.Presence.{flags}
 use Rattle.rules.specs.Layout.{at_start}
 use Rattle.rules.proofs.AnswerLaws.{Only, only_bind, only_need, only_if, ok_inj, refused_ok, bind_in, bind_out, bind_assoc, if_true, if_false}
@@ -52,9 +52,9 @@ module _ (l : LayoutRow) (bs : List ℕ) where
           let w : p ≡ 0 = cc in
           ap₂ refused (sym z) (f ∙ sym w)
 
-      go : (t : Bool) → refused n p ≡ (if t then size_from 0 (compound_read l bs) else whole_of l bs) → (if t then compound_read l bs else plain_read false l bs) ≡ refused n p
-      go true e = unfold if◌then◌else◌ in (compound_refused (compound_read l bs) (compound_first l bs) (e ∙ (unfold if◌then◌else◌ in refl)))
-      go false e = unfold if◌then◌else◌ plain_read in (bind_out _ (sym (e ∙ (unfold if◌then◌else◌ in refl))))
+      go : (t : Bool) → refused n p ≡ (when t then size_from 0 (compound_read l bs) else whole_of l bs) → (when t then compound_read l bs else plain_read false l bs) ≡ refused n p
+      go true e = unfold when◌then◌else◌ in (compound_refused (compound_read l bs) (compound_first l bs) (e ∙ (unfold when◌then◌else◌ in refl)))
+      go false e = unfold when◌then◌else◌ plain_read in (bind_out _ (sym (e ∙ (unfold when◌then◌else◌ in refl))))
 
   -- read, with so many octets
   pub record ReadTo (long : ℕ) : Type 0 where
@@ -70,12 +70,12 @@ module _ (l : LayoutRow) (bs : List ℕ) where
       compound_read_lem (ok x) e = (x, refl, (let d : ◌≡◌ {A = Shaped} (c, long) (0, 0 + x.1) = ok_inj e in let z : long ≡ 0 + x.1 = ap (λ s. s.1) d in omega arith))
       compound_read_lem (refused a b) e = refused_ok (sym e)
 
-      go : (t : Bool) → eqb l.kind 5 ≡ t → ok (c, long) ≡ (if t then size_from 0 (compound_read l bs) else whole_of l bs) → ReadTo long
+      go : (t : Bool) → eqb l.kind 5 ≡ t → ok (c, long) ≡ (when t then size_from 0 (compound_read l bs) else whole_of l bs) → ReadTo long
       go true e h =
-          let r = compound_read_lem (compound_read l bs) (h ∙ (unfold if◌then◌else◌ in refl)) in
+          let r = compound_read_lem (compound_read l bs) (h ∙ (unfold when◌then◌else◌ in refl)) in
           record { told = r.0; is_read = if_true _ e r.1; octets = r.2 }
       go false e h =
-          record { told = (part_fields false l c bs, long); is_read = if_false _ e (unfold plain_read in (bind_in _ (sym (h ∙ (unfold if◌then◌else◌ in refl))) refl)); octets = refl }
+          record { told = (part_fields false l c bs, long); is_read = if_false _ e (unfold plain_read in (bind_in _ (sym (h ∙ (unfold when◌then◌else◌ in refl))) refl)); octets = refl }
 
   -- so how many octets it takes
   pub size_read : (c long : ℕ) → ok (c, long) ≡ shaped l bs → ok long ≡ item_size l bs

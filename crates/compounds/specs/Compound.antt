@@ -5,7 +5,7 @@
 use Rattle.std.specs.Prelude.{ℕ, zero, suc, ◌+◌, ◌-◌, ◌*◌, ◌/◌, ◌%◌, ◌^◌, ◌<◌, ◌≤◌, ◌≡◌, Bool, true, false, cond, ◌&&◌, List, [], ◌∷◌, ◌++◌, leb, ltb, eqb, ℤ, pos, length, drop, replicate}
 use Rattle.std.specs.Int.Bits.{bit_and}
 use Rattle.std.proofs.lemmas.List.Edits.{sets}
-use Rattle.rules.specs.Answer.{Answer, ok, refused, ◌>>=◌, need◌or◌then◌, if◌then◌else◌}
+use Rattle.rules.specs.Answer.{Answer, ok, refused, ◌>>=◌, need◌or◌then◌, when◌then◌else◌}
 use Rattle.rules.specs.Chain.{flatten}
 use Rattle.rules.specs.Presence.{flags}
 use Rattle.rules.specs.Layout.{at_start}
@@ -50,7 +50,7 @@ unfoldable pub primary : ℕ → ℕ → List ℕ → Answer Bits
 primary row zero bs = refused 6 0
 primary row (suc left) [] = refused 9 0
 primary row (suc left) (x ∷ bs) =
-    if eqb (x % 2) 0
+    when eqb (x % 2) 0
     then last_of row left x
     else before_of row left x (primary (row + 1) left bs)
 
@@ -104,7 +104,7 @@ compound_read l bs = do
   ok (vs, k + n)
 
 unfoldable pub item_read : LayoutRow → List ℕ → Answer Told
-item_read l bs = if eqb l.kind 5 then compound_read l bs else plain_read false l bs
+item_read l bs = when eqb l.kind 5 then compound_read l bs else plain_read false l bs
 
 -- how many octets
 unfoldable pub item_size : LayoutRow → List ℕ → Answer ℕ
@@ -118,7 +118,7 @@ size_from k (ok x) = ok (0, k + x.1)
 size_from k (refused n p) = refused n 0
 
 unfoldable pub shaped : LayoutRow → List ℕ → Answer Shaped
-shaped l bs = if eqb l.kind 5 then size_from 0 (compound_read l bs) else whole_of l bs
+shaped l bs = when eqb l.kind 5 then size_from 0 (compound_read l bs) else whole_of l bs
 
 -- so many parts were read
 abbrev pub Fits : LayoutRow → List ℕ → ℕ → Type 0

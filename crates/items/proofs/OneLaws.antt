@@ -12,7 +12,7 @@ use lib.Dec.{eqb, leb}
 use lib.IntN.{ℤ}
 use lib.ListN.{length, length-append}
 use borrow.Author.Tests.{ne_eqb, le-leb, lt-leb}
-use Rattle.rules.specs.Answer.{Answer, ok, refused, ◌>>=◌, need◌or◌then◌, if◌then◌else◌, expect◌or◌, later}
+use Rattle.rules.specs.Answer.{Answer, ok, refused, ◌>>=◌, need◌or◌then◌, when◌then◌else◌, expect◌or◌, later}
 use Rattle.rules.specs.Chain.{flatten}
 use Rattle.rules.specs.Layout.{Layout, Values, read_item, write_item}
 use Rattle.rules.specs.FieldList.{field_list, read_fields}
@@ -42,13 +42,13 @@ use Rattle.items.proofs.PlaceLaws.{Found, found, found_place, missed}
 -- the places of the category are those at its index
 profile_layout : (n ref : ℕ) (cs : List Category)
     → ((expect category_of n cs or 21) >>= (λ c. expect layout_as ref (places c) or 21)) ≡ (expect layout_as ref (flatten (profile_at cs (profile_in n cs))) or 21)
-unfolding category_of profile_in expect◌or◌ if◌then◌else◌ ◌>>=◌
+unfolding category_of profile_in expect◌or◌ when◌then◌else◌ ◌>>=◌
 profile_layout n ref [] = refl
 profile_layout n ref (c ∷ cs) = go (eqb n c.cat) (profile_layout n ref cs)
   where
     go : (t : Bool) → ((expect category_of n cs or 21) >>= (λ c. expect layout_as ref (places c) or 21)) ≡ (expect layout_as ref (flatten (profile_at cs (profile_in n cs))) or 21)
-        → ((expect (if t then some c else category_of n cs) or 21) >>= (λ c. expect layout_as ref (places c) or 21))
-        ≡ (expect layout_as ref (flatten (profile_at (c ∷ cs) (if t then 0 else suc (profile_in n cs)))) or 21)
+        → ((expect (when t then some c else category_of n cs) or 21) >>= (λ c. expect layout_as ref (places c) or 21))
+        ≡ (expect layout_as ref (flatten (profile_at (c ∷ cs) (when t then 0 else suc (profile_in n cs)))) or 21)
     go true h = refl
     go false h = h
 

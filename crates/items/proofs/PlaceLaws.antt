@@ -12,7 +12,7 @@ use native.Mathlib.Nat.{not-suc-le-zero}
 use lib.Dec.{eqb, lit≤}
 use lib.ListN.{length, get_or, drop, drop_of_length-le}
 use borrow.Author.Tests.{ne_eqb}
-use Rattle.rules.specs.Answer.{if◌then◌else◌}
+use Rattle.rules.specs.Answer.{when◌then◌else◌}
 use Rattle.rules.specs.Chain.{flatten}
 use Rattle.rules.specs.Layout.{Layout}
 use Rattle.rules.proofs.AnswerLaws.{if_inv, if_true, if_false, some_inj, none_some}
@@ -40,20 +40,20 @@ pub place_named : (ref : ℕ) (r : PlaceRow) → r.layout < layout_count → is_
 unfolding place_is
 place_named ref r h = named_with ref r.reference (layout_is (layout_at r.layout)) ∙ ap (λ t. t && eqb ref r.reference) (present_layout r.layout h)
 
-reference_with : (n : ℕ) (x : Option Layout) → reference_in (with n x) ≡ (if present x then n else 0)
-unfolding if◌then◌else◌
+reference_with : (n : ℕ) (x : Option Layout) → reference_in (with n x) ≡ (when present x then n else 0)
+unfolding when◌then◌else◌
 reference_with n none = refl
 reference_with n (some l) = refl
 
-pub place_reference : (r : PlaceRow) → r.layout < layout_count → reference_in (place_is r) ≡ (if not (eqb r.layout 0) then r.reference else 0)
+pub place_reference : (r : PlaceRow) → r.layout < layout_count → reference_in (place_is r) ≡ (when not (eqb r.layout 0) then r.reference else 0)
 unfolding place_is
-place_reference r h = reference_with r.reference (layout_is (layout_at r.layout)) ∙ ap (λ t. if t then r.reference else 0) (present_layout r.layout h)
+place_reference r h = reference_with r.reference (layout_is (layout_at r.layout)) ∙ ap (λ t. when t then r.reference else 0) (present_layout r.layout h)
 
 -- ---- the search for a reference
 
 frn_step : (ref k : ℕ) (ps : List (Option Place)) (j : ℕ)
-    → frn_as ref k (drop j ps) ≡ (if is_named ref (get_or ps j none) then some k else frn_as ref (k + 1) (drop (suc j) ps))
-unfolding frn_as if◌then◌else◌
+    → frn_as ref k (drop j ps) ≡ (when is_named ref (get_or ps j none) then some k else frn_as ref (k + 1) (drop (suc j) ps))
+unfolding frn_as when◌then◌else◌
 frn_step ref k [] zero = refl
 frn_step ref k [] (suc j) = refl
 frn_step ref k (p ∷ ps) zero = refl
@@ -69,7 +69,7 @@ pub seek_first : (ref p : ℕ) → Seeking ref p 1
 seek_first ref p = record { some = lit≤ tt; few = lit≤ tt; same = refl }
 
 seek_at_lem : (ref p f : ℕ) → Seeking ref p f
-    → frn_as ref 1 (flatten (profile_at categories p)) ≡ (if is_named ref (place_at (profile_at categories p) f) then some f else frn_as ref (f + 1) (drop (f + 1 - 1) (flatten (profile_at categories p))))
+    → frn_as ref 1 (flatten (profile_at categories p)) ≡ (when is_named ref (place_at (profile_at categories p) f) then some f else frn_as ref (f + 1) (drop (f + 1 - 1) (flatten (profile_at categories p))))
 seek_at_lem ref p zero s = absurd (not-suc-le-zero s.some)
 seek_at_lem ref p (suc j) s =
     let e : suc j - 1 ≡ j = omega arith in
@@ -77,11 +77,11 @@ seek_at_lem ref p (suc j) s =
     sym s.same ∙ rw (e, d) (frn_step ref (suc j) (flatten (profile_at categories p)) j)
 
 pub seek_found : (ref p f : ℕ) → Seeking ref p f → is_named ref (place_at (profile_at categories p) f) ≡ true → some f ≡ frn_as ref 1 (flatten (profile_at categories p))
-unfolding if◌then◌else◌
+unfolding when◌then◌else◌
 seek_found ref p f s e = sym (seek_at_lem ref p f s ∙ rw e)
 
 pub seek_next : (ref p f : ℕ) → Seeking ref p f → f < frn_count → is_named ref (place_at (profile_at categories p) f) ≡ false → Seeking ref p (f + 1)
-unfolding if◌then◌else◌
+unfolding when◌then◌else◌
 seek_next ref p f s h e = record { some = omega arith; few = omega arith; same = sym (seek_at_lem ref p f s ∙ rw e) }
 
 pub seek_end : (ref p f : ℕ) → Seeking ref p f → frn_count ≤ f → none ≡ frn_as ref 1 (flatten (profile_at categories p))

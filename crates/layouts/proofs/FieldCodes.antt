@@ -14,7 +14,7 @@ use lib.Signed.{le_z}
 use borrow.Author.Tests.{lt-ltb, le-ltb}
 use mir.Syntax.{w64}
 use mir.Val.{to_z, of_z}
-use Rattle.rules.specs.Answer.{Answer, ok, ◌>>=◌, need◌or◌then◌, if◌then◌else◌}
+use Rattle.rules.specs.Answer.{Answer, ok, ◌>>=◌, need◌or◌then◌, when◌then◌else◌}
 use Rattle.rules.specs.Field.{Field, Kind, spare, value, unsigned, signed, bits, half, get, unpack}
 use Rattle.tables.specs.declared.tables.FieldRow.{FieldRow}
 use Rattle.tables.specs.Tables.{minus, field_row}
@@ -76,7 +76,7 @@ and_last false = refl
 -- reading a code is a test of its value
 get_signed : (w c lo hi : ℕ) (t : Bool) → 1 ≤ w → c < 2 ^ w → ltb c (half w) ≡ t
     → get w (signed lo hi) c ≡ (need within (field_row (value w (signed lo hi))) (twos_of w c) or 11 then ok (twos_of w c))
-unfolding get within twos_of if◌then◌else◌ need◌or◌then◌
+unfolding get within twos_of when◌then◌else◌ need◌or◌then◌
 get_signed w c lo hi true h k e = rw (e, low_minus lo c)
 get_signed w c lo hi false h k e =
     let b : c < half w + half w = subst (λ x. c < x) (sym (twice w h)) k in

@@ -17,7 +17,7 @@ use lib.ListN.{length, get_or, take, drop, replicate, length-drop, length-map, l
 use lib.Seq.{slice, slice-cons, slice_empty, drop-drop, length-take-le}
 use lib.Pow.{shr_lt}
 use borrow.Author.Tests.{le-leb, lt-leb, lt-ltb, le-ltb, leb-true, leb-false, eqb-true}
-use Rattle.rules.specs.Answer.{Answer, ok, refused, ◌>>=◌, need◌or◌then◌, if◌then◌else◌}
+use Rattle.rules.specs.Answer.{Answer, ok, refused, ◌>>=◌, need◌or◌then◌, when◌then◌else◌}
 use Rattle.rules.specs.Field.{Field, Kind, spare, value, unsigned, signed, any, bits, half, get, unpack}
 use Rattle.rules.specs.Chain.{joined, read_num, read_many, read_chain}
 use Rattle.rules.specs.Format.{Group, Format, fixed, repeated, led, extended, read_parts, groups, least, unpack_all, read_plain}
@@ -204,11 +204,11 @@ eleven_bind m f (fine a e) h = rw e (h a)
 eleven_bind m f (eleven e) h = rw e (eleven refl)
 
 eleven_get : (w c : ℕ) (k : Kind) → Eleven (get w k c)
-unfolding get if◌then◌else◌
+unfolding get when◌then◌else◌
 eleven_get w c (unsigned lo hi) = eleven_need _ _ (eleven_need _ _ (fine _ refl))
 eleven_get w c (signed lo hi) = go (ltb c (half w))
   where
-    go : (t : Bool) → Eleven (if t then need leb c hi or 11 then ok (pos c) else need ltb c (half w + half w) or 11 then need ltb (half w + half w - suc c) lo or 11 then ok (negsuc (half w + half w - suc c)))
+    go : (t : Bool) → Eleven (when t then need leb c hi or 11 then ok (pos c) else need ltb c (half w + half w) or 11 then need ltb (half w + half w - suc c) lo or 11 then ok (negsuc (half w + half w - suc c)))
     go true = eleven_need _ _ (fine _ refl)
     go false = eleven_need _ _ (eleven_need _ _ (fine _ refl))
 
@@ -330,7 +330,7 @@ chain_next g bs (ok s) =
 chain_next g bs (refused n p) = refl
 
 chain_is : (n g e : ℕ) (bs : List ℕ) → g + n ≡ e → e ≤ group_count → read_chain 9 6 (map (λ x. x.size) (slice g e all_groups)) bs ≡ (chain g n bs >>= chain_parts g bs)
-unfolding chain read_chain read_num chain_parts part_numbers ◌>>=◌ need◌or◌then◌ if◌then◌else◌
+unfolding chain read_chain read_num chain_parts part_numbers ◌>>=◌ need◌or◌then◌ when◌then◌else◌
 chain_is zero g e bs h k =
     let j : g ≡ e = omega arith in
     rw (j, slice_empty e all_groups)
@@ -344,9 +344,9 @@ chain_is (suc n) g e bs h k =
     (le_or_lt j (length bs)))
   where
     go : (t : Bool) → read_chain 9 6 (map (λ x. x.size) (slice (g + 1) e all_groups)) (drop (group_at g).octets bs) ≡ (chain (g + 1) n (drop (group_at g).octets bs) >>= chain_parts (g + 1) (drop (group_at g).octets bs))
-        → (if t then ok (part_at 1 g bs ∷ [], drop (group_at g).octets bs)
+        → (when t then ok (part_at 1 g bs ∷ [], drop (group_at g).octets bs)
         else ◌>>=◌ {B = List ℕ × List ℕ} (read_chain 9 6 (map (λ x. x.size) (slice (g + 1) e all_groups)) (drop (group_at g).octets bs)) (λ x. ok (part_at 1 g bs ∷ x.0, x.1)))
-        ≡ ((if t then ok (1, (group_at g).octets) else ◌>>=◌ {B = Shaped} (chain (g + 1) n (drop (group_at g).octets bs)) (λ s. ok (s.0 + 1, s.1 + (group_at g).octets))) >>= chain_parts g bs)
+        ≡ ((when t then ok (1, (group_at g).octets) else ◌>>=◌ {B = Shaped} (chain (g + 1) n (drop (group_at g).octets bs)) (λ s. ok (s.0 + 1, s.1 + (group_at g).octets))) >>= chain_parts g bs)
     go true r = refl
     go false r = rw r (chain_next g bs (chain (g + 1) n (drop (group_at g).octets bs)))
 

@@ -11,7 +11,7 @@ use lib.Dec.{leb, ltb, eqb, lit≤}
 use lib.ListN.{length, get_or, take, drop, length-drop}
 use lib.Seq.{slice, drop-drop, get_or-drop}
 use borrow.Author.Tests.{le-leb, lt-leb, le-ltb, lt-ltb, leb-true, eqb-true}
-use Rattle.rules.specs.Answer.{Answer, ok, refused, ◌>>=◌, need◌or◌then◌, if◌then◌else◌}
+use Rattle.rules.specs.Answer.{Answer, ok, refused, ◌>>=◌, need◌or◌then◌, when◌then◌else◌}
 use Rattle.rules.specs.Chain.{joined}
 use Rattle.rules.proofs.AnswerLaws.{both_left, both_right}
 use Rattle.tables.specs.declared.tables.LayoutRow.{LayoutRow}
@@ -49,7 +49,7 @@ chain_begun first last s h =
 chain_cons : (g n : ℕ) (bs : List ℕ) → 0 < n
     → chain g n bs
     ≡ (need leb (group_at g).octets (length bs) or 9 then
-    if eqb (joined (take (group_at g).octets bs) % 2) 0 then ok (1, (group_at g).octets)
+    when eqb (joined (take (group_at g).octets bs) % 2) 0 then ok (1, (group_at g).octets)
     else chain (g + 1) (n - 1) (drop (group_at g).octets bs) >>= moved 1 (group_at g).octets)
 unfolding chain
 chain_cons g zero bs h = absurd (not-suc-le-zero h)
@@ -73,7 +73,7 @@ module _ (first last : ℕ) (s : List ℕ) (g at count : ℕ) (c : Chaining firs
 
   whole : chain first (last - first) s
       ≡ ((need leb (m) (length (drop at s)) or 9 then
-      if eqb (joined (take (m) (drop at s)) % 2) 0 then ok (1, m)
+      when eqb (joined (take (m) (drop at s)) % 2) 0 then ok (1, m)
       else chain (g + 1) (last - g - 1) (drop (m) (drop at s)) >>= moved 1 (m)) >>= moved count at)
   whole = sym c.same ∙ ap (λ m. m >>= moved count at) (rw em (chain_cons g (last - g) (drop at s) (omega arith)))
 
@@ -93,14 +93,14 @@ module _ (first last : ℕ) (s : List ℕ) (g at count : ℕ) (c : Chaining firs
         low_bit (drop at s) (m) (chain_some) (omega (arith, length-drop at s)) ∙ ap (λ x. x % 2) (get_or-drop at s (m - 1) 0 ∙ ap (λ i. get_or s i 0) e)
 
     pub chain_last : eqb (get_or s (at + m - 1) 0 % 2) 0 ≡ true → ok (count + 1, at + m) ≡ chain first (last - first) s
-    unfolding need◌or◌then◌ ◌>>=◌ if◌then◌else◌
+    unfolding need◌or◌then◌ ◌>>=◌ when◌then◌else◌
     chain_last e =
         let a : 1 + count ≡ count + 1 = omega arith in
         let b : m + at ≡ at + m = omega arith in
         sym (whole ∙ rw (long, bit, e, a, b))
 
     pub chain_more : eqb (get_or s (at + m - 1) 0 % 2) 0 ≡ false → Chaining first last s (g + 1) (at + m) (count + 1)
-    unfolding need◌or◌then◌ if◌then◌else◌
+    unfolding need◌or◌then◌ when◌then◌else◌
     chain_more e =
         let n : last - g - 1 ≡ last - (g + 1) = omega arith in
         record {

@@ -3,7 +3,7 @@
 use Rattle.std.specs.Prelude.{ℕ, zero, suc, ◌+◌, ◌-◌, ◌*◌, ◌/◌, ◌%◌, ◌^◌, Bool, true, false, cond, ◌&&◌, List, [], ◌∷◌, map, leb, ltb, eqb, ℤ, pos, negsuc, length, take, drop, get_or}
 use Rattle.std.specs.Int.Signed.{le_z}
 use Rattle.std.proofs.Math.Seq.{slice}
-use Rattle.rules.specs.Answer.{Answer, ok, refused, ◌>>=◌, need◌or◌then◌, if◌then◌else◌, Read}
+use Rattle.rules.specs.Answer.{Answer, ok, refused, ◌>>=◌, need◌or◌then◌, when◌then◌else◌, Read}
 use Rattle.rules.specs.Field.{Field, spare, value, unsigned, signed}
 use Rattle.rules.specs.Chain.{joined}
 use Rattle.rules.specs.Format.{PartValues}
@@ -117,7 +117,7 @@ unfoldable pub chain : ℕ → ℕ → List ℕ → Answer Shaped
 chain g zero bs = refused 6 0
 chain g (suc n) bs =
     need leb (group_at g).octets (length bs) or 9 then
-    if eqb (joined (take (group_at g).octets bs) % 2) 0
+    when eqb (joined (take (group_at g).octets bs) % 2) 0
     then ok (1, (group_at g).octets)
     else chain (g + 1) n (drop (group_at g).octets bs) >>= λ s. ok (s.0 + 1, s.1 + (group_at g).octets)
 

@@ -13,7 +13,7 @@ use native.Mathlib.Nat.{div-eq_of_lt}
 use lib.Dec.{eqb, ltb}
 use lib.ListN.{length}
 use borrow.Author.Tests.{ltb-true, eqb-true, eq-eqb, ne_eqb}
-use Rattle.rules.specs.Answer.{ok, if◌then◌else◌}
+use Rattle.rules.specs.Answer.{ok, when◌then◌else◌}
 use Rattle.rules.specs.Field.{Field, spare, value, unsigned, signed}
 use Rattle.rules.specs.Format.{fixed, repeated, led, extended}
 use Rattle.rules.specs.Layout.{Layout, plain, compound, Values, item, write_item}
@@ -84,7 +84,7 @@ abbrev sound_time : Category → Bool
 sound_time c = or_no_item spelling (layout_as 0 (places c)) && (or_no_item (number_layout 3) (layout_as c.time (places c)) && typed_with c.untimed (frn_in 0 c))
 
 tables_timed : every_category sound_time categories ≡ true
-unfolding categories frn_as if◌then◌else◌
+unfolding categories frn_as when◌then◌else◌
 tables_timed = refl
 
 module _ (i : ℕ) where

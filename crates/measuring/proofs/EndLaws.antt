@@ -16,7 +16,7 @@ use lib.Dec.{leb, eqb, ltb}
 use lib.ListN.{length, get_or, take, drop, length-drop, drop_of_length-le}
 use lib.Seq.{get_or-drop}
 use borrow.Author.Tests.{leb-true, ltb-true, eqb-true, le-leb, lt-leb, eq-eqb, ne_eqb}
-use Rattle.rules.specs.Answer.{Answer, ok, refused, if◌then◌else◌}
+use Rattle.rules.specs.Answer.{Answer, ok, refused, when◌then◌else◌}
 use Rattle.rules.specs.Presence.{flags}
 use Rattle.rules.specs.Catalogue.{categories}
 use Rattle.rules.proofs.AnswerLaws.{if_true, if_false, both_left, both_right, Octets, octets_drop, to_end}
@@ -59,7 +59,7 @@ octets_by_lem (suc (suc (suc (suc k)))) n x l h = omega arith
 
 -- as many as its first octet tells, or no more than there are
 octets_most : (i f : ℕ) (bs : List ℕ) → Octets bs → (octets_at i f bs ≤ 65_026) ⊎ (octets_at i f bs ≤ length bs)
-unfolding octets_at if◌then◌else◌
+unfolding octets_at when◌then◌else◌
 octets_most i f bs o = go (is_place i f) refl
   where
     asked : (a : Answer ℕ) → check_at i f bs ≡ a → size_or0 a ≤ length bs
@@ -76,13 +76,13 @@ octets_most i f bs o = go (is_place i f) refl
         (all_below_lem profile_count (λ j. all_below frn_count (λ g. leb (group_at (row_of j g).first).octets 255)) i few_at j) k)) (octet_at bs o 0)
 
     by : is_place i f ≡ true → (t : Bool)
-        → ((if t then row_octets (row_of i f) (get_or bs 0 0) else size_or0 (check_at i f bs)) ≤ 65_026) ⊎ ((if t then row_octets (row_of i f) (get_or bs 0 0) else size_or0 (check_at i f bs)) ≤ length bs)
+        → ((when t then row_octets (row_of i f) (get_or bs 0 0) else size_or0 (check_at i f bs)) ≤ 65_026) ⊎ ((when t then row_octets (row_of i f) (get_or bs 0 0) else size_or0 (check_at i f bs)) ≤ length bs)
     by e true = inl (told e)
     by e false = inr (asked (check_at i f bs) refl)
 
     go : (p : Bool) → is_place i f ≡ p
-        → ((if p && row_tells (row_of i f) then row_octets (row_of i f) (get_or bs 0 0) else size_or0 (check_at i f bs)) ≤ 65_026)
-        ⊎ ((if p && row_tells (row_of i f) then row_octets (row_of i f) (get_or bs 0 0) else size_or0 (check_at i f bs)) ≤ length bs)
+        → ((when p && row_tells (row_of i f) then row_octets (row_of i f) (get_or bs 0 0) else size_or0 (check_at i f bs)) ≤ 65_026)
+        ⊎ ((when p && row_tells (row_of i f) then row_octets (row_of i f) (get_or bs 0 0) else size_or0 (check_at i f bs)) ≤ length bs)
     go true e = by e (row_tells (row_of i f))
     go false e = inr (asked (check_at i f bs) refl)
 

@@ -13,7 +13,7 @@ use lib.ListN.{length, get_or, drop}
 use mir.Syntax.{w8}
 use mir.Val.{Fits}
 use borrow.Author.Tests.{leb-true, ltb-true, eqb-true, eq-eqb, ne_eqb, le-leb}
-use Rattle.rules.specs.Answer.{Answer, ok, refused, if◌then◌else◌}
+use Rattle.rules.specs.Answer.{Answer, ok, refused, when◌then◌else◌}
 use Rattle.rules.specs.Presence.{flags}
 use Rattle.rules.proofs.AnswerLaws.{if_true, if_false, both_left, both_right}
 use Rattle.rules.specs.Catalogue.{categories}
@@ -125,7 +125,7 @@ starts_at_lem i f bits used at bs h =
 
 -- by the places of the time, 0 where there is none, and of the message type, and one more than the untimed type
 abbrev pub time_by : ℕ → ℕ → ℕ → List ℕ → Option ℕ
-time_by at kind untimed bs = if eqb at 0 then none else if eqb (get_or bs kind 0 + 1) untimed then none else clock_at bs at
+time_by at kind untimed bs = when eqb at 0 then none else when eqb (get_or bs kind 0 + 1) untimed then none else clock_at bs at
 
 time_at_lem : (i bits used at kind untimed : ℕ) (bs : List ℕ) → time_at i bits used at kind untimed ≡ true → time_in i bits bs used ≡ time_by at kind untimed bs
 unfolding time_in
@@ -133,7 +133,7 @@ time_at_lem i bits used at kind untimed bs h = go (is_in (time_frn i) bits) h
   where
     go : (t : Bool)
         → cond t (ltb 0 at && starts_at i (time_frn i) bits used at && starts_at i (type_frn i) bits used kind && eqb untimed (profile_row_at i).untimed) (eqb at 0) ≡ true
-        → (if t then if is_untimed i (get_or bs (start_of i (type_frn i) bits bs used) 0) then none else clock_at bs (start_of i (time_frn i) bits bs used) else none)
+        → (when t then when is_untimed i (get_or bs (start_of i (type_frn i) bits bs used) 0) then none else clock_at bs (start_of i (time_frn i) bits bs used) else none)
         ≡ time_by at kind untimed bs
     go false e = if_false _ refl (sym (if_true _ e refl))
     go true e =
@@ -145,9 +145,9 @@ time_at_lem i bits used at kind untimed bs h = go (is_in (time_frn i) bits) h
         let e₂ : a && b ≡ true = both_left (a && b) c e₁ in
         let some : at ≡ 0 → ⊥ = λ z. omega (arith, z, ltb-true 0 at (both_left a b e₂)) in
         if_true _ refl
-        (ap₂ (λ x y. if is_untimed i (get_or bs x 0) then none else clock_at bs y) (starts_at_lem i (type_frn i) bits used kind bs (both_right (a && b) c e₁))
+        (ap₂ (λ x y. when is_untimed i (get_or bs x 0) then none else clock_at bs y) (starts_at_lem i (type_frn i) bits used kind bs (both_right (a && b) c e₁))
         (starts_at_lem i (time_frn i) bits used at bs (both_right a b e₂))
-        ∙ ap (λ u. if u then none else clock_at bs at) (sym (untimed_told i (eqb-true _ _ (both_right (a && b && c) d e)) (get_or bs kind 0)))
+        ∙ ap (λ u. when u then none else clock_at bs at) (sym (untimed_told i (eqb-true _ _ (both_right (a && b && c) d e)) (get_or bs kind 0)))
         ∙ sym (if_false _ (ne_eqb at 0 some) refl))
 
 -- as the code finds it

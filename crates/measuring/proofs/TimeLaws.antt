@@ -10,7 +10,7 @@ use native.Mathlib.Omega.{arith}
 use lib.ListN.{length, get_or, drop, length-append, get_or-append}
 use lib.Seq.{get_or-append-add}
 use borrow.Author.Tests.{le-leb}
-use Rattle.rules.specs.Answer.{ok, if◌then◌else◌, octets_of}
+use Rattle.rules.specs.Answer.{ok, when◌then◌else◌, octets_of}
 use Rattle.rules.specs.Chain.{flatten, joined}
 use Rattle.rules.specs.Layout.{Layout, Values, write_item}
 use Rattle.rules.specs.Presence.{has}
@@ -84,8 +84,8 @@ same_type bs t s kind (some v) (there w u z l q) e us =
     ap (λ k. has k us) (ap (λ k. get_or bs k 0) (sym d) ∙ lies_at l 0 (omega (arith, q.size))) ∙ ap (λ k. is_one_of k us) (sym q.type_is)
 
 same_time : (bs : List ℕ) (t : Bool) (s : ℕ) (x : Option Values) → Seen bs t s (IsNumber 3) x → (k : Bool)
-    → (if t then (if k then none else clock_at bs s) else none) ≡ (if k then none else number_in x)
-unfolding clock_at if◌then◌else◌
+    → (when t then (when k then none else clock_at bs s) else none) ≡ (when k then none else number_in x)
+unfolding clock_at when◌then◌else◌
 same_time bs t s none (absent z) true = rw z
 same_time bs t s none (absent z) false = rw z
 same_time bs t s (some v) (there w u z l q) true = rw z
@@ -199,7 +199,7 @@ module _ (i : ℕ) (bs : List ℕ) (r : Record) (rest : List ℕ) (o : Octets bs
   time_is =
       bind_elim _ _ split.writes λ s p _.
       bind_elim _ _ p λ kind e _.
-      ap (λ u. if is_in (time_frn i) lay.bits then (if u then none else clock_at bs (start (time_frn i))) else none) (type_known kind e)
+      ap (λ u. when is_in (time_frn i) lay.bits then (when u then none else clock_at bs (start (time_frn i))) else none) (type_known kind e)
       ∙ same_time bs (is_in (time_frn i) lay.bits) (start (time_frn i)) (value_of c.time (items c r)) time_seen
       (is_one_of (type_of (value_of 0 (items c r))) c.untimed)
 

@@ -4,7 +4,7 @@
 -- In order: the items of a set; the time; a record.
 use Rattle.std.specs.Prelude.{ℕ, ◌+◌, ◌-◌, ◌*◌, ◌/◌, ◌%◌, ◌^◌, Bool, true, false, List, [], ◌∷◌, eqb, leb, length, get_or, drop}
 use Rattle.std.proofs.Math.Option.{Option, none, some}
-use Rattle.rules.specs.Answer.{Answer, ok, refused, if◌then◌else◌}
+use Rattle.rules.specs.Answer.{Answer, ok, refused, when◌then◌else◌}
 use Rattle.rules.specs.Presence.{flags, has}
 use Rattle.rules.specs.Catalogue.{categories}
 use Rattle.tables.specs.Profiles.{frn_in}
@@ -42,12 +42,12 @@ abbrev pub is_untimed : ℕ → ℕ → Bool
 is_untimed i kind = has kind (category_at i).untimed
 
 unfoldable pub clock_at : List ℕ → ℕ → Option ℕ
-clock_at bs at = if leb (at + 3) (length bs) then some (get_or bs at 0 * 65_536 + get_or bs (at + 1) 0 * 256 + get_or bs (at + 2) 0) else none
+clock_at bs at = when leb (at + 3) (length bs) then some (get_or bs at 0 * 65_536 + get_or bs (at + 1) 0 * 256 + get_or bs (at + 2) 0) else none
 
 unfoldable pub time_in : ℕ → ℕ → List ℕ → ℕ → Option ℕ
 time_in i bits bs at =
-    if is_in (time_frn i) bits
-    then if is_untimed i (get_or bs (start_of i (type_frn i) bits bs at) 0) then none else clock_at bs (start_of i (time_frn i) bits bs at)
+    when is_in (time_frn i) bits
+    then when is_untimed i (get_or bs (start_of i (type_frn i) bits bs at) 0) then none else clock_at bs (start_of i (time_frn i) bits bs at)
     else none
 
 -- ---- a record
@@ -59,7 +59,7 @@ sized n (some t) = record { size = n; timed = true; time = t }
 -- size 0 where it has no FSPEC of its profile, or ends past the octets
 abbrev pub measure_by : ℕ → List ℕ → Answer (ℕ × ℕ) → Measured
 measure_by i bs (refused n p) = sized 0 none
-measure_by i bs (ok (bits, used)) = if leb (end_of i bits bs used) (length bs) then sized (end_of i bits bs used) (time_in i bits bs used) else sized 0 none
+measure_by i bs (ok (bits, used)) = when leb (end_of i bits bs used) (length bs) then sized (end_of i bits bs used) (time_in i bits bs used) else sized 0 none
 
 unfoldable pub measure_in : ℕ → List ℕ → Measured
 measure_in i bs = measure_by i bs (set_at i bs)

@@ -10,7 +10,7 @@ use native.Mathlib.Omega.{arith}
 use lib.Dec.{eqb, leb, ltb}
 use lib.ListN.{length}
 use borrow.Author.Tests.{eq-eqb, ne_eqb, eqb-true, eqb-false, le-leb, lt-leb, leb-true, lt-ltb, le-ltb, ltb-true, ltb-false}
-use Rattle.rules.specs.Answer.{Answer, ok, refused, if◌then◌else◌}
+use Rattle.rules.specs.Answer.{Answer, ok, refused, when◌then◌else◌}
 use Rattle.rules.specs.Catalogue.{categories}
 use Rattle.rules.proofs.AnswerLaws.{both_left, both_right, Octets}
 use Rattle.measuring.specs.declared.record.Measured.{Measured}
@@ -141,11 +141,11 @@ sized_size n none = refl
 sized_size n (some t) = refl
 
 pub measured_fits : (cat : ℕ) (bs : List ℕ) → (measure_of cat bs).size ≤ length bs
-unfolding measure_of measure_in if◌then◌else◌
+unfolding measure_of measure_in when◌then◌else◌
 measured_fits cat bs = by (set_at (profile_in cat categories) bs)
   where
     go : (i bits used : ℕ) (t : Bool) → leb (end_of i bits bs used) (length bs) ≡ t
-        → (if t then sized (end_of i bits bs used) (time_in i bits bs used) else sized 0 none).size ≤ length bs
+        → (when t then sized (end_of i bits bs used) (time_in i bits bs used) else sized 0 none).size ≤ length bs
     go i bits used true e = rw (sized_size (end_of i bits bs used) (time_in i bits bs used)) (leb-true _ _ e)
     go i bits used false e = omega arith
 
@@ -156,26 +156,26 @@ measured_fits cat bs = by (set_at (profile_in cat categories) bs)
 -- by what was measured
 module _ (n : ℕ) (d : Cursor) (m : Measured) where
   pub by_none : m.size ≡ 0 → end_at n ≡ stood_by n d m
-  unfolding if◌then◌else◌
+  unfolding when◌then◌else◌
   by_none h = rw (eq-eqb m.size 0 h)
 
   pub by_some : (m.size ≡ 0 → ⊥) → record { at = d; size = m.size; timed = m.timed; time = m.time } ≡ stood_by n d m
-  unfolding if◌then◌else◌
+  unfolding when◌then◌else◌
   by_some h = rw (ne_eqb m.size 0 h)
 
 module _ (bs : List ℕ) where
   -- the block that it lies in
   pub at_here : (c : Cursor) → c.place < c.end → c ≡ cursor_at bs c
-  unfolding cursor_at block_at if◌then◌else◌
+  unfolding cursor_at block_at when◌then◌else◌
   at_here c h = rw (lt-ltb c.place c.end h)
 
   module _ (c : Cursor) (h : c.end ≤ c.place) where
     pub at_open : (d : Cursor) → open_at bs c.end ≡ ok d → d ≡ cursor_at bs c
-    unfolding cursor_at block_at if◌then◌else◌
+    unfolding cursor_at block_at when◌then◌else◌
     at_open d e = rw (le-ltb c.place c.end h, e)
 
     pub at_none : (n p : ℕ) → open_at bs c.end ≡ refused n p → end_cursor (length bs) ≡ cursor_at bs c
-    unfolding cursor_at block_at if◌then◌else◌
+    unfolding cursor_at block_at when◌then◌else◌
     at_none n p e = rw (le-ltb c.place c.end h, e)
 
   -- the record in it
@@ -193,11 +193,11 @@ module _ (bs : List ℕ) where
 
   module _ (c : Cursor) where
     pub stand_out : in_log (length bs) c ≡ false → end_at (length bs) ≡ stand_of bs c
-    unfolding stand_of if◌then◌else◌
+    unfolding stand_of when◌then◌else◌
     stand_out h = rw h
 
     pub stand_in : in_log (length bs) c ≡ true → stood_at bs (cursor_at bs c) ≡ stand_of bs c
-    unfolding stand_of if◌then◌else◌
+    unfolding stand_of when◌then◌else◌
     stand_in h = rw h
 
   pub cursor_found : (c : Cursor) (a : Answer Cursor) → a ≡ block_at bs c → found_in (length bs) a ≡ cursor_at bs c
@@ -271,7 +271,7 @@ module _ (bs : List ℕ) where
     enough_by : (f g : ℕ) (c : Cursor) → Outcome c (stand_of bs c) → length bs - c.place < suc f → length bs - c.place < suc g
         → ((d : Cursor) → length bs - d.place < f → length bs - d.place < g → heads_up_to f bs d ≡ heads_up_to g bs d)
         → heads_up_to (suc f) bs c ≡ heads_up_to (suc g) bs c
-    unfolding heads_up_to if◌then◌else◌
+    unfolding heads_up_to when◌then◌else◌
     enough_by f g c (nothing e) p q ih = rw (e, end_none (length bs) (length bs))
     enough_by f g c (there h on) p q ih =
         let s : Standing = stand_of bs c in
@@ -286,16 +286,16 @@ module _ (bs : List ℕ) where
 -- ---- the records from a standing on
 
 pub left_none : (bs : List ℕ) (s : Standing) → is_head (length bs) s ≡ false → left_of bs s ≡ []
-unfolding left_of if◌then◌else◌
+unfolding left_of when◌then◌else◌
 left_none bs s e = rw e
 
 pub left_head : (bs : List ℕ) (s : Standing) → is_head (length bs) s ≡ true → left_of bs s ≡ head_of s ∷ heads_left bs (behind_of s)
-unfolding left_of if◌then◌else◌
+unfolding left_of when◌then◌else◌
 left_head bs s e = rw e
 
 -- what `stand` answers stands for all that still come
 pub stands : (bs : List ℕ) → Octets bs → (c : Cursor) → Stands bs (stand_of bs c) (heads_left bs c)
-unfolding heads_left heads_up_to if◌then◌else◌
+unfolding heads_left heads_up_to when◌then◌else◌
 stands bs o c = by (outcome bs o c)
   where
     by : Outcome bs c (stand_of bs c) → Stands bs (stand_of bs c) (heads_left bs c)

@@ -9,7 +9,7 @@ use lib.Dec.{ltb}
 use lib.ListN.{length, set, get_or, length-append, length-set}
 use lib.Seq.{sets, length-sets, lt-length-set}
 use borrow.Author.Tests.{eq-eqb, ne_eqb, lt-ltb, le-ltb}
-use Rattle.rules.specs.Answer.{if◌then◌else◌}
+use Rattle.rules.specs.Answer.{when◌then◌else◌}
 use Rattle.rules.specs.Entry.{over}
 use Rattle.rules.proofs.AnswerLaws.{Octets}
 use Rattle.layouts.proofs.Stores.{sets_append, sets_over}
@@ -59,11 +59,11 @@ module _ (l : List ℕ) (p a b c d e f : ℕ) (room : p + 6 ≤ length l) where
 
 module _ {A : Type 0} (l : ℕ) (a b : A) where
   pub pick_a : l ≡ 0 → a ≡ pick l a b
-  unfolding pick if◌then◌else◌
+  unfolding pick when◌then◌else◌
   pick_a h = rw (eq-eqb l 0 h)
 
   pub pick_b : (l ≡ 0 → ⊥) → b ≡ pick l a b
-  unfolding pick if◌then◌else◌
+  unfolding pick when◌then◌else◌
   pick_b h = rw (ne_eqb l 0 h)
 
 -- ---- a step, by the number of the log whose record goes
@@ -93,7 +93,7 @@ module _ (as' bs : List ℕ) (m : Merge) where
     after_b : (l ≡ 0 → ⊥) → record { a = m.a; b = stand_of (pick l as' bs) (behind_of (pick l m.a m.b)); turn = m.turn } ≡ (move_of as' bs m).merge
 
   went_a : Goes (some log_a) → Went 0
-  unfolding pick if◌then◌else◌
+  unfolding pick when◌then◌else◌
   went_a e =
       let h : is_head (length as') m.a ≡ true = which_head m.turn (length as') m.a (length bs) m.b log_a (sym e) in
       record {
@@ -106,7 +106,7 @@ module _ (as' bs : List ℕ) (m : Merge) where
       }
 
   went_b : Goes (some log_b) → Went 1
-  unfolding pick if◌then◌else◌
+  unfolding pick when◌then◌else◌
   went_b e =
       let h : is_head (length bs) m.b ≡ true = which_head m.turn (length as') m.a (length bs) m.b log_b (sym e) in
       record {
@@ -130,11 +130,11 @@ module _ (k : ℕ) (as' bs : List ℕ) (m : Merge) where
   stepped = and_then (numbers_of (log_number (move_of as' bs m).told) (move_of as' bs m).size (move_of as' bs m).at) (many_of k as' bs (move_of as' bs m).merge)
 
   many_on : log_number (move_of as' bs m).told < 2 → many_of (suc k) as' bs m ≡ stepped
-  unfolding many_of if◌then◌else◌
+  unfolding many_of when◌then◌else◌
   many_on h = rw (lt-ltb (log_number (move_of as' bs m).told) 2 h)
 
   many_off : 2 ≤ log_number (move_of as' bs m).told → many_of (suc k) as' bs m ≡ nothing m
-  unfolding many_of if◌then◌else◌
+  unfolding many_of when◌then◌else◌
   many_off h = rw (le-ltb (log_number (move_of as' bs m).told) 2 h)
 
 -- ---- the turns: what is stored and what is still to come make the whole

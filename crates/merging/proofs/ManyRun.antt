@@ -5,7 +5,7 @@ use mathlib.Core.List.{List, [], ◌∷◌, ◌++◌}
 use native.Mathlib.Nat.{zero-add, suc-add}
 use lib.ListN.{length}
 use lib.IntN.{ℤ}
-use Rattle.rules.specs.Answer.{if◌then◌else◌}
+use Rattle.rules.specs.Answer.{when◌then◌else◌}
 use Rattle.rules.specs.Catalogue.{categories}
 use Rattle.rules.specs.Merge.{Log, log_a, log_b, Span, merge_run}
 use Rattle.rules.proofs.AnswerLaws.{Octets}
@@ -41,7 +41,7 @@ module _ (as' bs : List ℕ) where
   Same k m = spans_of (many_of k as' bs m).numbers ≡ moves k as' bs m
 
   moves_by : (k : ℕ) (m : Merge) (t : Told) → (move_of as' bs m).told ≡ t → Same k (move_of as' bs m).merge → Same (suc k) m
-  unfolding many_of moves if◌then◌else◌
+  unfolding many_of moves when◌then◌else◌
   moves_by k m (told.Next log.A) e ih = rw e (ap (λ z. (log_a, ((move_of as' bs m).at.place, (move_of as' bs m).size)) ∷ z) ih)
   moves_by k m (told.Next log.B) e ih = rw e (ap (λ z. (log_b, ((move_of as' bs m).at.place, (move_of as' bs m).size)) ∷ z) ih)
   moves_by k m told.Finished e ih = rw e
@@ -67,22 +67,22 @@ module _ (as' bs : List ℕ) where
   Still m t = (k : ℕ) → (move_of as' bs m).told ≡ t → (many_of k as' bs m).numbers ≡ []
 
   still_finished : (m : Merge) → Still m told.Finished
-  unfolding many_of if◌then◌else◌
+  unfolding many_of when◌then◌else◌
   still_finished m zero e = refl
   still_finished m (suc k) e = rw e
 
   still_closed : (m : Merge) (l : code.Log) (n p : ℕ) → Still m (told.NotAccepted l n p)
-  unfolding many_of if◌then◌else◌
+  unfolding many_of when◌then◌else◌
   still_closed m l n p zero e = refl
   still_closed m l n p (suc k) e = rw e
 
   still_barred : (m : Merge) (n : ℕ) → Still m (told.Refused n)
-  unfolding many_of if◌then◌else◌
+  unfolding many_of when◌then◌else◌
   still_barred m n zero e = refl
   still_barred m n (suc k) e = rw e
 
   joined_by : (j k : ℕ) (m : Merge) (t : Told) → (move_of as' bs m).told ≡ t → Joined j k (move_of as' bs m).merge → Joined (suc j) k m
-  unfolding many_of if◌then◌else◌
+  unfolding many_of when◌then◌else◌
   joined_by j k m (told.Next log.A) e ih = ap (λ n. (many_of n as' bs m).numbers) (suc-add j k) ∙ rw e (ap (λ z. numbers_of 0 (move_of as' bs m).size (move_of as' bs m).at ++ z) ih)
   joined_by j k m (told.Next log.B) e ih = ap (λ n. (many_of n as' bs m).numbers) (suc-add j k) ∙ rw e (ap (λ z. numbers_of 1 (move_of as' bs m).size (move_of as' bs m).at ++ z) ih)
   joined_by j k m told.Finished e ih = still_finished m (suc j + k) e ∙ rw e (sym (still_finished m k e))

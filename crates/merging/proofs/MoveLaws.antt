@@ -5,7 +5,7 @@ use mathlib.Core.Bool.{true, false}
 use mathlib.Core.List.{List}
 use lib.ListN.{length}
 use lib.IntN.{ℤ}
-use Rattle.rules.specs.Answer.{ok, refused, if◌then◌else◌}
+use Rattle.rules.specs.Answer.{ok, refused, when◌then◌else◌}
 use Rattle.rules.specs.Catalogue.{categories}
 use Rattle.rules.specs.Entry.{Counts, check_recording}
 use Rattle.rules.specs.Merge.{log_a, log_b, mod_day, in_range}
@@ -67,12 +67,12 @@ module _ (as' bs : List ℕ) (o : ℤ) where
 
     module _ (y : Counts) (eb : ok y ≡ check_recording categories bs) where
       pub begin_22 : in_range o ≡ false → begun.Refused 22 ≡ begin_of as' bs o
-      unfolding begin_of if◌then◌else◌
+      unfolding begin_of when◌then◌else◌
       begin_22 e = rw (← ea, ← eb, e)
 
       pub begin_ready : in_range o ≡ true → (c d : Cursor) (s t : Standing) (turn : ℕ) → c ≡ begin → s ≡ stand_of as' c → d ≡ begin → t ≡ stand_of bs d → turn ≡ mod_day o
           → begun.Ready (record { a = s; b = t; turn = turn }) ≡ begin_of as' bs o
-      unfolding begin_of if◌then◌else◌
+      unfolding begin_of when◌then◌else◌
       begin_ready e c d s t turn hc hs hd ht h =
           rw (← ea, ← eb, e)
           (ap₂ (λ y z. begun.Ready (record { a = y; b = z; turn = turn })) (hs ∙ ap (stand_of as') hc) (ht ∙ ap (stand_of bs) hd)

@@ -9,7 +9,7 @@ use lib.Dec.{eqb}
 use lib.ListN.{length}
 use lib.IntN.{ℤ}
 use denote.Ref.{Bor}
-use Rattle.rules.specs.Answer.{if◌then◌else◌}
+use Rattle.rules.specs.Answer.{when◌then◌else◌}
 use Rattle.rules.specs.Catalogue.{categories}
 use Rattle.rules.specs.Merge.{Log, log_a, log_b, choose, first, Head, Checked, accepted, unread, log_of, start_of, from_place, Told, next, finished, not_accepted, barred, Step, stay, goes, in_range, step_from, with_places, step_of, merge_step, part_log}
 use Rattle.rules.proofs.AnswerLaws.{some_inj, none_some, Octets}
@@ -36,15 +36,15 @@ Fits end [] = Unit {0}
 Fits end (h ∷ hs) = h.place + h.size ≤ end
 
 from_fits : (end at p : ℕ) (hs us : List Head) → Rises end at hs → from_place end p hs ≡ some us → Fits end us
-unfolding from_place if◌then◌else◌
+unfolding from_place when◌then◌else◌
 from_fits end at p [] us r e = go (eqb p end) e
   where
-    go : (t : Bool) → (if t then some [] else none) ≡ some us → Fits end us
+    go : (t : Bool) → (when t then some [] else none) ≡ some us → Fits end us
     go true e = subst (Fits end) (some_inj e) tt
     go false e = none_some e
 from_fits end at p (h ∷ hs) us r e = go (eqb p h.place) e (from_fits end (h.place + h.size) p hs us r.2)
   where
-    go : (t : Bool) → (if t then some (h ∷ hs) else from_place end p hs) ≡ some us → (from_place end p hs ≡ some us → Fits end us) → Fits end us
+    go : (t : Bool) → (when t then some (h ∷ hs) else from_place end p hs) ≡ some us → (from_place end p hs ≡ some us → Fits end us) → Fits end us
     go true e ih = subst (Fits end) (some_inj e) (rises_low end (h.place + h.size) hs r.2)
     go false e ih = ih e
 
@@ -72,7 +72,7 @@ places_inside o m n p q (some us) none f g = omega arith
 places_inside o m n p q (some us) (some vs) f g = from_inside o m n p q us vs (f us refl) (g vs refl)
 
 pub step_inside : (as' bs : List ℕ) (p q : ℕ) (o : ℤ) → Octets as' → Octets bs → Inside (length as') (length bs) (merge_step categories as' bs p q o)
-unfolding merge_step step_of if◌then◌else◌
+unfolding merge_step step_of when◌then◌else◌
 step_inside as' bs p q o oa ob = by (log_of categories as') (log_of categories bs) refl refl
   where
     by : (x y : Checked) → log_of categories as' ≡ x → log_of categories bs ≡ y → Inside (length as') (length bs) (step_of x y p q o)
@@ -86,7 +86,7 @@ step_inside as' bs p q o oa ob = by (log_of categories as') (log_of categories b
         go (in_range o) (subst (λ z. Inside (length as') z (with_places o m n p q (from_place m p xs) (from_place n q ys))) nb (subst (λ z. Inside z n (with_places o m n p q (from_place m p xs) (from_place n q ys))) ma i))
       where
         go : (t : Bool) → Inside (length as') (length bs) (with_places o m n p q (from_place m p xs) (from_place n q ys))
-            → Inside (length as') (length bs) (if t then with_places o m n p q (from_place m p xs) (from_place n q ys) else stay (barred 22) p q)
+            → Inside (length as') (length bs) (when t then with_places o m n p q (from_place m p xs) (from_place n q ys) else stay (barred 22) p q)
         go true i = i
         go false i = omega arith
 

@@ -6,7 +6,7 @@ use mathlib.Core.Option.{Option, none, some}
 use mathlib.Core.List.{List, [], ◌∷◌}
 use lib.ListN.{length}
 use lib.IntN.{ℤ}
-use Rattle.rules.specs.Answer.{Answer, ok, refused, if◌then◌else◌}
+use Rattle.rules.specs.Answer.{Answer, ok, refused, when◌then◌else◌}
 use Rattle.rules.specs.Catalogue.{categories}
 use Rattle.rules.specs.Entry.{Counts, check_recording}
 use Rattle.rules.specs.Merge.{mod_day, Log, log_a, log_b, Head, Span, Checked, accepted, unread, log_of, start_of, from_place, next, finished, not_accepted, barred, Step, in_range, step_from, with_places, step_of, when_next, steps_of, opening, extent, run_of, merge_run}
@@ -84,7 +84,7 @@ module _ (as' bs : List ℕ) (oa : Octets as') (ob : Octets bs) (o : ℤ) (range
   Runs k m = moves k as' bs m ≡ steps_of (accepted xs (length as')) (accepted ys (length bs)) o k m.a.at.place m.b.at.place
 
   runs : (k : ℕ) (m : Merge) → Among m → Runs k m
-  unfolding moves steps_of step_of with_places if◌then◌else◌
+  unfolding moves steps_of step_of with_places when◌then◌else◌
   runs zero m g = refl
   runs (suc k) m g = rw (ranged, g.of_a, g.of_b) (by (step_from o (length as') (length bs) m.a.at.place m.b.at.place (left_of as' m.a) (left_of bs m.b)) (move_is as' bs oa ob o m g.turned) (runs k (move_of as' bs m).merge (after m g)))
     where
@@ -113,7 +113,7 @@ module _ (as' bs : List ℕ) (oa : Octets as') (ob : Octets bs) (o : ℤ) where
   none_b n p xs m (suc k) i j = refl
 
   none_22 : in_range o ≡ false → (xs ys : List Head) (m n k i j : ℕ) → steps_of (accepted xs m) (accepted ys n) o k i j ≡ []
-  unfolding steps_of step_of if◌then◌else◌
+  unfolding steps_of step_of when◌then◌else◌
   none_22 e xs ys m n zero i j = refl
   none_22 e xs ys m n (suc k) i j = rw e
 
@@ -125,11 +125,11 @@ module _ (as' bs : List ℕ) (oa : Octets as') (ob : Octets bs) (o : ℤ) where
 
   -- the run of the state is the rule's run, refused ones included
   pub run_is : moves_of (length as' + length bs) as' bs (begin_of as' bs o) ≡ merge_run categories as' bs o
-  unfolding begin_of merge_run run_of if◌then◌else◌
+  unfolding begin_of merge_run run_of when◌then◌else◌
   run_is = by (check_recording categories as') (check_recording categories bs) refl refl
     where
       ready : (x y : Counts) → check_recording categories as' ≡ ok x → check_recording categories bs ≡ ok y → (t : Bool) → in_range o ≡ t
-          → moves_of (length as' + length bs) as' bs (if t then begun.Ready (record { a = stand_of as' begin; b = stand_of bs begin; turn = mod_day o }) else begun.Refused 22)
+          → moves_of (length as' + length bs) as' bs (when t then begun.Ready (record { a = stand_of as' begin; b = stand_of bs begin; turn = mod_day o }) else begun.Refused 22)
           ≡ Rule (log_of categories as') (log_of categories bs)
       ready x y ea eb true e =
           let hs : List Head = heads_left as' begin in

@@ -7,7 +7,7 @@ use mathlib.Core.List.{List, [], ◌∷◌}
 use native.Mathlib.Omega.{arith}
 use lib.ListN.{length}
 use borrow.Author.Tests.{eq-eqb, ne_eqb}
-use Rattle.rules.specs.Answer.{if◌then◌else◌}
+use Rattle.rules.specs.Answer.{when◌then◌else◌}
 use Rattle.rules.specs.Merge.{Head, from_place}
 use Rattle.rules.proofs.AnswerLaws.{Octets}
 use Rattle.walking.specs.declared.Cursor.{Cursor}
@@ -29,19 +29,19 @@ seek_holds bs place c s o h e =
     (record { octets = o; ended = t.ended; same = ap (from_place (length bs) place) t.is })
 
 from_hit : (end p : ℕ) (h : Head) (hs : List Head) → p ≡ h.place → from_place end p (h ∷ hs) ≡ some (h ∷ hs)
-unfolding from_place if◌then◌else◌
+unfolding from_place when◌then◌else◌
 from_hit end p h hs e = rw (eq-eqb p h.place e)
 
 from_miss : (end p : ℕ) (h : Head) (hs : List Head) → (p ≡ h.place → ⊥) → from_place end p (h ∷ hs) ≡ from_place end p hs
-unfolding from_place if◌then◌else◌
+unfolding from_place when◌then◌else◌
 from_miss end p h hs e = rw (ne_eqb p h.place e)
 
 from_end : (end p : ℕ) → p ≡ end → from_place end p [] ≡ some []
-unfolding from_place if◌then◌else◌
+unfolding from_place when◌then◌else◌
 from_end end p e = rw (eq-eqb p end e)
 
 from_none : (end p : ℕ) → (p ≡ end → ⊥) → from_place end p [] ≡ none
-unfolding from_place if◌then◌else◌
+unfolding from_place when◌then◌else◌
 from_none end p e = rw (ne_eqb p end e)
 
 module _ (bs : List ℕ) (place : ℕ) (s : Standing) (k : Seeking bs place s) where

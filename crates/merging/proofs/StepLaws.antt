@@ -7,7 +7,7 @@ use mathlib.Core.List.{List}
 use native.Mathlib.Omega.{arith}
 use lib.ListN.{length}
 use lib.IntN.{ℤ}
-use Rattle.rules.specs.Answer.{Answer, ok, refused, if◌then◌else◌}
+use Rattle.rules.specs.Answer.{Answer, ok, refused, when◌then◌else◌}
 use Rattle.rules.specs.Catalogue.{categories}
 use Rattle.rules.specs.Entry.{Counts, check_recording}
 use Rattle.rules.specs.Merge.{Log, log_a, log_b, choose, first, mod_day, Head, goes, in_range, start_of, from_place, step_from, with_places, step_of, merge_step}
@@ -158,7 +158,7 @@ data Opening (as' bs : List ℕ) (pa pb : ℕ) (o : ℤ) : Type 0 where
 
 module _ (as' bs : List ℕ) (pa pb : ℕ) (o : ℤ) (oa : Octets as') (ob : Octets bs) where
   opening : Opening as' bs pa pb o
-  unfolding begin_of merge_step step_of places_step if◌then◌else◌
+  unfolding begin_of merge_step step_of places_step when◌then◌else◌
   opening = by (check_recording categories as') (check_recording categories bs) refl refl (in_range o) refl
     where
       by : (x y : Answer Counts) → check_recording categories as' ≡ x → check_recording categories bs ≡ y → (t : Bool) → in_range o ≡ t → Opening as' bs pa pb o

@@ -4,7 +4,7 @@
 -- In order: where a walk stands; the record that it comes to; all that come; a search.
 use Rattle.std.specs.Prelude.{ℕ, zero, suc, ◌+◌, ◌-◌, ◌≡◌, Bool, true, false, ◌&&◌, List, [], ◌∷◌, eqb, leb, ltb, length}
 use Rattle.std.proofs.Math.Option.{Option, none, some}
-use Rattle.rules.specs.Answer.{Answer, ok, refused, if◌then◌else◌}
+use Rattle.rules.specs.Answer.{Answer, ok, refused, when◌then◌else◌}
 use Rattle.rules.specs.Merge.{Head}
 use Rattle.measuring.specs.declared.record.Measured.{Measured}
 use Rattle.measuring.specs.Measure.{measure_of}
@@ -37,13 +37,13 @@ unfoldable pub cursor_at : List ℕ → Cursor → Cursor
 cursor_at bs c = found_in (length bs) (block_at bs c)
 
 abbrev pub stood_by : ℕ → Cursor → Measured → Standing
-stood_by n d m = if eqb m.size 0 then end_at n else record { at = d; size = m.size; timed = m.timed; time = m.time }
+stood_by n d m = when eqb m.size 0 then end_at n else record { at = d; size = m.size; timed = m.timed; time = m.time }
 
 unfoldable pub stood_at : List ℕ → Cursor → Standing
 stood_at bs d = stood_by (length bs) d (measure_of d.category (part bs d.place d.end))
 
 unfoldable pub stand_of : List ℕ → Cursor → Standing
-stand_of bs c = if in_log (length bs) c then stood_at bs (cursor_at bs c) else end_at (length bs)
+stand_of bs c = when in_log (length bs) c then stood_at bs (cursor_at bs c) else end_at (length bs)
 
 -- ---- all that come
 
@@ -65,7 +65,7 @@ head_of s = record { place = s.at.place; size = s.size; time = time_by s.timed s
 
 unfoldable pub heads_up_to : ℕ → List ℕ → Cursor → List Head
 heads_up_to zero bs c = []
-heads_up_to (suc f) bs c = if is_head (length bs) (stand_of bs c) then head_of (stand_of bs c) ∷ heads_up_to f bs (behind_of (stand_of bs c)) else []
+heads_up_to (suc f) bs c = when is_head (length bs) (stand_of bs c) then head_of (stand_of bs c) ∷ heads_up_to f bs (behind_of (stand_of bs c)) else []
 
 -- a record takes an octet at least
 unfoldable pub heads_left : List ℕ → Cursor → List Head
@@ -73,7 +73,7 @@ heads_left bs c = heads_up_to (suc (length bs - c.place)) bs c
 
 -- its own record and those after it
 unfoldable pub left_of : List ℕ → Standing → List Head
-left_of bs s = if is_head (length bs) s then head_of s ∷ heads_left bs (behind_of s) else []
+left_of bs s = when is_head (length bs) s then head_of s ∷ heads_left bs (behind_of s) else []
 
 pub record Stands (bs : List ℕ) (s : Standing) (hs : List Head) : Type 0 where
   pub is : left_of bs s ≡ hs

@@ -1,7 +1,7 @@
 -- So many steps of the run at once: six numbers of each record that comes out, and the state after them. Assumes nothing.
 use Rattle.std.specs.Prelude.{ℕ, zero, suc, List, [], ◌∷◌, ◌++◌, eqb, ltb}
 use Rattle.std.proofs.Math.Option.{Option, none, some}
-use Rattle.rules.specs.Answer.{if◌then◌else◌}
+use Rattle.rules.specs.Answer.{when◌then◌else◌}
 use Rattle.rules.specs.Merge.{Log, log_a, log_b}
 use Rattle.walking.specs.declared.Cursor.{Cursor}
 use Rattle.merging.specs.declared.run.Log.TheVariants as log
@@ -28,7 +28,7 @@ number_of none = 2
 
 -- of two, by that number
 unfoldable pub pick : {A : Type 0} → ℕ → A → A → A
-pick l a b = if eqb l 0 then a else b
+pick l a b = when eqb l 0 then a else b
 
 -- its log, its octets, and the walk at it
 abbrev pub numbers_of : ℕ → ℕ → Cursor → List ℕ
@@ -50,7 +50,7 @@ and_then ns r = record { numbers = ns ++ r.numbers; count = suc r.count; merge =
 unfoldable pub many_of : ℕ → List ℕ → List ℕ → Merge → Many
 many_of zero as' bs m = nothing m
 many_of (suc k) as' bs m =
-    if ltb (log_number (move_of as' bs m).told) 2
+    when ltb (log_number (move_of as' bs m).told) 2
     then and_then (numbers_of (log_number (move_of as' bs m).told) (move_of as' bs m).size (move_of as' bs m).at) (many_of k as' bs (move_of as' bs m).merge)
     else nothing m
 

@@ -1,7 +1,7 @@
 -- The run of two logs as the code steps through it: which record goes first, the state after it, and how a run begins. Assumes nothing.
 use Rattle.std.specs.Prelude.{ℕ, zero, suc, ◌+◌, ◌-◌, ◌%◌, Bool, true, false, List, [], ◌∷◌, leb, length, ℤ}
 use Rattle.std.proofs.Math.Option.{Option, none, some}
-use Rattle.rules.specs.Answer.{Answer, ok, refused, if◌then◌else◌}
+use Rattle.rules.specs.Answer.{Answer, ok, refused, when◌then◌else◌}
 use Rattle.rules.specs.Catalogue.{categories}
 use Rattle.rules.specs.Entry.{Counts, check_recording}
 use Rattle.rules.specs.Merge.{day, half_day, mod_day, Log, log_a, log_b, log_if, Span, in_range}
@@ -75,7 +75,7 @@ abbrev pub begun_by : List ℕ → List ℕ → ℤ → Answer Counts → Answer
 begun_by as' bs offset (refused n p) b = begun.NotAccepted log.A n p
 begun_by as' bs offset (ok x) (refused n p) = begun.NotAccepted log.B n p
 begun_by as' bs offset (ok x) (ok y) =
-    if in_range offset then begun.Ready (record { a = stand_of as' begin; b = stand_of bs begin; turn = mod_day offset }) else begun.Refused 22
+    when in_range offset then begun.Ready (record { a = stand_of as' begin; b = stand_of bs begin; turn = mod_day offset }) else begun.Refused 22
 
 unfoldable pub begin_of : List ℕ → List ℕ → ℤ → Begun
 begin_of as' bs offset = begun_by as' bs offset (check_recording categories as') (check_recording categories bs)

@@ -14,7 +14,7 @@ use lib.ListN.{length, get_or, take, drop, length-drop, get_or-eq_default}
 use lib.Seq.{slice, take_all}
 use lib.Pow.{shr_le, shr-shr, shl-shr, high, field}
 use borrow.Author.Tests.{leb-true, ltb-true, eqb-true, eq-eqb, ne_eqb, lt-ltb, le-ltb}
-use Rattle.rules.specs.Answer.{Answer, ok, if◌then◌else◌}
+use Rattle.rules.specs.Answer.{Answer, ok, when◌then◌else◌}
 use Rattle.rules.specs.Catalogue.{categories}
 use Rattle.rules.specs.Chain.{joined}
 use Rattle.rules.proofs.AnswerLaws.{if_true, if_false, Octets, both_left, both_right, octets_drop}
@@ -413,7 +413,7 @@ module _ (t : List ℕ) (i f : ℕ) where
       all_below_lem place_count (λ j. exact_word (get_or t j 0) (layout_at (place_row_at j).layout)) (i * frn_count + f) s (omega arith)
 
   word_octets_lem : exact_steps t ≡ true → 0 < word_for t i f → (bs : List ℕ) → get_or bs 0 0 < 256 → word_octets (word_for t i f) (get_or bs 0 0) ≡ octets_at i f bs
-  unfolding word_for octets_at if◌then◌else◌
+  unfolding word_for octets_at when◌then◌else◌
   word_octets_lem s some bs b = go (is_place i f) refl some
     where
       w : ℕ
@@ -422,29 +422,29 @@ module _ (t : List ℕ) (i f : ℕ) where
       exact : Bool
       exact = all_below 256 (λ x. eqb (word_octets w x) (row_octets (row_of i f) x))
 
-      by : (u : Bool) → cond u (ltb 0 w && exact) (eqb w 0) ≡ true → 0 < w → word_octets w (get_or bs 0 0) ≡ (if u then row_octets (row_of i f) (get_or bs 0 0) else size_or0 (check_at i f bs))
+      by : (u : Bool) → cond u (ltb 0 w && exact) (eqb w 0) ≡ true → 0 < w → word_octets w (get_or bs 0 0) ≡ (when u then row_octets (row_of i f) (get_or bs 0 0) else size_or0 (check_at i f bs))
       by true e h = eqb-true _ _ (all_below_lem 256 (λ x. eqb (word_octets w x) (row_octets (row_of i f) x)) (get_or bs 0 0) (both_right (ltb 0 w) exact e) b)
       by false e h = absurd (omega (arith, eqb-true w 0 e))
 
-      go : (p : Bool) → is_place i f ≡ p → 0 < (if p then w else 0)
-          → word_octets (if p then w else 0) (get_or bs 0 0) ≡ (if p && row_tells (row_of i f) then row_octets (row_of i f) (get_or bs 0 0) else size_or0 (check_at i f bs))
+      go : (p : Bool) → is_place i f ≡ p → 0 < (when p then w else 0)
+          → word_octets (when p then w else 0) (get_or bs 0 0) ≡ (when p && row_tells (row_of i f) then row_octets (row_of i f) (get_or bs 0 0) else size_or0 (check_at i f bs))
       go true e h = by (row_tells (row_of i f)) (exact_word_lem s e) h
       go false e h = absurd (omega arith)
 
   word_nothing : exact_steps t ≡ true → word_for t i f ≡ 0 → (bs : List ℕ) → octets_at i f bs ≡ size_or0 (check_at i f bs)
-  unfolding word_for octets_at if◌then◌else◌
+  unfolding word_for octets_at when◌then◌else◌
   word_nothing s none bs = go (is_place i f) refl none
     where
       w : ℕ
       w = get_or t (i * frn_count + f) 0
 
       by : (u : Bool) → cond u (ltb 0 w && all_below 256 (λ x. eqb (word_octets w x) (row_octets (row_of i f) x))) (eqb w 0) ≡ true → w ≡ 0
-          → (if u then row_octets (row_of i f) (get_or bs 0 0) else size_or0 (check_at i f bs)) ≡ size_or0 (check_at i f bs)
+          → (when u then row_octets (row_of i f) (get_or bs 0 0) else size_or0 (check_at i f bs)) ≡ size_or0 (check_at i f bs)
       by true e z = absurd (omega (arith, ltb-true 0 w (both_left (ltb 0 w) _ e)))
       by false e z = refl
 
-      go : (p : Bool) → is_place i f ≡ p → (if p then w else 0) ≡ 0
-          → (if p && row_tells (row_of i f) then row_octets (row_of i f) (get_or bs 0 0) else size_or0 (check_at i f bs)) ≡ size_or0 (check_at i f bs)
+      go : (p : Bool) → is_place i f ≡ p → (when p then w else 0) ≡ 0
+          → (when p && row_tells (row_of i f) then row_octets (row_of i f) (get_or bs 0 0) else size_or0 (check_at i f bs)) ≡ size_or0 (check_at i f bs)
       go true e z = by (row_tells (row_of i f)) (exact_word_lem s e) z
       go false e z = refl
 

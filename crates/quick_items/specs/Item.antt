@@ -2,7 +2,7 @@
 -- nothing that the layout of the item at its place does not have; it may say less. Assumes nothing.
 use Rattle.std.specs.Prelude.{ℕ, zero, suc, ◌+◌, ◌-◌, ◌*◌, ◌/◌, ◌%◌, ◌^◌, ◌≡◌, Bool, true, false, cond, ◌&&◌, List, [], ◌∷◌, leb, ltb, eqb, get_or}
 use Rattle.std.proofs.Math.Seq.{slice}
-use Rattle.rules.specs.Answer.{Answer, ok, refused, if◌then◌else◌}
+use Rattle.rules.specs.Answer.{Answer, ok, refused, when◌then◌else◌}
 use Rattle.rules.specs.Catalogue.{categories}
 use Rattle.tables.specs.declared.tables.LayoutRow.{LayoutRow}
 use Rattle.tables.specs.declared.tables.PlaceRow.{PlaceRow}
@@ -168,7 +168,7 @@ row_tells l = first_tells l.kind l.first l.end
 
 -- as a word says; and that the words of a table do so of every place, 0 where the first octet does not tell
 unfoldable pub word_octets : ℕ → ℕ → ℕ
-word_octets w x = if eqb (w / 256 % 16) 3 then 1 + x % 2 else w % 16 + x * (w / 16 % 16)
+word_octets w x = when eqb (w / 256 % 16) 3 then 1 + x % 2 else w % 16 + x * (w / 16 % 16)
 
 abbrev pub exact_word : ℕ → LayoutRow → Bool
 exact_word w l = cond (row_tells l) (ltb 0 w && all_below 256 (λ x. eqb (word_octets w x) (row_octets l x))) (eqb w 0)
@@ -181,7 +181,7 @@ abbrev pub is_place : ℕ → ℕ → Bool
 is_place i f = ltb i profile_count && ltb f frn_count
 
 unfoldable pub word_for : List ℕ → ℕ → ℕ → ℕ
-word_for t i f = if is_place i f then get_or t (i * frn_count + f) 0 else 0
+word_for t i f = when is_place i f then get_or t (i * frn_count + f) 0 else 0
 
 -- of the item at an FRN, whether its first octet tells, and what
 abbrev pub row_of : ℕ → ℕ → LayoutRow
@@ -197,4 +197,4 @@ size_or0 (refused n p) = 0
 
 -- how many octets the item at an FRN has that is legal and starts the octets: by the first of them, or else by its check
 unfoldable pub octets_at : ℕ → ℕ → List ℕ → ℕ
-octets_at i f bs = if tells_at i f then row_octets (row_of i f) (get_or bs 0 0) else size_or0 (check_at i f bs)
+octets_at i f bs = when tells_at i f then row_octets (row_of i f) (get_or bs 0 0) else size_or0 (check_at i f bs)

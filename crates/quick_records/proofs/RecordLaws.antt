@@ -15,7 +15,7 @@ use lib.Seq.{drop-drop, get_or-drop}
 use mir.Syntax.{w8}
 use mir.Val.{Fits}
 use borrow.Author.Tests.{ltb-true, eqb-true, eq-eqb, ne_eqb}
-use Rattle.rules.specs.Answer.{Answer, ok, refused, if◌then◌else◌}
+use Rattle.rules.specs.Answer.{Answer, ok, refused, when◌then◌else◌}
 use Rattle.rules.specs.Presence.{flags}
 use Rattle.rules.specs.Entry.{RecordMap, map_of}
 use Rattle.rules.proofs.AnswerLaws.{ok_inj, bind_in, bind_elim, later_in, both_left, both_right, Octets, octets_drop, to_end}
@@ -202,7 +202,7 @@ none_here i f ts bs w = refl
 
 -- an item after the front leaves the type as it is
 pub kind_stays : (i f n : ℕ) (item : List ℕ) (w : Came) → has_front i ≡ true → 3 < f → (passed i f n item w).kind ≡ w.kind
-unfolding if◌then◌else◌
+unfolding when◌then◌else◌
 kind_stays i f n item w g k = rw (ne_eqb f (type_frn i) (λ e. omega (arith, type_first_lem i g)))
 
 pub record Skipped (i f t : ℕ) (us : List Bool) (bs : List ℕ) (w : Came) (a : Answer Came) : Type 0 where
@@ -270,7 +270,7 @@ module _ (i : ℕ) (us : List Bool) (bs : List ℕ) (k : ℕ) (h : i < profile_c
   third_here = omega (arith, front_is i g)
 
   pub third_kind : third.kind ≡ get_or bs (type_at i) 0
-  unfolding type_at if◌then◌else◌
+  unfolding type_at when◌then◌else◌
   third_kind = go (type_frn i) (type_some i g) (type_first_lem i g)
     where
       -- the first octet of some
@@ -283,7 +283,7 @@ module _ (i : ℕ) (us : List Bool) (bs : List ℕ) (k : ℕ) (h : i < profile_c
       at n m p = head n (drop m bs) p ∙ get_or-drop m bs 0 0 ∙ ap (λ x. get_or bs x 0) (add-zero m)
 
       go : (t : ℕ) → 0 < t → t < 4
-          → (if eqb 3 t then get_or (take a₃ (drop (a₁ + a₂) bs)) 0 0 else if eqb 2 t then get_or (take a₂ (drop a₁ bs)) 0 0 else if eqb 1 t then get_or (take a₁ bs) 0 0 else 0)
+          → (when eqb 3 t then get_or (take a₃ (drop (a₁ + a₂) bs)) 0 0 else when eqb 2 t then get_or (take a₂ (drop a₁ bs)) 0 0 else when eqb 1 t then get_or (take a₁ bs) 0 0 else 0)
           ≡ get_or bs (free_sum i 1 (replicate (t - 1) true)) 0
       go zero p q = absurd (omega arith)
       go (suc zero) p q = head a₁ bs (free_one i g).0

@@ -14,7 +14,7 @@ use lib.Pow.{field, mod-mod-pow}
 use mir.Syntax.{w8}
 use mir.Val.{Fits}
 use borrow.Author.Tests.{leb-true, ltb-true, eqb-true}
-use Rattle.rules.specs.Answer.{Answer, ok, refused, if◌then◌else◌}
+use Rattle.rules.specs.Answer.{Answer, ok, refused, when◌then◌else◌}
 use Rattle.rules.specs.Presence.{flags, number}
 use Rattle.rules.proofs.AnswerLaws.{refused_ok, both_left, both_right, Octets, octets_drop, to_end}
 use Rattle.rules.proofs.PresenceLaws.{flags_length, flags_number, number_lt}
@@ -80,8 +80,8 @@ five_is (a ∷ (b ∷ (c ∷ (d ∷ (e ∷ bs))))) l = omega arith
 
 -- ---- the FSPEC: what follows it changes nothing
 
-either : {A : Type 0} (t : Bool) (a : Answer A) {b c : Answer A} {r : A} → (b ≡ ok r → c ≡ ok r) → (if t then a else b) ≡ ok r → (if t then a else c) ≡ ok r
-unfolding if◌then◌else◌
+either : {A : Type 0} (t : Bool) (a : Answer A) {b c : Answer A} {r : A} → (b ≡ ok r → c ≡ ok r) → (when t then a else b) ≡ ok r → (when t then a else c) ≡ ok r
+unfolding when◌then◌else◌
 either true a f h = h
 either false a f h = f h
 

@@ -13,7 +13,7 @@ use lib.Dec.{leb, ltb, eqb, le→leb}
 use borrow.Author.Tests.{le-leb, lt-leb, leb-true, leb-false, ltb-true, eqb-true, eqb-false}
 use lib.ListN.{length, take, drop, get_or, length-append, length-drop, take-append-drop, get_or-append}
 use lib.Seq.{length-take-le, get_or-take, drop_at, take-append-le, drop-append-le}
-use Rattle.rules.specs.Answer.{Answer, ok, refused, ◌>>=◌, need◌or◌then◌, if◌then◌else◌, expect◌or◌, later}
+use Rattle.rules.specs.Answer.{Answer, ok, refused, ◌>>=◌, need◌or◌then◌, when◌then◌else◌, expect◌or◌, later}
 use Rattle.rules.specs.Chain.{flatten}
 use Rattle.rules.specs.Block.{Head, category_of}
 use Rattle.rules.specs.Catalogue.{categories}
@@ -362,7 +362,7 @@ feeding (p ∷ ps) o l w = ap finished (fed_all started p ps (omega arith, omega
 
 abbrev pub cut_from : ℕ → List ℕ → List (List ℕ)
 cut_from zero bs = bs ∷ []
-cut_from (suc f) bs = if ltb (block_length bs) (length bs) then take (block_length bs) bs ∷ cut_from f (drop (block_length bs) bs) else bs ∷ []
+cut_from (suc f) bs = when ltb (block_length bs) (length bs) then take (block_length bs) bs ∷ cut_from f (drop (block_length bs) bs) else bs ∷ []
 
 cut_joins : (f : ℕ) (bs : List ℕ) → flatten (cut_from f bs) ≡ bs
 cut_joins zero bs = append-nil bs
@@ -372,8 +372,8 @@ cut_joins (suc f) bs =
     (λ (e, g). ap flatten (sym g) ∙ append-nil bs)
     (if_inv (ltb (block_length bs) (length bs)) (take (block_length bs) bs ∷ cut_from f (drop (block_length bs) bs)) (bs ∷ []) refl)
 
-least_by : (t : Bool) (n : ℕ) → 3 ≤ (if t then max 3 n else 3)
-unfolding if◌then◌else◌
+least_by : (t : Bool) (n : ℕ) → 3 ≤ (when t then max 3 n else 3)
+unfolding when◌then◌else◌
 least_by true n = le-max_left 3 n
 least_by false n = le_refl 3
 

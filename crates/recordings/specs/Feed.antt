@@ -3,7 +3,7 @@
 --
 -- Numbers are held in 64 bits: a recording of 2 ^ 64 octets or more is out of reach, and its counts stay at the greatest number.
 use Rattle.std.specs.Prelude.{ℕ, ◌+◌, ◌-◌, ◌^◌, min, max, List, leb, length}
-use Rattle.rules.specs.Answer.{Answer, ok, refused, ◌>>=◌, if◌then◌else◌}
+use Rattle.rules.specs.Answer.{Answer, ok, refused, ◌>>=◌, when◌then◌else◌}
 use Rattle.rules.specs.Catalogue.{categories}
 use Rattle.rules.specs.Entry.{Counts, check_recording}
 use Rattle.blocks.specs.Read.{len_at}
@@ -43,4 +43,4 @@ finished s = do
 
 -- how long the piece is that a block's head starts: LEN, but the head at least
 unfoldable pub block_length : List ℕ → ℕ
-block_length bs = if leb 3 (length bs) then max 3 (len_at bs) else 3
+block_length bs = when leb 3 (length bs) then max 3 (len_at bs) else 3

@@ -12,7 +12,7 @@ use lib.Pow.{pow_pos, pow_mono}
 use lib.Dec.{eqb}
 use borrow.Author.Tests.{lt-leb}
 use lib.ListN.{length, take, drop, get_or, set, replicate, length-drop, length-set}
-use Rattle.rules.specs.Answer.{Answer, ok, refused, if◌then◌else◌}
+use Rattle.rules.specs.Answer.{Answer, ok, refused, when◌then◌else◌}
 use Rattle.rules.specs.Presence.{flags}
 use Rattle.rules.proofs.AnswerLaws.{bind_in, bind_out, later_in, later_out, to_end}
 use Rattle.rules.specs.Entry.{map_places}
@@ -102,7 +102,7 @@ module _ (i bits : ℕ) (part : List ℕ) (at left : ℕ) (rest : List ℕ) (her
     stand_stop n p c = sym (bind_out _ (later_out here c)) ∙ reached
 
     pub stand_item : (n of next : ℕ) → check_at i (count_leading_zeros 64 left) rest ≡ ok n → of ≡ type_frn i
-        → next ≡ (if eqb (count_leading_zeros 64 left) of then get_or (take (n - 0) (drop 0 rest)) 0 0 else kind)
+        → next ≡ (when eqb (count_leading_zeros 64 left) of then get_or (take (n - 0) (drop 0 rest)) 0 0 else kind)
         → Standing i bits part at others (take (length rest - n) (drop n rest)) (here + n) (count + 1) (set starts (count_leading_zeros 64 left - 1) (here % 65_536)) next
     unfolding walk
     stand_item n of next c o k =
@@ -122,7 +122,7 @@ module _ (i bits : ℕ) (part : List ℕ) (at left : ℕ) (rest : List ℕ) (her
           same =
               ap (λ x. walk i (flags x others) (f + 1) (take (length rest - n) (drop n rest)) (came (here + n) (count + 1) (set starts (f - 1) (here % 65_536)) next)) e
               ∙ ap₂ (λ xs y. walk i (flags (63 - f) others) (f + 1) xs (came (here + n) (count + 1) (set starts (f - 1) (here % 65_536)) y)) (to_end rest n)
-              (k ∙ ap₂ (λ a b. if eqb f a then get_or (take b rest) 0 0 else kind) o (sub-zero n))
+              (k ∙ ap₂ (λ a b. when eqb f a then get_or (take b rest) 0 0 else kind) o (sub-zero n))
               ∙ sym (bind_in (λ n. walk i (flags (63 - f) others) (f + 1) (drop n rest) (passed i f n (take n rest) (came here count starts kind))) (later_in here c) refl)
               ∙ reached;
         }

@@ -1,7 +1,7 @@
 -- The rules of a record as the code follows them: item by item, with what was found so far handed on, and places counted on.
 -- `proofs/RowLaws`, `RecordLaws` and `NewLaws` have that these are the rules' own. Assumes nothing.
 use Rattle.std.specs.Prelude.{ℕ, ◌+◌, ◌-◌, ◌%◌, Bool, true, false, List, [], ◌∷◌, ltb, eqb, length, take, drop, get_or, set, replicate}
-use Rattle.rules.specs.Answer.{Answer, ok, ◌>>=◌, need◌or◌then◌, if◌then◌else◌, later}
+use Rattle.rules.specs.Answer.{Answer, ok, ◌>>=◌, need◌or◌then◌, when◌then◌else◌, later}
 use Rattle.rules.specs.Presence.{flags}
 use Rattle.rules.specs.Entry.{map_places, RecordMap}
 use Rattle.items.specs.Answers.{check_at}
@@ -23,7 +23,7 @@ passed i f n item w = record {
   here = w.here + n;
   count = w.count + 1;
   starts = set w.starts (f - 1) (w.here % 65_536);
-  kind = if eqb f (type_frn i) then get_or item 0 0 else w.kind;
+  kind = when eqb f (type_frn i) then get_or item 0 0 else w.kind;
 }
 
 -- the items that flags name, the first flag's FRN given: the first item's refusal ends the walk

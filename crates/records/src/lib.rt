@@ -3,7 +3,7 @@
 #![tactic(auto)]
 
 ghost use Rattle.std.specs.Prelude.{◌≡◌, true, ◌+◌, ◌^◌, ◌<◌, length, get_or, eqb};
-ghost use Rattle.rules.specs.Answer.{if◌then◌else◌};
+ghost use Rattle.rules.specs.Answer.{when◌then◌else◌};
 ghost use Rattle.rules.specs.Presence.{flags};
 ghost use Rattle.items.specs.Answers.{check_at, checked_of};
 ghost use Rattle.quick_items.specs.Item.{sound_steps};
@@ -101,7 +101,7 @@ fn stopped(number: u8, place: usize) -> ItemsWalked
 
 // The first octet of the message type item, once another item is read.
 fn type_octet(of: usize, frn: usize, kind: u8, item: &[u8]) -> u8
-    ensures { result ≡ (if eqb frn of then get_or item.now 0 0 else kind) }
+    ensures { result ≡ (when eqb frn of then get_or item.now 0 0 else kind) }
 {
     if frn != of {
         return kind;

@@ -6,7 +6,7 @@ use mathlib.Core.Bool.{true, false}
 use mathlib.Core.Option.{none, some}
 use mathlib.Core.List.{List, [], ◌∷◌}
 use lib.IntN.{pos, negsuc}
-use Rattle.rules.specs.Answer.{◌>>=◌, need◌or◌then◌, if◌then◌else◌, expect◌or◌, later, octets_of}
+use Rattle.rules.specs.Answer.{◌>>=◌, need◌or◌then◌, when◌then◌else◌, expect◌or◌, later, octets_of}
 use Rattle.rules.specs.Field.{put, get, pack, unpack}
 use Rattle.rules.specs.Chain.{octets, joined, read_num, write_num, write_many, read_many, write_chain, read_chain}
 use Rattle.rules.specs.Format.{write_parts, read_parts, pack_all, unpack_all, read_plain, write_plain}
@@ -58,11 +58,11 @@ abbrev extraction : Head
 extraction = record { place = 23; size = 19; time = none }
 
 pub log_017 : log_of categories tracks ≡ accepted (track ∷ []) 31
-unfolding ◌>>=◌ need◌or◌then◌ if◌then◌else◌ expect◌or◌ later octets_of get unpack joined octets read_num write_num write_many read_many write_chain read_chain write_parts read_parts put pack pack_all unpack_all read_plain write_plain read_item write_item flags number usable house numbers flag_rows read_presence write_presence read_row read_rows read_places write_row write_rows write_places value_of spelled type_of message_of judge read_place write_place read_record write_record read_up_to read_all category_of read_head read_body read_block categories write_all write_block read_recording record_time heads_of block_heads log_of
+unfolding ◌>>=◌ need◌or◌then◌ when◌then◌else◌ expect◌or◌ later octets_of get unpack joined octets read_num write_num write_many read_many write_chain read_chain write_parts read_parts put pack pack_all unpack_all read_plain write_plain read_item write_item flags number usable house numbers flag_rows read_presence write_presence read_row read_rows read_places write_row write_rows write_places value_of spelled type_of message_of judge read_place write_place read_record write_record read_up_to read_all category_of read_head read_body read_block categories write_all write_block read_recording record_time heads_of block_heads log_of
 log_017 = refl
 
 pub log_018 : log_of categories extractions ≡ accepted (response ∷ extraction ∷ []) 42
-unfolding ◌>>=◌ need◌or◌then◌ if◌then◌else◌ expect◌or◌ later octets_of get unpack joined octets read_num write_num write_many read_many write_chain read_chain write_parts read_parts put pack pack_all unpack_all read_plain write_plain read_item write_item flags number usable house numbers flag_rows read_presence write_presence read_row read_rows read_places write_row write_rows write_places value_of spelled type_of message_of judge read_place write_place read_record write_record read_up_to read_all category_of read_head read_body read_block categories write_all write_block read_recording record_time heads_of block_heads log_of
+unfolding ◌>>=◌ need◌or◌then◌ when◌then◌else◌ expect◌or◌ later octets_of get unpack joined octets read_num write_num write_many read_many write_chain read_chain write_parts read_parts put pack pack_all unpack_all read_plain write_plain read_item write_item flags number usable house numbers flag_rows read_presence write_presence read_row read_rows read_places write_row write_rows write_places value_of spelled type_of message_of judge read_place write_place read_record write_record read_up_to read_all category_of read_head read_body read_block categories write_all write_block read_recording record_time heads_of block_heads log_of
 log_018 = refl
 
 -- equal times are A's; an offset of -1 turns them to B's; an untimed record goes before a timed one; at both ends; the offset before the place
@@ -72,5 +72,5 @@ pub steps_from : (merge_step categories tracks extractions 3 3 (pos 0) ≡ goes 
     × (merge_step categories tracks extractions 31 42 (pos 0) ≡ stay finished 31 42)
     × (merge_step categories tracks extractions 0 3 (pos 0) ≡ stay (barred 23) 0 3)
     × (merge_step categories tracks extractions 0 3 (pos 46_081) ≡ stay (barred 22) 0 3)
-unfolding merge_step step_of with_places from_place step_from first gap mod_day if◌then◌else◌
+unfolding merge_step step_of with_places from_place step_from first gap mod_day when◌then◌else◌
 steps_from = rw (log_017, log_018) (refl, refl, refl, refl, refl, refl)

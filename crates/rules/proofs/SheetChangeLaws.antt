@@ -12,7 +12,7 @@ use lib.Dec.{T, leb, ltb, eqb, leb→le, le→leb, ltb→lt, lt→ltb, eqb_refl}
 use borrow.Author.Tests.{le-leb, lt-ltb, le-ltb, eq-eqb, eqb-true, ltb-true, ltb-false}
 use lib.ListN.{length}
 use lib.IntN.{ℤ}
-use Rattle.rules.specs.Answer.{Answer, ok, refused, ◌>>=◌, need◌or◌then◌, if◌then◌else◌}
+use Rattle.rules.specs.Answer.{Answer, ok, refused, ◌>>=◌, need◌or◌then◌, when◌then◌else◌}
 use Rattle.rules.specs.declared.Mark.{Mark}
 use Rattle.rules.specs.declared.Shape.TheVariants.{Whole}
 use Rattle.rules.specs.Mark.{key, marks_bytes, marks_in, rising}
@@ -251,14 +251,14 @@ told_known f n e h =
 
 -- what a sheet is written back as is known
 back_known : (f : Form) (e : Edition) → Known f.editions e → Known f.editions (back_of f e)
-unfolding back_of if◌then◌else◌
+unfolding back_of when◌then◌else◌
 back_known f e k = go (leb f.least e.byte)
   where
     other : (a : Answer Edition) → edition_of f.editions f.least ≡ a → Known f.editions (or_else a e)
     other (ok x) q = known f.editions f.least x q
     other (refused n p) q = k
 
-    go : (t : Bool) → Known f.editions (if t then e else or_else (edition_of f.editions f.least) e)
+    go : (t : Bool) → Known f.editions (when t then e else or_else (edition_of f.editions f.least) e)
     go true = k
     go false = other (edition_of f.editions f.least) refl
 

@@ -7,7 +7,7 @@ use mathlib.Core.Bool.{true, false}
 use mathlib.Core.List.{List, [], ◌∷◌, ◌++◌}
 use native.Mathlib.Omega.{arith}
 use lib.IntN.{negsuc}
-use Rattle.rules.specs.Answer.{Answer, ok, refused, ◌>>=◌, need◌or◌then◌, if◌then◌else◌, later}
+use Rattle.rules.specs.Answer.{Answer, ok, refused, ◌>>=◌, need◌or◌then◌, when◌then◌else◌, later}
 use Rattle.rules.specs.declared.Edition.{Edition}
 use Rattle.rules.specs.declared.Mark.{Mark}
 use Rattle.rules.specs.Mark.{number4, bytes4, mark_bytes, mark_in, mark_fits, marks_bytes, marks_in, rising, count, totals_from, of_log}
@@ -110,7 +110,7 @@ pub record Numbers : Type 0 where
   pub many_in_six : ◌≡◌ {A = Answer Sheet} (read_sheet (few 1) sheet_3) (refused 34 21)
 
 pub numbers : Numbers
-unfolding ◌>>=◌ need◌or◌then◌ if◌then◌else◌ later number4 bytes4 mark_bytes mark_in mark_fits marks_bytes marks_in rising count totals_from of_log edition_of field_bytes held_bytes fields_bytes sheet_bytes told_edition write_sheet field_length read_field read_edition read_offset read_list same read_total read_held read_fields read_sheet has insert sheet_add back_of
+unfolding ◌>>=◌ need◌or◌then◌ when◌then◌else◌ later number4 bytes4 mark_bytes mark_in mark_fits marks_bytes marks_in rising count totals_from of_log edition_of field_bytes held_bytes fields_bytes sheet_bytes told_edition write_sheet field_length read_field read_edition read_offset read_list same read_total read_held read_fields read_sheet has insert sheet_add back_of
 numbers =
     record {
       two_read = refl;

@@ -4,7 +4,7 @@ use Prim.Native.Nat.{ℕ}
 use mathlib.Core.Path.{◌≡◌, refl}
 use mathlib.Core.List.{List, [], ◌∷◌, ◌++◌}
 use lib.IntN.{ℤ, pos, negsuc}
-use Rattle.rules.specs.Answer.{Answer, ok, refused, ◌>>=◌, need◌or◌then◌, if◌then◌else◌, later}
+use Rattle.rules.specs.Answer.{Answer, ok, refused, ◌>>=◌, need◌or◌then◌, when◌then◌else◌, later}
 use Rattle.rules.specs.Entry.{leaves}
 use Rattle.rules.specs.declared.Mark.{Mark}
 use Rattle.rules.specs.Mark.{number4, bytes4, mark_bytes, mark_in, mark_fits, marks_bytes, marks_in, rising}
@@ -69,7 +69,7 @@ pub record Five : Type 0 where
   pub edition_2 : ◌≡◌ {A = Answer Sheet} (read_sheet form (start 2 (0 ∷ 0 ∷ 0 ∷ 0 ∷ 3 ∷ 0 ∷ 0 ∷ []))) (refused 33 0)
 
 pub five : Five
-unfolding ◌>>=◌ need◌or◌then◌ if◌then◌else◌ later number4 marks_in edition_of field_length read_field read_edition read_offset read_list read_held read_fields read_sheet
+unfolding ◌>>=◌ need◌or◌then◌ when◌then◌else◌ later number4 marks_in edition_of field_length read_field read_edition read_offset read_list read_held read_fields read_sheet
 five = record { nothing = refl; one_byte = refl; edition_4 = refl; empty = refl; empty_04 = refl; edition_2 = refl }
 
 -- ---- reading: each refusal with its place
@@ -95,7 +95,7 @@ pub record Reads : Type 0 where
   pub byte_after : ◌≡◌ {A = Answer Sheet} (read_sheet form (both ++ (0 ∷ []))) (refused 31 30)
 
 pub reads : Reads
-unfolding ◌>>=◌ need◌or◌then◌ if◌then◌else◌ later number4 mark_in mark_fits marks_in edition_of field_length read_field read_edition read_offset read_list read_held read_fields read_sheet
+unfolding ◌>>=◌ need◌or◌then◌ when◌then◌else◌ later number4 mark_in mark_fits marks_in edition_of field_length read_field read_edition read_offset read_list read_held read_fields read_sheet
 reads =
     record {
       accepted = refl;
@@ -146,7 +146,7 @@ pub record Makes : Type 0 where
   pub left_refused : ◌≡◌ {A = List ℕ} (leaves (fitted 2 (sheet_empty form none)) (7 ∷ 7 ∷ [])) (7 ∷ 7 ∷ [])
 
 pub makes : Makes
-unfolding ◌>>=◌ need◌or◌then◌ if◌then◌else◌ later number4 bytes4 mark_bytes mark_in mark_fits marks_bytes marks_in rising edition_of field_bytes held_bytes fields_bytes sheet_bytes told_edition write_sheet field_length read_field read_edition read_offset read_list read_held read_fields read_sheet has insert without sheet_add sheet_remove sheet_empty back_of at_start write_marks fitted
+unfolding ◌>>=◌ need◌or◌then◌ when◌then◌else◌ later number4 bytes4 mark_bytes mark_in mark_fits marks_bytes marks_in rising edition_of field_bytes held_bytes fields_bytes sheet_bytes told_edition write_sheet field_length read_field read_edition read_offset read_list read_held read_fields read_sheet has insert without sheet_add sheet_remove sheet_empty back_of at_start write_marks fitted
 makes =
     record {
       written = refl;

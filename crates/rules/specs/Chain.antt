@@ -1,7 +1,7 @@
 -- Numbers in octets: one, several end to end, several chained by FX bits (document 01, "Block, record, item"). Items, FSPECs and the primary
 -- octets of compound items are made of them. Assumes nothing.
 use Rattle.std.specs.Prelude.{ℕ, zero, suc, ◌+◌, ◌*◌, ◌/◌, ◌%◌, ◌^◌, List, [], ◌∷◌, ◌++◌, leb, ltb, eqb, length, take, drop}
-use Rattle.rules.specs.Answer.{ok, refused, ◌>>=◌, need◌or◌then◌, if◌then◌else◌, Read, Write}
+use Rattle.rules.specs.Answer.{ok, refused, ◌>>=◌, need◌or◌then◌, when◌then◌else◌, Read, Write}
 
 -- k octets, high octet first
 unfoldable pub octets : ℕ → ℕ → List ℕ
@@ -49,7 +49,7 @@ unfoldable pub read_chain : ℕ → ℕ → List ℕ → Read (List ℕ)
 read_chain cut past [] bs = refused past 0
 read_chain cut past (k ∷ ks) bs = do
   (n, bs₁) ← read_num cut k bs
-  if eqb (n % 2) 0
+  when eqb (n % 2) 0
       then ok (n / 2 ∷ [], bs₁)
       else do
         (ns, bs₂) ← read_chain cut past ks bs₁

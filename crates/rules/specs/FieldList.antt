@@ -3,7 +3,7 @@
 -- else (document 02, W-205). Assumes nothing.
 use Rattle.std.specs.Prelude.{◌-◌, ◌/◌, ◌^◌, Bool, true, false, ◌&&◌, List, [], ◌∷◌, ◌++◌, map, leb, eqb, length, take, drop, replicate, ℤ, pos, negsuc}
 use Rattle.std.proofs.Math.Option.{Option, none, some}
-use Rattle.rules.specs.Answer.{Answer, ok, refused, ◌>>=◌, need◌or◌then◌, if◌then◌else◌, Read, Write}
+use Rattle.rules.specs.Answer.{Answer, ok, refused, ◌>>=◌, need◌or◌then◌, when◌then◌else◌, Read, Write}
 use Rattle.rules.specs.Field.{Field, any, arity}
 use Rattle.rules.specs.Chain.{flatten}
 use Rattle.rules.specs.Format.{Format, fixed, repeated, led, extended, PartValues}
@@ -78,7 +78,7 @@ unfoldable pub take_extents : List (List Field) → Taken PartValues
 take_extents [] fs = ok ([], fs)
 take_extents (g ∷ gs) [] = refused 11 0
 take_extents (g ∷ gs) (f ∷ fs) =
-    if is_absent f
+    when is_absent f
     then need leb (length gs) (length fs) or 11 then need all_absent (take (length gs) fs) or 11 then ok ([], drop (length gs) fs)
     else do
       (v, fs₁) ← take_parts (g ∷ []) (f ∷ fs)
@@ -102,7 +102,7 @@ unfoldable pub take_place : Option Format → Taken (Option PartValues)
 take_place none fs = ok (none, fs)
 take_place (some s) [] = refused 11 0
 take_place (some s) (f ∷ fs) =
-    if is_absent f
+    when is_absent f
     then ok (none, fs)
     else do
       (v, rest) ← take_sub s (f ∷ fs)

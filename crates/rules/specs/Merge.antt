@@ -4,7 +4,7 @@
 -- In order: times modulo a day; a record's time; which of two records goes first; the records of a log; a step; the run.
 use Rattle.std.specs.Prelude.{ℕ, zero, suc, ◌+◌, ◌-◌, ◌%◌, Bool, true, false, List, [], ◌∷◌, ◌++◌, leb, eqb, length, ℤ, pos, negsuc, ◌+ℤ◌, ◌-ℤ◌}
 use Rattle.std.proofs.Math.Option.{Option, none, some}
-use Rattle.rules.specs.Answer.{Answer, ok, refused, if◌then◌else◌, octets_of}
+use Rattle.rules.specs.Answer.{Answer, ok, refused, when◌then◌else◌, octets_of}
 use Rattle.rules.specs.Layout.{Values, in_parts, in_subfields}
 use Rattle.rules.specs.Presence.{has}
 use Rattle.rules.specs.Record.{Category, Record, items, value_of, type_of, write_record}
@@ -50,7 +50,7 @@ is_one_of (ok t) ts = has t ts
 is_one_of (refused n p) ts = false
 
 unfoldable pub record_time : Category → Record → Option ℕ
-record_time c r = if is_one_of (type_of (value_of 0 (items c r))) c.untimed then none else number_in (value_of c.time (items c r))
+record_time c r = when is_one_of (type_of (value_of 0 (items c r))) c.untimed then none else number_in (value_of c.time (items c r))
 
 -- ---- which of two records goes first
 
@@ -114,8 +114,8 @@ start_of end (h ∷ hs) = h.place
 
 -- the records from a place on; none where the place "is neither a record's start nor the log's end"
 unfoldable pub from_place : ℕ → ℕ → List Head → Option (List Head)
-from_place end p [] = if eqb p end then some [] else none
-from_place end p (h ∷ hs) = if eqb p h.place then some (h ∷ hs) else from_place end p hs
+from_place end p [] = when eqb p end then some [] else none
+from_place end p (h ∷ hs) = when eqb p h.place then some (h ∷ hs) else from_place end p hs
 
 -- ---- a step
 
@@ -172,7 +172,7 @@ unfoldable pub step_of : Checked → Checked → ℕ → ℕ → ℤ → Step
 step_of (unread r f) b p q offset = stay (not_accepted log_a r f) p q
 step_of (accepted xs m) (unread r f) p q offset = stay (not_accepted log_b r f) p q
 step_of (accepted xs m) (accepted ys n) p q offset =
-    if in_range offset then with_places offset m n p q (from_place m p xs) (from_place n q ys) else stay (barred 22) p q
+    when in_range offset then with_places offset m n p q (from_place m p xs) (from_place n q ys) else stay (barred 22) p q
 
 -- THE RULE: "A step takes two recordings, a place in each, and a clock offset for the second"
 unfoldable pub merge_step : List Category → List ℕ → List ℕ → ℕ → ℕ → ℤ → Step

@@ -2,7 +2,7 @@
 -- (document 01, "Block, record, item"; sections 5.3.1 and 5.3.2 of each category document). Assumes nothing.
 use Rattle.std.specs.Prelude.{ℕ, ◌+◌, ◌*◌, Bool, true, ◌&&◌, List, [], ◌∷◌, ◌++◌, eqb, ℤ, pos, negsuc}
 use Rattle.std.proofs.Math.Option.{Option, none, some}
-use Rattle.rules.specs.Answer.{Answer, ok, refused, ◌>>=◌, need◌or◌then◌, if◌then◌else◌, Read, Write}
+use Rattle.rules.specs.Answer.{Answer, ok, refused, ◌>>=◌, need◌or◌then◌, when◌then◌else◌, Read, Write}
 use Rattle.rules.specs.Chain.{flatten}
 use Rattle.rules.specs.Layout.{Layout, Values, in_parts, in_subfields, read_item, write_item}
 use Rattle.rules.specs.Presence.{has, write_places, read_places}
@@ -62,7 +62,7 @@ references ((r, v) ∷ is) = r ∷ references is
 -- the value of the item with a reference
 unfoldable pub value_of : ℕ → List (ℕ × Values) → Option Values
 value_of r [] = none
-value_of r ((s, v) ∷ is) = if eqb r s then some v else value_of r is
+value_of r ((s, v) ∷ is) = when eqb r s then some v else value_of r is
 
 -- every number of the first list is in the second
 abbrev pub all_in : List ℕ → List ℕ → Bool
@@ -85,7 +85,7 @@ type_of (some (in_subfields rs)) = refused 13 0
 
 unfoldable pub message_of : ℕ → List Message → Answer Message
 message_of t [] = refused 13 0
-message_of t (m ∷ ms) = if eqb t m.type then ok m else message_of t ms
+message_of t (m ∷ ms) = when eqb t m.type then ok m else message_of t ms
 
 -- the record itself where its items are those that its message type asks for: 12, 13, 14, 15, at the record's start. It answers its argument so
 -- that it can stand as a line of a rule: writing goes on with what was judged, and reading answers it. What it lets through is `Legal.LegalRecord`

@@ -1,7 +1,7 @@
 -- The exercise sheet of a form (document 02, W-203): the writing rule, then the reading rule with its refusals and their places. Assumes nothing.
 use Rattle.std.specs.Prelude.{ℕ, ◌+◌, ◌-◌, ◌*◌, ◌/◌, ◌%◌, Bool, true, false, ◌&&◌, cond, List, [], ◌∷◌, ◌++◌, leb, ltb, eqb, length, take, drop, get_or, ℤ, pos, negsuc}
 use Rattle.rules.specs.declared.Edition.{Edition}
-use Rattle.rules.specs.Answer.{Answer, ok, refused, ◌>>=◌, need◌or◌then◌, if◌then◌else◌, later, Read}
+use Rattle.rules.specs.Answer.{Answer, ok, refused, ◌>>=◌, need◌or◌then◌, when◌then◌else◌, later, Read}
 use Rattle.rules.specs.declared.Mark.{Mark}
 use Rattle.rules.specs.declared.Shape.{Shape}
 use Rattle.rules.specs.declared.Shape.TheVariants.{Whole, InLog}
@@ -12,7 +12,7 @@ use Rattle.rules.specs.Mark.{size, bytes4, number4, marks_bytes, marks_in, risin
 -- the edition that a byte names
 unfoldable pub edition_of : List Edition → ℕ → Answer Edition
 edition_of [] n = refused 33 0
-edition_of (e ∷ es) n = if eqb n e.byte then ok e else edition_of es n
+edition_of (e ∷ es) n = when eqb n e.byte then ok e else edition_of es n
 
 pub record Sheet : Type 0 where
   pub edition : Edition

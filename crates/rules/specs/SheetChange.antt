@@ -1,7 +1,7 @@
 -- What is made of a sheet (document 02, W-203): adding a mark, removing one, emptying the list; writing marks that are lent; what fits a lent output, which `leaves`
 -- of `Entry` then says what it holds. Assumes nothing.
 use Rattle.std.specs.Prelude.{ℕ, ◌/◌, ◌%◌, Bool, false, ◌&&◌, ◌||◌, not, cond, List, [], ◌∷◌, leb, ltb, eqb, length, ℤ}
-use Rattle.rules.specs.Answer.{Answer, ok, refused, ◌>>=◌, need◌or◌then◌, if◌then◌else◌}
+use Rattle.rules.specs.Answer.{Answer, ok, refused, ◌>>=◌, need◌or◌then◌, when◌then◌else◌}
 use Rattle.rules.specs.declared.Mark.{Mark}
 use Rattle.rules.specs.declared.Shape.TheVariants.{Whole}
 use Rattle.rules.specs.Mark.{key, ok_mark, marks_in}
@@ -16,7 +16,7 @@ or_else (refused n p) b = b
 
 -- a changed sheet keeps its edition, but one below the least that is written is written back as that
 unfoldable pub back_of : Form → Edition → Edition
-back_of f e = if leb f.least e.byte then e else or_else (edition_of f.editions f.least) e
+back_of f e = when leb f.least e.byte then e else or_else (edition_of f.editions f.least) e
 
 abbrev pub with_marks : Form → Sheet → List Mark → Sheet
 with_marks f s ms = record { edition = back_of f s.edition; offset = s.offset; marks = ms }

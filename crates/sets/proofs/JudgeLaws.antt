@@ -13,7 +13,7 @@ use native.Mathlib.Nat.{add-zero, zero-add, add-suc, suc-add}
 use lib.Dec.{eqb}
 use borrow.Author.Tests.{eqb-true, eq-eqb, ne_eqb, not-true, not-false}
 use lib.ListN.{length, get_or, replicate, get_or-map, length-map}
-use Rattle.rules.specs.Answer.{Answer, ok, refused, ◌>>=◌, need◌or◌then◌, if◌then◌else◌}
+use Rattle.rules.specs.Answer.{Answer, ok, refused, ◌>>=◌, need◌or◌then◌, when◌then◌else◌}
 use Rattle.rules.specs.Chain.{flatten}
 use Rattle.rules.specs.Layout.{Values}
 use Rattle.rules.specs.Presence.{flags, present, has}
@@ -275,7 +275,7 @@ all_messages ps [] = true
 all_messages ps (m ∷ ms) = all_items ps m.compulsory && all_messages ps ms
 
 tables_messages : every_category (λ c. all_messages (places c) c.messages) categories ≡ true
-unfolding categories if◌then◌else◌
+unfolding categories when◌then◌else◌
 tables_messages = refl
 
 message_items : (ps : List (Option Place)) (ms : List Message) (t : ℕ) (m : Message) → all_messages ps ms ≡ true → message_of t ms ≡ ok m → all_items ps m.compulsory ≡ true

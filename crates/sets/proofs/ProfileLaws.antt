@@ -10,7 +10,7 @@ use native.Mathlib.Omega.{arith}
 use lib.Dec.{leb, ltb, eqb}
 use borrow.Author.Tests.{leb-true, ltb-true, eqb-true}
 use lib.ListN.{length, get_or}
-use Rattle.rules.specs.Answer.{if◌then◌else◌}
+use Rattle.rules.specs.Answer.{when◌then◌else◌}
 use Rattle.rules.specs.Layout.{Layout}
 use Rattle.rules.specs.Record.{Place, Category, places, at}
 use Rattle.rules.specs.Catalogue.{categories}
@@ -78,7 +78,7 @@ abbrev typed : Category → Bool
 typed c = eqb (length c.profile) 0 || (ltb 0 (frn_in 0 c) && type_place (get_or (places c) (frn_in 0 c - 1) none))
 
 tables_typed : every_category typed categories ≡ true
-unfolding categories frn_as if◌then◌else◌
+unfolding categories frn_as when◌then◌else◌
 tables_typed = refl
 
 no_rows : {A : Type 0} (l : List A) → length l ≡ 0 → l ≡ []

@@ -15,7 +15,7 @@ use borrow.Author.Tests.{le-leb, lt-ltb, eqb-true, eq-eqb, ne_eqb, not-true, not
 use lib.ListN.{length, take, drop, get_or, replicate, length-append, length-map, length-replicate}
 use mir.Syntax.{w8}
 use mir.Val.{Fits}
-use Rattle.rules.specs.Answer.{Answer, ok, refused, ◌>>=◌, need◌or◌then◌, if◌then◌else◌}
+use Rattle.rules.specs.Answer.{Answer, ok, refused, ◌>>=◌, need◌or◌then◌, when◌then◌else◌}
 use Rattle.rules.specs.Chain.{flatten, joined, read_num, read_chain}
 use Rattle.rules.specs.Presence.{flags, number, present, usable, house, flag_rows, read_presence}
 use Rattle.rules.specs.Record.{Place, places}
@@ -45,7 +45,7 @@ ones ps = map (λ p. 1) ps
 
 chain_step : {P : Type 0} (p : P) (ps : List P) (x : ℕ) (bs : List ℕ)
     → read_chain 5 6 (ones (p ∷ ps)) (x ∷ bs)
-    ≡ (if eqb (x % 2) 0 then ok (x / 2 ∷ [], bs) else (read_chain 5 6 (ones ps) bs >>= (λ y. ok (x / 2 ∷ y.0, y.1))))
+    ≡ (when eqb (x % 2) 0 then ok (x / 2 ∷ [], bs) else (read_chain 5 6 (ones ps) bs >>= (λ y. ok (x / 2 ∷ y.0, y.1))))
 unfolding read_chain
 chain_step p ps x bs = bind_in _ (read_one_lem 5 x bs) refl
 
@@ -182,11 +182,11 @@ set_chain i (p ∷ ps) (x ∷ bs) bits used o =
   where
     go : (t : Bool)
         → set_from i (length ps) bs (bits + x / 2 * 2 ^ (56 - 7 * used)) (used + 1) ≡ (read_chain 5 6 (ones ps) bs >>= chain_end i (bits + x / 2 * 2 ^ (56 - 7 * used)) (used + 1))
-        → (if t then ended i x (bits + x / 2 * 2 ^ (56 - 7 * used)) (used + 1) else set_from i (length ps) bs (bits + x / 2 * 2 ^ (56 - 7 * used)) (used + 1))
-        ≡ ((if t then ok (x / 2 ∷ [], bs) else (read_chain 5 6 (ones ps) bs >>= (λ y. ok (x / 2 ∷ y.0, y.1)))) >>= chain_end i bits used)
-    go true ih = unfold if◌then◌else◌ ended ◌>>=◌ house in refl
+        → (when t then ended i x (bits + x / 2 * 2 ^ (56 - 7 * used)) (used + 1) else set_from i (length ps) bs (bits + x / 2 * 2 ^ (56 - 7 * used)) (used + 1))
+        ≡ ((when t then ok (x / 2 ∷ [], bs) else (read_chain 5 6 (ones ps) bs >>= (λ y. ok (x / 2 ∷ y.0, y.1)))) >>= chain_end i bits used)
+    go true ih = unfold when◌then◌else◌ ended ◌>>=◌ house in refl
     go false ih =
-        unfold if◌then◌else◌ in
+        unfold when◌then◌else◌ in
         (ih
         ∙ bind_same (read_chain 5 6 (ones ps) bs) _ _ (λ y e. sym (end_step i bits used (x / 2) y.0 y.1 (chained ps y.0 bs y.1 o.1 e).some) ∙ sym (bind_in (chain_end i bits used) refl refl))
         ∙ sym (bind_assoc (read_chain 5 6 (ones ps) bs) _ _))
@@ -240,7 +240,7 @@ one_more n k h = omega arith
 
 set_cons : (i l : ℕ) (bs : List ℕ) (bits used : ℕ) → (length bs ≡ 0 → ⊥)
     → set_from i (suc l) bs bits used
-    ≡ (if eqb (get_or bs 0 0 % 2) 0
+    ≡ (when eqb (get_or bs 0 0 % 2) 0
     then ended i (get_or bs 0 0) (bits + get_or bs 0 0 / 2 * 2 ^ (56 - 7 * used)) (used + 1)
     else set_from i l (drop 1 bs) (bits + get_or bs 0 0 / 2 * 2 ^ (56 - 7 * used)) (used + 1))
 unfolding set_from

@@ -2,7 +2,7 @@
 -- `proofs/SetLaws`, `FspecLaws` and `JudgeLaws` have that these are the rules' own. Assumes nothing.
 use Rattle.std.specs.Prelude.{ℕ, zero, suc, ◌+◌, ◌-◌, ◌*◌, ◌/◌, ◌%◌, ◌^◌, Bool, false, List, [], ◌∷◌, ◌++◌, ltb, eqb, get_or}
 use Rattle.std.proofs.Math.Option.{Option, none, some}
-use Rattle.rules.specs.Answer.{Answer, ok, refused, ◌>>=◌, need◌or◌then◌, if◌then◌else◌}
+use Rattle.rules.specs.Answer.{Answer, ok, refused, ◌>>=◌, need◌or◌then◌, when◌then◌else◌}
 use Rattle.rules.specs.Presence.{flags, has}
 use Rattle.rules.specs.Record.{Place, places, message_of}
 use Rattle.tables.specs.Profiles.{usable_in, frn_in}
@@ -25,14 +25,14 @@ unfoldable pub set_from : ℕ → ℕ → List ℕ → ℕ → ℕ → Answer (�
 set_from i zero bs bits used = refused 6 0
 set_from i (suc l) [] bits used = refused 5 0
 set_from i (suc l) (x ∷ bs) bits used =
-    if eqb (x % 2) 0
+    when eqb (x % 2) 0
     then ended i x (bits + x / 2 * 2 ^ (56 - 7 * used)) (used + 1)
     else set_from i l bs (bits + x / 2 * 2 ^ (56 - 7 * used)) (used + 1)
 
 -- how many octets the FSPEC of a set has: at most so many still to come, the octets so far, and the FRNs left
 unfoldable pub rows_left : ℕ → ℕ → ℕ → ℕ
 rows_left zero n left = n
-rows_left (suc l) n left = if eqb left 0 then n else rows_left l (n + 1) (left % 2 ^ (63 - 7 * (n + 1)))
+rows_left (suc l) n left = when eqb left 0 then n else rows_left l (n + 1) (left % 2 ^ (63 - 7 * (n + 1)))
 
 -- ---- what the message type asks for
 

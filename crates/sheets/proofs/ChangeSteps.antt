@@ -12,7 +12,7 @@ use borrow.Author.Tests.{le-leb, lt-leb, lt-ltb, le-ltb}
 use lib.ListN.{length, take, drop, length-append}
 use lib.Seq.{drop-drop, drop_at, take_at}
 use lib.IntN.{ℤ}
-use Rattle.rules.specs.Answer.{Answer, ok, refused, ◌>>=◌, need◌or◌then◌, if◌then◌else◌}
+use Rattle.rules.specs.Answer.{Answer, ok, refused, ◌>>=◌, need◌or◌then◌, when◌then◌else◌}
 use Rattle.rules.proofs.AnswerLaws.{Octets}
 use Rattle.rules.specs.declared.Shape.TheVariants.{Whole, InLog}
 use Rattle.rules.specs.declared.Edition.{Edition}
@@ -47,20 +47,20 @@ use Rattle.sheets.specs.Answers.{sheet_read}
 -- ---- editions
 
 pub back_same : (f : Form) (e : Edition) → f.least ≤ e.byte → e ≡ back_of f e
-unfolding back_of if◌then◌else◌
+unfolding back_of when◌then◌else◌
 back_same f e h = rw (le-leb f.least e.byte h)
 
 pub back_found : (f : Form) (e x : Edition) → e.byte < f.least → ok x ≡ edition_of f.editions f.least → x ≡ back_of f e
-unfolding back_of if◌then◌else◌
+unfolding back_of when◌then◌else◌
 back_found f e x h g = rw (lt-leb f.least e.byte h, ← g)
 
 pub back_none : (f : Form) (e : Edition) (k p : ℕ) → e.byte < f.least → refused k p ≡ edition_of f.editions f.least → e ≡ back_of f e
-unfolding back_of if◌then◌else◌
+unfolding back_of when◌then◌else◌
 back_none f e k p h g = rw (lt-leb f.least e.byte h, ← g)
 
 -- no byte is refused but by 33 at 0
 only_33 : (es : List Edition) (n : ℕ) → ◌≡◌ {A = Answer Edition} (edition_of es n >>= (λ e. refused 33 0)) (refused 33 0)
-unfolding edition_of if◌then◌else◌ ◌>>=◌
+unfolding edition_of when◌then◌else◌ ◌>>=◌
 only_33 [] n = refl
 only_33 (x ∷ es) n = ⊎_elim (λ (t : eqb n x.byte ≡ true). rw t) (λ (t : eqb n x.byte ≡ false). rw t (only_33 es n)) (decide (eqb n x.byte))
 

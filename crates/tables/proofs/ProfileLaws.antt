@@ -12,7 +12,7 @@ use lib.Dec.{eqb, ltb, eqb→eq}
 use borrow.Author.Tests.{eq-eqb, ne_eqb, ltb-true, ltb-false}
 use lib.ListN.{length, get_or, drop, length-map, get_or-eq_default}
 use lib.Seq.{drop-length}
-use Rattle.rules.specs.Answer.{if◌then◌else◌}
+use Rattle.rules.specs.Answer.{when◌then◌else◌}
 use Rattle.rules.specs.Record.{Category}
 use Rattle.rules.specs.Block.{category_of}
 use Rattle.rules.specs.Presence.{number, has}
@@ -138,7 +138,7 @@ pub record Seeking (n : ℕ) (cs : List Category) (i : ℕ) : Type 0 where
   pub same : profile_in n cs ≡ i + profile_in n (drop i cs)
 
 seek_step : (n : ℕ) (cs : List Category) (i : ℕ) → i < length cs
-    → profile_in n (drop i cs) ≡ (if eqb n (get_or (map (λ c. c.cat) cs) i 0) then 0 else suc (profile_in n (drop (suc i) cs)))
+    → profile_in n (drop i cs) ≡ (when eqb n (get_or (map (λ c. c.cat) cs) i 0) then 0 else suc (profile_in n (drop (suc i) cs)))
 unfolding profile_in
 seek_step n [] i h = absurd (omega arith)
 seek_step n (c ∷ cs) zero h = refl
@@ -169,21 +169,21 @@ module _ {n : ℕ} {cs : List Category} {i : ℕ} (s : Seeking n cs i) where
 -- ---- the category that is found
 
 pub category_found : (n : ℕ) (cs : List Category) → profile_in n cs < length cs → category_of n cs ≡ some (category_in cs (profile_in n cs))
-unfolding category_of profile_in if◌then◌else◌
+unfolding category_of profile_in when◌then◌else◌
 category_found n [] h = absurd (omega arith)
 category_found n (c ∷ cs) h = go (eqb n c.cat) (category_found n cs) h
   where
-    go : (t : Bool) → (profile_in n cs < length cs → category_of n cs ≡ some (category_in cs (profile_in n cs))) → (if t then 0 else suc (profile_in n cs)) < suc (length cs)
-        → (if t then some c else category_of n cs) ≡ some (category_in (c ∷ cs) (if t then 0 else suc (profile_in n cs)))
+    go : (t : Bool) → (profile_in n cs < length cs → category_of n cs ≡ some (category_in cs (profile_in n cs))) → (when t then 0 else suc (profile_in n cs)) < suc (length cs)
+        → (when t then some c else category_of n cs) ≡ some (category_in (c ∷ cs) (when t then 0 else suc (profile_in n cs)))
     go true f k = refl
     go false f k = f (omega arith)
 
 pub category_missed : (n : ℕ) (cs : List Category) → length cs ≤ profile_in n cs → category_of n cs ≡ none
-unfolding category_of profile_in if◌then◌else◌
+unfolding category_of profile_in when◌then◌else◌
 category_missed n [] h = refl
 category_missed n (c ∷ cs) h = go (eqb n c.cat) (category_missed n cs) h
   where
-    go : (t : Bool) → (length cs ≤ profile_in n cs → category_of n cs ≡ none) → suc (length cs) ≤ (if t then 0 else suc (profile_in n cs)) → (if t then some c else category_of n cs) ≡ none
+    go : (t : Bool) → (length cs ≤ profile_in n cs → category_of n cs ≡ none) → suc (length cs) ≤ (when t then 0 else suc (profile_in n cs)) → (when t then some c else category_of n cs) ≡ none
     go true f k = absurd (omega arith)
     go false f k = f (omega arith)
 
@@ -209,11 +209,11 @@ index_in cs (d ∷ ds) i (suc j) h k =
     omega arith
 
 tables_indexed : indexed categories 0 categories ≡ true
-unfolding categories profile_in if◌then◌else◌
+unfolding categories profile_in when◌then◌else◌
 tables_indexed = refl
 
 tables_named : category_of 0 categories ≡ none
-unfolding categories category_of if◌then◌else◌
+unfolding categories category_of when◌then◌else◌
 tables_named = refl
 
 pub index_is : (i : ℕ) → category_of (category_at i).cat categories ≡ some (category_at i) → profile_in (category_at i).cat categories ≡ i

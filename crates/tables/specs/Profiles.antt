@@ -4,7 +4,7 @@
 -- In order: a category by its index; a set of FRNs as a number; the columns; a row.
 use Rattle.std.specs.Prelude.{ℕ, zero, suc, Bool, false, List, [], ◌∷◌, map, eqb, length, get_or, replicate}
 use Rattle.std.proofs.Math.Option.{Option, none, some}
-use Rattle.rules.specs.Answer.{if◌then◌else◌}
+use Rattle.rules.specs.Answer.{when◌then◌else◌}
 use Rattle.rules.specs.Presence.{number, present}
 use Rattle.rules.specs.Record.{Category, places}
 use Rattle.rules.specs.Catalogue.{categories}
@@ -26,7 +26,7 @@ category_at i = category_in categories i
 -- the index of a category in a list, by its CAT, or how long the list is
 unfoldable pub profile_in : ℕ → List Category → ℕ
 profile_in n [] = 0
-profile_in n (c ∷ cs) = if eqb n c.cat then 0 else suc (profile_in n cs)
+profile_in n (c ∷ cs) = when eqb n c.cat then 0 else suc (profile_in n cs)
 
 -- ---- a set of FRNs as a number: FRN f, 0 to 63, is bit 63 - f
 

@@ -10,7 +10,7 @@ use native.Mathlib.Omega.{arith}
 use lib.Dec.{leb, ltb, eqb, leb→le}
 use borrow.Author.Tests.{le-leb, lt-leb, lt-ltb, le-ltb, eq-eqb, ne_eqb}
 use lib.IntN.{ℤ, pos, negsuc}
-use Rattle.rules.specs.Answer.{Answer, ok, refused, ◌>>=◌, need◌or◌then◌, if◌then◌else◌, later}
+use Rattle.rules.specs.Answer.{Answer, ok, refused, ◌>>=◌, need◌or◌then◌, when◌then◌else◌, later}
 use Rattle.rules.specs.declared.Shape.{Shape}
 use Rattle.rules.specs.declared.Shape.TheVariants.{Whole, InLog}
 use Rattle.rules.specs.declared.Edition.{Edition}
@@ -106,16 +106,16 @@ pub searched_none : (es : List Edition) (n : ℕ) → Searched es n 0
 searched_none es n = record { within = omega arith; left = refl }
 
 module _ (es : List Edition) (n i : ℕ) (e d : Edition) (w : Searched es n i) (l : i < length es) (r : e ≡ get_or es i d) where
-  row_step : (if eqb n e.byte then ok e else edition_of (drop (suc i) es) n) ≡ edition_of es n
+  row_step : (when eqb n e.byte then ok e else edition_of (drop (suc i) es) n) ≡ edition_of es n
   unfolding edition_of
-  row_step = ap (λ x. if eqb n x.byte then ok x else edition_of (drop (suc i) es) n) r ∙ ap (λ x. edition_of x n) (sym (drop-cons es i d l)) ∙ w.left
+  row_step = ap (λ x. when eqb n x.byte then ok x else edition_of (drop (suc i) es) n) r ∙ ap (λ x. edition_of x n) (sym (drop-cons es i d l)) ∙ w.left
 
   pub searched_here : e.byte ≡ n → ok e ≡ edition_of es n
-  unfolding if◌then◌else◌
+  unfolding when◌then◌else◌
   searched_here h = rw (eq-eqb n e.byte (sym h)) at row_step
 
   pub searched_more : (e.byte ≡ n → ⊥) → Searched es n (i + 1)
-  unfolding if◌then◌else◌
+  unfolding when◌then◌else◌
   searched_more h =
       let y : suc i ≡ i + 1 = omega arith in
       record { within = omega arith; left = ap (λ k. edition_of (drop k es) n) (sym y) ∙ (rw (ne_eqb n e.byte (λ q. h (sym q))) at row_step) }

@@ -11,7 +11,7 @@ use lib.Dec.{leb, eqb, le→leb}
 use borrow.Author.Tests.{eqb-true, lt-leb, leb-true, leb-false, ne_eqb}
 use lib.ListN.{length, take, drop, replicate, length-drop, length-replicate}
 use lib.IntN.{ℤ}
-use Rattle.rules.specs.Answer.{Answer, ok, refused, ◌>>=◌, need◌or◌then◌, if◌then◌else◌}
+use Rattle.rules.specs.Answer.{Answer, ok, refused, ◌>>=◌, need◌or◌then◌, when◌then◌else◌}
 use Rattle.rules.specs.Field.{Field, any, arity}
 use Rattle.rules.specs.Format.{Group, Format, fixed, repeated, led, PartValues, groups, pack_all, write_plain}
 use Rattle.rules.specs.Layout.{plain, in_parts, write_item}
@@ -69,7 +69,7 @@ unfolding take_parts parts_from ◌>>=◌
 cut_enough g z zero zero fs e l = refl
 cut_enough g z zero (suc k) fs e l = go (eqb (length fs) 0)
   where
-    go : (t : Bool) → (need t or 11 then ok []) ≡ (if t then ok [] else need leb (arity g) (length fs) or 11 then (parts_from (replicate k g) (drop (arity g) fs) >>= (λ vs. ok (take (arity g) fs ∷ vs))))
+    go : (t : Bool) → (need t or 11 then ok []) ≡ (when t then ok [] else need leb (arity g) (length fs) or 11 then (parts_from (replicate k g) (drop (arity g) fs) >>= (λ vs. ok (take (arity g) fs ∷ vs))))
     go true = need_in true 11 tt (sym (if_true _ refl refl))
     go false = need_out 11 _ refl ∙ sym (if_false _ refl (need_out 11 _ (lt-leb (arity g) (length fs) (none_left fs (arity g) z e))))
 cut_enough g z (suc d) zero fs e l = absurd (omega arith)
@@ -160,7 +160,7 @@ led_cut lo fs =
     ∙ alike_cut (led lo) 254 (any 8 ∷ []) fs (omega arith) (length-replicate 254 (any 8 ∷ []))
 
 none_first : (s : Format) (t u : Bool) (x : Answer PartValues) → write_plain s [] ≡ refused 11 0 → (t ≡ true → u ≡ false)
-    → ((need u or 11 then x) >>= write_plain s) ≡ ((if t then ok [] else need u or 11 then x) >>= write_plain s)
+    → ((need u or 11 then x) >>= write_plain s) ≡ ((when t then ok [] else need u or 11 then x) >>= write_plain s)
 none_first s true u x h f = bind_out _ (need_out 11 x (f refl)) ∙ sym (ap (λ y. y >>= write_plain s) (if_true _ refl refl) ∙ bind_in _ refl h)
 none_first s false u x h f = ap (λ y. y >>= write_plain s) (sym (if_false _ refl refl))
 

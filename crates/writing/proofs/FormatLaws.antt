@@ -12,7 +12,7 @@ use lib.Dec.{leb}
 use lib.ListN.{length, drop, replicate}
 use lib.Seq.{take_all}
 use lib.IntN.{ℤ}
-use Rattle.rules.specs.Answer.{Answer, ok, refused, ◌>>=◌, need◌or◌then◌, if◌then◌else◌}
+use Rattle.rules.specs.Answer.{Answer, ok, refused, ◌>>=◌, need◌or◌then◌, when◌then◌else◌}
 use Rattle.rules.specs.Field.{Field, any, spare, value, bits, arity, pack}
 use Rattle.rules.specs.Format.{Group, Format, group, fixed, repeated, led, extended, groups, least, PartValues, write_parts, pack_all, write_plain}
 use Rattle.rules.proofs.AnswerLaws.{refused_ok, ok_inj, bind_elim, need_bind}
@@ -49,7 +49,7 @@ pack_first-short fs vs h = ap (pack fs) (take_all (arity fs) vs (omega arith)) �
 -- ---- the parts' numbers, one after another
 
 pub numbers_none : (gs : List Group) → numbers_of gs [] ≡ ok []
-unfolding numbers_of parts_from pack_all ◌>>=◌ need◌or◌then◌ if◌then◌else◌
+unfolding numbers_of parts_from pack_all ◌>>=◌ need◌or◌then◌ when◌then◌else◌
 numbers_none [] = refl
 numbers_none (g ∷ gs) = refl
 
@@ -67,7 +67,7 @@ parts_step f fs true p not_done h = sym (no_bind _ (pack_eleven f p) λ n. refl)
 
 pub numbers_cons : (g : Group) (gs : List Group) (vs : List ℤ) → 0 < length vs
     → numbers_of (g ∷ gs) vs ≡ (pack_first g.fields vs >>= (λ n. numbers_of gs (drop (arity g.fields) vs) >>= (λ ns. ok (n ∷ ns))))
-unfolding numbers_of pack_first parts_from if◌then◌else◌
+unfolding numbers_of pack_first parts_from when◌then◌else◌
 numbers_cons g gs vs h =
     rw (ne_eqb (length vs) 0 (omega arith))
     (parts_step g.fields (fields_of gs) _ _ (parts_from-eleven (fields_of gs) (drop (arity g.fields) vs)) λ e. pack_first-short g.fields vs (leb-false _ _ e))

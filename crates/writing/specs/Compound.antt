@@ -4,7 +4,7 @@
 -- In order: where a subfield's values stand; one bit; one primary octet; all of them; the item; what the functions answer.
 use Rattle.std.specs.Prelude.{ℕ, zero, suc, ◌+◌, ◌-◌, ◌*◌, Bool, true, false, List, [], ◌∷◌, ◌++◌, leb, ltb, ℤ, pos, negsuc, length, get_or, take, drop}
 use Rattle.std.proofs.Math.Option.{Option, none, some}
-use Rattle.rules.specs.Answer.{Answer, ok, refused, ◌>>=◌, need◌or◌then◌, if◌then◌else◌, octets_of}
+use Rattle.rules.specs.Answer.{Answer, ok, refused, ◌>>=◌, need◌or◌then◌, when◌then◌else◌, octets_of}
 use Rattle.rules.specs.Field.{arity}
 use Rattle.rules.specs.Format.{Format, fixed, repeated, led, extended}
 use Rattle.rules.specs.Presence.{number, keep_row}
@@ -47,7 +47,7 @@ sub_span (extended gs) v have at = refused 11 0
 unfoldable pub span_from : Option Format → List ℤ → ℕ → Answer Spanned
 span_from none vs at = ok (spanned false at at 0)
 span_from (some s) vs at = need ltb at (length vs) or 11 then
-    if is_absent (get_or vs at (pos 0))
+    when is_absent (get_or vs at (pos 0))
     then ok (spanned false (at + 1) (at + 1) 0)
     else sub_span s (get_or vs at (pos 0)) (length vs) at
 
@@ -67,7 +67,7 @@ within s vs = take (s.end - s.first) (drop s.first vs)
 
 unfoldable pub place_in : ℕ → List ℤ → Spanned → Answer Place
 place_in i vs s =
-    if s.there
+    when s.there
     then cut_at i (within s vs) >>= (λ c. ok (record { there = true; octets = c.octets; next = s.end }))
     else ok (record { there = false; octets = []; next = s.end })
 

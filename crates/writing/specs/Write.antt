@@ -3,7 +3,7 @@
 -- the rules' `write_plain` and `write_fields`. Assumes nothing.
 use Rattle.std.specs.Prelude.{ℕ, suc, ◌+◌, ◌*◌, ◌^◌, Bool, true, false, cond, List, [], ◌∷◌, ◌++◌, map, leb, ltb, eqb, length, get_or, take, drop, replicate, ℤ}
 use Rattle.std.proofs.Math.Seq.{slice}
-use Rattle.rules.specs.Answer.{Answer, ok, refused, ◌>>=◌, need◌or◌then◌, if◌then◌else◌, octets_of, Write}
+use Rattle.rules.specs.Answer.{Answer, ok, refused, ◌>>=◌, need◌or◌then◌, when◌then◌else◌, octets_of, Write}
 use Rattle.rules.specs.Field.{Field, Kind, spare, value, unsigned, any, arity, put, pack}
 use Rattle.rules.specs.Chain.{octets}
 use Rattle.rules.specs.Format.{Group, Format, fixed, repeated, led, extended, group, groups, PartValues, pack_all, write_plain}
@@ -20,7 +20,7 @@ use Rattle.writing.specs.declared.formats.Counted.TheVariants as counted
 unfoldable pub parts_from : List (List Field) → List ℤ → Answer PartValues
 parts_from [] vs = need eqb (length vs) 0 or 11 then ok []
 parts_from (g ∷ gs) vs =
-    if eqb (length vs) 0
+    when eqb (length vs) 0
     then ok []
     else need leb (arity g) (length vs) or 11 then do
       ps ← parts_from gs (drop (arity g) vs)

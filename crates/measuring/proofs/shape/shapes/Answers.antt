@@ -1,6 +1,6 @@
 -- `measuring::shape::shapes` meets its contract: no shape says what the profiles do not have. Assumes nothing.
 use mathlib.Core.Path.{refl}
-use Rattle.rules.specs.Answer.{need◌or◌then◌, if◌then◌else◌}
+use Rattle.rules.specs.Answer.{need◌or◌then◌, when◌then◌else◌}
 use Rattle.rules.specs.Presence.{number, flags}
 use Rattle.rules.specs.Catalogue.{categories}
 use Rattle.sets.specs.Sets.{category_at, bits_of}
@@ -13,5 +13,5 @@ use Rattle.measuring.specs.Shape.{sound_row, sound_shapes}
 use Rattle.measuring.proofs.shape.shapes.Goals as goal
 
 pub returns : goal.returns
-unfolding sound_shapes sound_row octets_at group_at layout_at place_row_at groups layouts set_from ended usable_bits need◌or◌then◌ if◌then◌else◌ flags number category_at categories bits_of profile_row_at frn_as type_frn
+unfolding sound_shapes sound_row octets_at group_at layout_at place_row_at groups layouts set_from ended usable_bits need◌or◌then◌ when◌then◌else◌ flags number category_at categories bits_of profile_row_at frn_as type_frn
 returns c = refl

@@ -1,6 +1,6 @@
 -- `quick_records::lent::set_table` meets its contract: the rows are those of the rules' messages, and no shape says what the rules do not have. Assumes nothing.
 use mathlib.Core.Path.{refl}
-use Rattle.rules.specs.Answer.{need◌or◌then◌, if◌then◌else◌}
+use Rattle.rules.specs.Answer.{need◌or◌then◌, when◌then◌else◌}
 use Rattle.rules.specs.Presence.{number, flags}
 use Rattle.rules.specs.Catalogue.{categories}
 use Rattle.tables.specs.Places.{frn_as}
@@ -14,5 +14,5 @@ use Rattle.quick_records.specs.Shape.{sound_mask, sound_shape, sound_sets}
 use Rattle.quick_records.proofs.lent.set_table.Goals as goal
 
 pub returns : goal.returns
-unfolding sound_sets sound_shape sound_mask has_front front_octets type_at type_frn frn_as type_sets set_from ended usable_bits need◌or◌then◌ if◌then◌else◌ flags number down_of added_of up_of limit_of sound_rule sound_single sound_counted first_rule rules singles place_row_at layout_at layouts group_at groups category_at categories bits_of
+unfolding sound_sets sound_shape sound_mask has_front front_octets type_at type_frn frn_as type_sets set_from ended usable_bits need◌or◌then◌ when◌then◌else◌ flags number down_of added_of up_of limit_of sound_rule sound_single sound_counted first_rule rules singles place_row_at layout_at layouts group_at groups category_at categories bits_of
 returns c = refl

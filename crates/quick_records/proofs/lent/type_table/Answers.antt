@@ -1,6 +1,6 @@
 -- `quick_records::lent::type_table` meets its contract: no entry says what the rules do not have. Assumes nothing.
 use mathlib.Core.Path.{refl}
-use Rattle.rules.specs.Answer.{◌>>=◌, if◌then◌else◌}
+use Rattle.rules.specs.Answer.{◌>>=◌, when◌then◌else◌}
 use Rattle.rules.specs.Presence.{number, flags}
 use Rattle.rules.specs.Record.{message_of}
 use Rattle.rules.specs.Catalogue.{categories}
@@ -13,5 +13,5 @@ use Rattle.quick_records.specs.Record.{type_sets, has_front, front_octets, type_
 use Rattle.quick_records.proofs.lent.type_table.Goals as goal
 
 pub returns : goal.returns
-unfolding sound_types has_front front_octets type_at type_sets type_frn frn_as row_at message_of if◌then◌else◌ ◌>>=◌ flags singles layout_at layouts group_at groups category_at categories bits_of number
+unfolding sound_types has_front front_octets type_at type_sets type_frn frn_as row_at message_of when◌then◌else◌ ◌>>=◌ flags singles layout_at layouts group_at groups category_at categories bits_of number
 returns c = refl
