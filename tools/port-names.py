@@ -19,7 +19,7 @@ FIELD = re.compile(r"^ +(?:abbrev |pub )*([^\s:(){},=]+(?: [^\s:(){},=]+)*)(?: \
 
 
 def files():
-    for folder, dirs, names in sorted(os.walk("crates")):
+    for folder, dirs, names in os.walk("crates"):
         dirs[:] = sorted(d for d in dirs if d != "out")
         for name in sorted(names):
             yield os.path.join(folder, name)

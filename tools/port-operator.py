@@ -16,7 +16,7 @@ def turned(code):
 
 def main():
     changed = set()
-    for folder, dirs, names in sorted(os.walk("crates")):
+    for folder, dirs, names in os.walk("crates"):
         dirs[:] = sorted(d for d in dirs if d != "out")
         for name in sorted(names):
             path = os.path.join(folder, name)
@@ -37,7 +37,8 @@ def main():
             with open(path, "w", encoding="utf-8") as f:
                 f.write("\n".join(lines))
             changed.add(path)
-    for folder, dirs, names in sorted(os.walk("crates")):
+    for folder, dirs, names in os.walk("crates"):
+        dirs[:] = sorted(d for d in dirs if d != "out")
         for name in sorted(names):
             if not name.endswith(".edit"):
                 continue
