@@ -18,7 +18,7 @@ use Rattle.tables.specs.Tests.{all_below}
 
 -- how many message types a profile has a place for, by number; how many rows, one for each type after one that is no type's; how many ways FRN 4 to 7 can
 -- be there or not
--- ---- made by model/make.py: kindCount, rowCount
+-- ---- made by model/make.py: kind_count, row_count
 abbrev pub kind_count : ℕ
 kind_count = 112
 

@@ -75,7 +75,7 @@ abbrev pub primary_count : ℕ
 primary_count = length primaries
 
 -- the code counts with these two numbers: `profiles_long` has that they are the profiles, `profile_few` that each has room for its FRNs, 0 among them
--- ---- made by model/make.py: profileCount, frnCount
+-- ---- made by model/make.py: profile_count, frn_count
 abbrev pub profile_count : ℕ
 profile_count = 3
 

@@ -1,4 +1,4 @@
--- `compounds::primary::before` meets its contract: each `return` is a case of `beforeOf`. Assumes nothing.
+-- `compounds::primary::before` meets its contract: each `return` is a case of `before_of`. Assumes nothing.
 use Prim.Native.Nat.{◌*◌, ◌^◌, ◌<◌, ◌≤◌}
 use mathlib.Core.Path.{ap, ◌∙◌}
 use native.Mathlib.Omega.{arith}

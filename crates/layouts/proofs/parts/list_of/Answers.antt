@@ -1,4 +1,4 @@
--- `layouts::parts::list_of` meets its contract: each `return` is a case of `listShape`. Assumes nothing.
+-- `layouts::parts::list_of` meets its contract: each `return` is a case of `list_shape`. Assumes nothing.
 use Prim.Native.Nat.{◌*◌, ◌≤◌}
 use mathlib.Core.Path.{sym, subst}
 use native.Mathlib.Omega.{arith}

@@ -1,4 +1,4 @@
--- `writing::write::write_compound` meets its contract: at each `return` the tests that led there say what the rules' `writeFields` answers (`ItemLaws`).
+-- `writing::write::write_compound` meets its contract: at each `return` the tests that led there say what the rules' `write_fields` answers (`ItemLaws`).
 -- Assumes nothing.
 use mathlib.Core.Path.{◌≡◌, sym, ap, ◌∙◌}
 use Rattle.rules.specs.Answer.{ok}

@@ -1,4 +1,4 @@
--- `writing::write::write_plain` meets its contract: at each `return` the tests that led there say what the rules' `writeFields` answers (`ItemLaws`). Assumes
+-- `writing::write::write_plain` meets its contract: at each `return` the tests that led there say what the rules' `write_fields` answers (`ItemLaws`). Assumes
 -- nothing.
 use mathlib.Core.Path.{◌≡◌, sym, ap, ◌∙◌}
 use Prim.Native.Nat.{◌-◌}
