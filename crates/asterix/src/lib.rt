@@ -1,5 +1,5 @@
-// The functions of include/asterix.h, for C and Rust: a slice goes as a pointer and how many elements it points to, an array as a pointer. Each answer is
-// a struct by value whose `number` is 0 or the refusal's (document 01, "Refusal numbers and their order"), whose `place` is the refusal's, and whose other
+// The functions of include/asterix.h, which `asterix_c` exports to C and Rust: a slice goes as a pointer and how many elements it points to, an array as a
+// pointer. Each answer is a struct by value whose `number` is 0 or the refusal's (document 01, "Refusal numbers and their order"), whose `place` is the refusal's, and whose other
 // members are 0 on refusal (but for a walk's `next`, and a step's places).
 //
 // In order, as in the header: checking; finding; walking a log; two logs on one line; one item; adding a record; lengths. Exercise sheets: `sheet`.
