@@ -161,7 +161,7 @@ same("two long logs", (found[:9], found.count(b" A@"), said, status), (b"ok 1000
 for length in [*range(4090, 4100), *range(65530, 65540), *range(131068, 131076)]:
     ask(f"a line of {length}", b"x" * length + b"\nrecording -\n", b"bad line\nok 0 0\n")
 
-# What cannot be read, written or held: standard error says so. asterix_check ends with 0 whatever it says; ./asterix has a status.
+# What cannot be read, written or held: standard error says so. asterix_check ends with 0 where it has said what it had to; ./asterix has a status.
 for program, status in [("asterix_check", 0), ("answers", 2)]:
     folder = os.open("/", os.O_RDONLY)
     done = subprocess.run(command(program), stdin=folder, stdout=subprocess.PIPE, stderr=subprocess.PIPE)

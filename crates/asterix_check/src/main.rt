@@ -32,8 +32,8 @@ fn whole_blocks(part: &[u8]) -> usize
 }
 
 // Whether the first fault has been found: it ends the work.
-fn is_refused(state: &RecordingState) -> bool
-    ensures { result ≡ is_refused (state_of state.now) }
+fn is_refused(state: RecordingState) -> bool
+    ensures { result ≡ is_refused (state_of state) }
 {
     match state {
         RecordingState::SoFar {
@@ -74,7 +74,7 @@ fn advance(state: RecordingState, filled: Filled, buffer: &[u8]) -> Turn
         Filled::More(n) => {
             let whole = whole_blocks(&buffer[0..n]);
             let next = state.feed(&buffer[0..whole]);
-            if is_refused(&next) {
+            if is_refused(next) {
                 return Turn::Verdict(next.finish());
             }
             Turn::On {

@@ -104,7 +104,7 @@ fn add(a: u64, b: u64) -> u64
 }
 
 // What is known of a recording so far: how many bytes, blocks and records came; or the first refusal.
-#[derive(Drop)]
+#[derive(Clone, Copy)]
 pub enum RecordingState {
     SoFar {
         place: u64,
