@@ -1,15 +1,16 @@
 -- No two answers of the code say the same in the rules' words: a fault is known by its number, and a refusal by its fault and its place.
 --
--- In order: a fault; a refusal; answers; the functions of this crate. Assumes nothing.
-use Rattle.std.specs.Prelude.{ℕ, Result, Ok, Err, List, [], ◌∷◌}
+-- In order: a fault; a refusal; answers; what the code makes or a `?` hands on. Assumes nothing.
+use Rattle.std.specs.Prelude.{ℕ, Result, Ok, Err, List, [], ◌∷◌, Option as Optional, Some, None, IsErrAnd}
 use lib.ListN.{get_or}
+use Rattle.std.specs.Option.{ok_or}
 use mathlib.Core.Path.{◌≡◌, refl, sym, ap, ap₂, ◌∙◌}
 use native.Mathlib.Omega.{arith}
 use Rattle.rules.specs.Answer.{Answer, ok, refused}
 use Rattle.rules.specs.declared.faults.Fault.{Fault}
 use Rattle.rules.specs.declared.faults.Fault.TheVariants as fault
 use Rattle.rules.specs.declared.faults.Refusal.{Refusal}
-use Rattle.rules.specs.Told.{number_of, moved, refusal_of, told_as, told, begun_as}
+use Rattle.rules.specs.Told.{number_of, refusal_of, told_as, told, begun_as}
 use Rattle.rules.proofs.AnswerLaws.{ok_inj}
 
 -- ---- a fault
@@ -98,14 +99,26 @@ one_begun_as f i (Ok a) (Err s) e = let z : ◌≡◌ {A = ℕ} 0 1 = cc in absu
 one_begun_as f i (Err r) (Ok b) e = let z : ◌≡◌ {A = ℕ} 0 1 = cc in absurd (omega arith)
 one_begun_as f i (Err r) (Err s) e = ap Err (one_fault r s (ap refused_number e))
 
--- ---- the functions of this crate
+-- ---- a refusal that the code makes, or that a `?` hands on, in the rules' words
 
-pub one_number : (self : Fault) (a b : ℕ) → a ≡ number_of self → b ≡ number_of self → a ≡ b
-one_number self a b p q = p ∙ sym q
+pub refused_as : {A : Type 0} (r : Refusal) (f : Fault) (p : ℕ) → r.fault ≡ f → r.place ≡ p → refusal_of {A = A} r ≡ refused (number_of f) p
+refused_as r f p e h = rw (e, h)
 
-pub one_at : (self : Fault) (place : ℕ) (a b : Refusal)
-    → a.fault ≡ self → a.place ≡ place → b.fault ≡ self → b.place ≡ place → a ≡ b
-one_at self place a b p q s t = ap₂ (λ f k. record { fault = f; place = k }) (p ∙ sym s) (q ∙ sym t)
+-- by a `?` at a fault
+pub begun : {A : Type 0} (x : Result A Refusal) (f : Fault) → IsErrAnd x (λ r. (r.fault ≡ f) × (r.place ≡ 0)) → told x ≡ refused (number_of f) 0
+begun (Ok a) f h = absurd h
+begun (Err r) f h = refused_as r f 0 h.0 h.1
 
-pub one_later : (self : Refusal) (by : ℕ) (a b : Refusal) → a ≡ moved by self → b ≡ moved by self → a ≡ b
-one_later self by a b p q = p ∙ sym q
+-- by a `?` at a refusal
+pub handed : {A : Type 0} (x : Result A Refusal) (e : Refusal) → IsErrAnd x (λ r. r ≡ e) → told x ≡ refusal_of e
+handed (Ok a) e h = absurd h
+handed (Err r) e h = ap refusal_of h
+
+-- by a `?` at what is missing
+abbrev err_of : {A : Type 0} → Fault → Result A Fault → Fault
+err_of f (Ok a) = f
+err_of f (Err e) = e
+
+pub missing : {A : Type 0} (o : Optional A) (f e : Fault) → Err e ≡ ok_or o f → e ≡ f
+missing None f e h = ap (err_of f) h
+missing (Some a) f e h = ap (err_of f) h
