@@ -1,5 +1,6 @@
 -- Text put on a page, which is a buffer with the place where the next character goes. What has no room is left out. Assumes nothing.
 use Rattle.std.specs.Prelude.{ℕ, ◌+◌, cond, List, [], ◌∷◌, ltb, length, set}
+use Rattle.text.specs.declared.page.Page.{Page as Filled}
 use Prim.Native.Char.{code}
 use Prim.Native.String.{String, [] as []ˢ, ◌∷◌ as ◌∷ˢ◌}
 
@@ -14,6 +15,10 @@ pub record Page (A : Type 0) : Type 0 where
 
 abbrev pub page : {A : Type 0} → List A → ℕ → Page A
 page l n = record { held = l; at = n }
+
+-- a lent buffer that is filled so far
+abbrev pub page_of : Filled → Page ℕ
+page_of p = page p.held.now p.at
 
 -- one more at the place, if the page has it
 unfoldable pub put : {A : Type 0} → A → Page A → Page A

@@ -1,9 +1,9 @@
 // Octets as pairs of hexadecimal digits; a minus alone is no octets.
 ghost use Rattle.std.specs.Prelude.{◌≡◌, ◌<◌};
-ghost use Rattle.text.specs.Page.{page, puts};
+ghost use Rattle.text.specs.Page.{page, page_of, puts};
 ghost use Rattle.text.specs.Octet.{glyph_of, octet_text, octets_text};
 
-use super::page::put;
+use super::page::Page;
 
 // A hexadecimal digit, in upper case.
 fn glyph(d: u8) -> u8
@@ -13,26 +13,36 @@ fn glyph(d: u8) -> u8
     if d < 10 { 48 + d } else { 55 + d }
 }
 
-// An octet as two digits.
-fn put_octet(out: &mut [u8], at: usize, octet: u8) -> usize
-    ensures { page out.new result ≡ puts (octet_text octet) (page out.old at) }
-{
-    let p = put(out, at, glyph(octet / 16));
-    put(out, p, glyph(octet % 16))
+impl Page<'_> {
+    // An octet as two digits.
+    fn put_octet(&mut self, octet: u8)
+        ensures text { page_of self.new ≡ puts (octet_text octet) (page_of self.old) }
+        ensures same_buffer { self.new.held.ghost_name ≡ self.old.held.ghost_name }
+    {
+        self.put(glyph(octet / 16));
+        self.put(glyph(octet % 16));
+    }
+
+    // Octets in upper case, a minus for none.
+    fn put_octets(&mut self, octets: &[u8])
+        ensures text { page_of self.new ≡ puts (octets_text octets.now) (page_of self.old) }
+        ensures same_buffer { self.new.held.ghost_name ≡ self.old.held.ghost_name }
+    {
+        if octets.is_empty() {
+            self.put(b'-');
+            return;
+        }
+        for octet in octets {
+            self.put_octet(*octet);
+        }
+    }
 }
 
-// Octets in upper case, a minus for none.
+// On a lent buffer, from a place on; the place after them.
 pub fn put_octets(out: &mut [u8], at: usize, octets: &[u8]) -> usize
     ensures { page out.new result ≡ puts (octets_text octets.now) (page out.old at) }
 {
-    if octets.len() == 0 {
-        return put(out, at, b'-');
-    }
-    let mut i = 0;
-    let mut p = at;
-    while i < octets.len() {
-        p = put_octet(out, p, octets[i]);
-        i += 1;
-    }
-    p
+    let mut filled = Page { held: out, at };
+    filled.put_octets(octets);
+    filled.at
 }

@@ -1,28 +1,50 @@
-// Text put into a lent buffer, one piece after another: each function takes the place where its text goes and answers the place after it.
-// What has no room is left out.
+// Text put on a page, one piece after another: a page is a lent buffer and how far it is filled. What has no room is left out.
 ghost use Rattle.std.specs.Prelude.{◌≡◌, [], ◌∷◌};
-ghost use Rattle.text.specs.Page.{page, puts};
+ghost use Rattle.text.specs.Page.{page, page_of, puts};
 
-// One character.
+#[derive(Drop)]
+pub(super) struct Page<'a> {
+    pub(super) held: &'a mut [u8],
+    pub(super) at: usize,
+}
+
+impl Page<'_> {
+    // One character.
+    pub(super) fn put(&mut self, c: u8)
+        ensures text { page_of self.new ≡ puts (c ∷ []) (page_of self.old) }
+        ensures same_buffer { self.new.held.ghost_name ≡ self.old.held.ghost_name }
+    {
+        if self.at < self.held.len() {
+            self.held[self.at] = c;
+            self.at += 1;
+        }
+    }
+
+    // The characters of a slice.
+    pub(super) fn put_text(&mut self, text: &[u8])
+        ensures text { page_of self.new ≡ puts text.now (page_of self.old) }
+        ensures same_buffer { self.new.held.ghost_name ≡ self.old.held.ghost_name }
+    {
+        for c in text {
+            self.put(*c);
+        }
+    }
+}
+
+// ---- on a lent buffer, from a place on: each answers the place after what it put
+
 pub fn put(out: &mut [u8], at: usize, c: u8) -> usize
     ensures { page out.new result ≡ puts (c ∷ []) (page out.old at) }
 {
-    if at < out.len() {
-        out[at] = c;
-        return at + 1;
-    }
-    at
+    let mut filled = Page { held: out, at };
+    filled.put(c);
+    filled.at
 }
 
-// The characters of a slice.
 pub fn put_text(out: &mut [u8], at: usize, text: &[u8]) -> usize
     ensures { page out.new result ≡ puts text.now (page out.old at) }
 {
-    let mut i = 0;
-    let mut p = at;
-    while i < text.len() {
-        p = put(out, p, text[i]);
-        i += 1;
-    }
-    p
+    let mut filled = Page { held: out, at };
+    filled.put_text(text);
+    filled.at
 }
