@@ -5,19 +5,22 @@ ghost use Rattle.std.specs.Prelude.{◌≡◌, ◌<◌, ◌^◌, pos, negsuc};
 ghost use Rattle.std.specs.Int.Signed.{mag};
 
 // ---- an octet
+//
+// Two, and not one conversion by `From`: what is promised, and by `one_wide` and `one_octet` held, is also that the number is below 256, on which the
+// proofs of the crates above rest; the law of `From` doesn't say it.
 
 // As a number that codes are made of.
 pub fn wide(x: u8) -> u64
     ensures { (result ≡ x) × (result < 256) }
 {
-    x as u64
+    u64::from(x)
 }
 
 // As a count or a length.
 pub fn octet(x: u8) -> usize
     ensures { (result ≡ x) × (result < 256) }
 {
-    x as usize
+    usize::from(x)
 }
 
 // ---- a signed number
@@ -41,9 +44,5 @@ pub fn down(n: u64) -> i64
 pub fn magnitude(x: i64) -> u64
     ensures { result ≡ mag x }
 {
-    if x < 0 {
-        let y = -1 - x;
-        return y as u64;
-    }
-    x as u64
+    if x < 0 { (-1 - x) as u64 } else { x as u64 }
 }
