@@ -1,3 +1,4 @@
+pub mod KindLaws
 pub mod TableLaws
 pub mod MatchLaws
 pub mod RuleLaws

@@ -26,6 +26,7 @@ use Rattle.rules.specs.Entry.{profile_at, over}
 use Rattle.tables.specs.declared.tables.GroupRow.{GroupRow}
 use Rattle.tables.specs.declared.tables.LayoutRow.{LayoutRow}
 use Rattle.tables.specs.declared.tables.FieldRow.{FieldRow}
+use Rattle.tables.proofs.KindLaws.{holds_by, kind_by}
 use Rattle.tables.specs.Tests.{all_below, within}
 use Rattle.tables.specs.Tables.{field_count, group_count, layout_count, profile_count, frn_count, range_count, fields, field_row, no_field_row, no_group_row, no_layout_row, field_at, ranges, least, greatest, field_word, field_words, group_word, group_words, layout_word, layout_words, layouts_in, references_in, is_free, groups, layouts, group_rows, group_at, layout_rows, format_by, format_is, layout_is, layout_at, primaries, primary_count, subfields_in, subfield_at, subfield_count, nowhere, profile_rows, place_row_at, place_is}
 
@@ -220,13 +221,13 @@ get_or-map_in f (a ∷ l) (suc i) d e h = get_or-map_in f l i d e (le_of_suc-le-
 
 -- what was put into digits is read from them
 abbrev pub field_digits : ℕ → FieldRow
-field_digits w = record { bits = w / 1_000; holds = w / 100 % 10; least = get_or least (w % 100) (pos 0); greatest = get_or greatest (w % 100) (pos 0) }
+field_digits w = record { bits = w / 1_000; holds = holds_by (w / 100 % 10); least = get_or least (w % 100) (pos 0); greatest = get_or greatest (w % 100) (pos 0) }
 
 abbrev pub group_digits : ℕ → GroupRow
 group_digits w = record { octets = w / 100_000_000; first = w / 100_000 % 1_000; end = w / 100_000 % 1_000 + w / 1_000 % 100; values = w / 10 % 100; free = eqb (w % 10) 1 }
 
 abbrev pub layout_digits : ℕ → LayoutRow
-layout_digits w = record { kind = w / 100_000_000; least = w / 10_000_000 % 10; most = w / 10_000 % 1_000; first = w / 10 % 1_000; end = w / 10 % 1_000 + w % 10 }
+layout_digits w = record { kind = kind_by (w / 100_000_000); least = w / 10_000_000 % 10; most = w / 10_000 % 1_000; first = w / 10 % 1_000; end = w / 10 % 1_000 + w % 10 }
 
 pub field_digits_lem : (i : ℕ) → i < field_count → field_digits (get_or field_words i 0) ≡ field_at i
 unfolding field_words field_at least greatest ranges fields groups layouts categories
@@ -237,6 +238,11 @@ field_digits_lem i h =
 pub field_range : (i : ℕ) → i < field_count → get_or field_words i 0 % 100 < range_count
 unfolding field_words ranges fields groups layouts categories
 field_range i h = ltb-true _ range_count (each (λ w. ltb (w % 100) range_count) field_words 0 refl i h)
+
+-- a row has the digit of a kind
+pub field_kind : (i : ℕ) → i < field_count → get_or field_words i 0 / 100 % 10 ≤ 2
+unfolding field_words ranges fields groups layouts categories
+field_kind i h = leb-true _ 2 (each (λ w. leb (w / 100 % 10) 2) field_words 0 refl i h)
 
 pub group_digits_lem : (i : ℕ) → i < group_count → group_digits (get_or group_words i 0) ≡ group_at i
 unfolding group_words group_at fields groups layouts categories
@@ -250,6 +256,10 @@ layout_digits_lem zero h = refl
 layout_digits_lem (suc i) h =
     ap layout_digits (get_or-map_in layout_word (layout_rows 0 0 layouts) i no_layout_row 0 (le_of_suc-le-suc h))
     ∙ in_row (λ r. layout_digits (layout_word r)) (λ r. r) (layout_rows 0 0 layouts) i no_layout_row (le_of_suc-le-suc h) refl
+
+pub layout_kind : (i : ℕ) → i < layout_count → get_or layout_words i 0 / 100_000_000 ≤ 5
+unfolding layout_words layouts categories
+layout_kind i h = leb-true _ 5 (each (λ w. leb (w / 100_000_000) 5) layout_words 0 refl i h)
 
 pub layout_in : (i : ℕ) → get_or layouts_in i 0 ≡ (place_row_at i).layout
 unfolding layouts_in place_row_at

@@ -1,12 +1,13 @@
 -- The fields that have a rule, spare or with a range, as the check of an item asks them: the field's code, moved so that what is legal
 -- starts at 0, is at most a limit. A field without a rule is free and is not asked. Assumes nothing.
-use Rattle.std.specs.Prelude.{ℕ, ◌+◌, ◌-◌, ◌*◌, ◌/◌, ◌%◌, ◌^◌, Bool, true, cond, ◌&&◌, List, [], ◌∷◌, map, leb, eqb, length, get_or}
+use Rattle.std.specs.Prelude.{ℕ, ◌+◌, ◌-◌, ◌*◌, ◌/◌, ◌%◌, ◌^◌, Bool, true, cond, ◌&&◌, List, [], ◌∷◌, map, leb, length, get_or}
 use Rattle.rules.specs.Field.{Field, spare, value, unsigned, signed, bits}
 use Rattle.rules.specs.Chain.{flatten}
 use Rattle.rules.specs.Format.{Group}
 use Rattle.rules.specs.Catalogue.{categories}
 use Rattle.tables.specs.declared.tables.LayoutRow.{LayoutRow}
-use Rattle.tables.specs.Tables.{groups, group_rows, group_at, layout_at, profile_rows, is_free}
+use Rattle.tables.specs.declared.tables.Kind.TheVariants.{Fixed}
+use Rattle.tables.specs.Tables.{same_kind, groups, group_rows, group_at, layout_at, profile_rows, is_free}
 
 -- how many bits stand below the field, how many it has, what is added to its code, and the limit
 pub record Rule : Type 0 where
@@ -66,7 +67,7 @@ sizes = map (λ r. r.octets) (group_rows 0 groups)
 
 -- of an item with one part, its octets where it is free, and else 8 more than the place of its group; of any other item 0
 abbrev pub single_of : LayoutRow → ℕ
-single_of l = cond (eqb l.kind 1) (cond (group_at l.first).free (group_at l.first).octets (8 + l.first)) 0
+single_of l = cond (same_kind l.kind Fixed) (cond (group_at l.first).free (group_at l.first).octets (8 + l.first)) 0
 
 unfoldable pub singles : List ℕ
 singles = map (λ r. single_of (layout_at r.layout)) (profile_rows 1 categories)

@@ -11,10 +11,36 @@ use Rattle.rules.specs.Presence.{number, present}
 use Rattle.rules.specs.Record.{Place, Category, places, at}
 use Rattle.rules.specs.Catalogue.{categories}
 use Rattle.rules.specs.Entry.{over}
+use Rattle.tables.specs.declared.tables.Holds.{Holds}
+use Rattle.tables.specs.declared.tables.Holds.TheVariants.{Unsigned, Twos, Spare}
+use Rattle.tables.specs.declared.tables.Kind.{Kind}
+use Rattle.tables.specs.declared.tables.Kind.TheVariants.{NoItem, Fixed, Repeated, Led, Extended, Compound}
 use Rattle.tables.specs.declared.tables.FieldRow.{FieldRow}
 use Rattle.tables.specs.declared.tables.GroupRow.{GroupRow}
 use Rattle.tables.specs.declared.tables.LayoutRow.{LayoutRow}
 use Rattle.tables.specs.declared.tables.PlaceRow.{PlaceRow}
+
+-- ---- kinds, each by its digit in a row
+
+abbrev pub holds_digit : Holds → ℕ
+holds_digit Unsigned = 0
+holds_digit Twos = 1
+holds_digit Spare = 2
+
+abbrev pub kind_digit : Kind → ℕ
+kind_digit NoItem = 0
+kind_digit Fixed = 1
+kind_digit Repeated = 2
+kind_digit Led = 3
+kind_digit Extended = 4
+kind_digit Compound = 5
+
+-- whether two are the same (`KindLaws`)
+abbrev pub same_holds : Holds → Holds → Bool
+same_holds h i = eqb (holds_digit h) (holds_digit i)
+
+abbrev pub same_kind : Kind → Kind → Bool
+same_kind k j = eqb (kind_digit k) (kind_digit j)
 
 -- ---- what the rules have, end to end
 
@@ -95,9 +121,9 @@ minus zero = pos 0
 minus (suc n) = negsuc n
 
 abbrev pub field_row : Field → FieldRow
-field_row (spare w) = record { bits = w; holds = 2; least = pos 0; greatest = pos 0 }
-field_row (value w (unsigned lo hi)) = record { bits = w; holds = 0; least = pos lo; greatest = pos hi }
-field_row (value w (signed lo hi)) = record { bits = w; holds = 1; least = minus lo; greatest = pos hi }
+field_row (spare w) = record { bits = w; holds = Spare; least = pos 0; greatest = pos 0 }
+field_row (value w (unsigned lo hi)) = record { bits = w; holds = Unsigned; least = pos lo; greatest = pos hi }
+field_row (value w (signed lo hi)) = record { bits = w; holds = Twos; least = minus lo; greatest = pos hi }
 
 -- any bits are legal in each of the fields
 abbrev pub is_free : List Field → Bool
@@ -114,11 +140,11 @@ group_rows k (g ∷ gs) =
 
 -- of a layout whose first group, or whose first primary octet, stands at a place
 abbrev pub layout_row : ℕ → ℕ → Layout → LayoutRow
-layout_row k j (plain (fixed g)) = record { kind = 1; least = 1; most = 1; first = k; end = k + 1 }
-layout_row k j (plain (repeated lo hi g)) = record { kind = 2; least = lo; most = hi; first = k; end = k + 1 }
-layout_row k j (plain (led lo)) = record { kind = 3; least = lo; most = 254; first = k; end = k + 1 }
-layout_row k j (plain (extended gs)) = record { kind = 4; least = 1; most = length gs; first = k; end = k + length gs }
-layout_row k j (compound ps) = record { kind = 5; least = 0; most = 0; first = j; end = j + length ps }
+layout_row k j (plain (fixed g)) = record { kind = Fixed; least = 1; most = 1; first = k; end = k + 1 }
+layout_row k j (plain (repeated lo hi g)) = record { kind = Repeated; least = lo; most = hi; first = k; end = k + 1 }
+layout_row k j (plain (led lo)) = record { kind = Led; least = lo; most = 254; first = k; end = k + 1 }
+layout_row k j (plain (extended gs)) = record { kind = Extended; least = 1; most = length gs; first = k; end = k + length gs }
+layout_row k j (compound ps) = record { kind = Compound; least = 0; most = 0; first = j; end = j + length ps }
 
 abbrev pub layout_rows : ℕ → ℕ → List Layout → List LayoutRow
 layout_rows k j [] = []
@@ -152,13 +178,13 @@ profile_rows k (c ∷ cs) = over (nowhere ∷ place_rows k (places c)) (replicat
 
 -- what a table has past its end: no bits, no octets, no parts
 abbrev pub no_field_row : FieldRow
-no_field_row = record { bits = 0; holds = 0; least = pos 0; greatest = pos 0 }
+no_field_row = record { bits = 0; holds = Unsigned; least = pos 0; greatest = pos 0 }
 
 abbrev pub no_group_row : GroupRow
 no_group_row = record { octets = 0; first = 0; end = 0; values = 0; free = false }
 
 abbrev pub no_layout_row : LayoutRow
-no_layout_row = record { kind = 0; least = 0; most = 0; first = 0; end = 0 }
+no_layout_row = record { kind = NoItem; least = 0; most = 0; first = 0; end = 0 }
 
 unfoldable pub field_at : ℕ → FieldRow
 field_at i = get_or (map field_row fields) i no_field_row
@@ -222,7 +248,7 @@ greatest = map (λ r. r.1) ranges
 
 -- bits, what it holds, the place of its range: 2, 1 and 2 digits
 abbrev pub field_word : FieldRow → ℕ
-field_word r = r.bits * 1_000 + r.holds * 100 + range_in ranges r.least r.greatest
+field_word r = r.bits * 1_000 + holds_digit r.holds * 100 + range_in ranges r.least r.greatest
 
 -- octets, place of the first field, how many fields, how many values, whether it is free: 1, 3, 2, 2 and 1 digits
 abbrev pub group_word : GroupRow → ℕ
@@ -230,7 +256,7 @@ group_word r = r.octets * 100_000_000 + r.first * 100_000 + (r.end - r.first) * 
 
 -- how the parts lie, the least and the greatest number of parts, place of the first group, how many groups: 1, 1, 3, 3 and 1 digits
 abbrev pub layout_word : LayoutRow → ℕ
-layout_word r = r.kind * 100_000_000 + r.least * 10_000_000 + r.most * 10_000 + r.first * 10 + (r.end - r.first)
+layout_word r = kind_digit r.kind * 100_000_000 + r.least * 10_000_000 + r.most * 10_000 + r.first * 10 + (r.end - r.first)
 
 unfoldable pub field_words : List ℕ
 field_words = map field_word (map field_row fields)
@@ -252,13 +278,13 @@ references_in = map (λ r. r.reference) (profile_rows 1 categories)
 abbrev pub group_is : GroupRow → Group
 group_is r = group r.octets (slice r.first r.end fields)
 
-unfoldable pub format_by : ℕ → ℕ → ℕ → Group → List Group → Option Format
-format_by zero lo hi g gs = none
-format_by (suc zero) lo hi g gs = some (fixed g)
-format_by (suc (suc zero)) lo hi g gs = some (repeated lo hi g)
-format_by (suc (suc (suc zero))) lo hi g gs = some (led lo)
-format_by (suc (suc (suc (suc zero)))) lo hi g gs = some (extended gs)
-format_by (suc (suc (suc (suc (suc k))))) lo hi g gs = none
+unfoldable pub format_by : Kind → ℕ → ℕ → Group → List Group → Option Format
+format_by NoItem lo hi g gs = none
+format_by Fixed lo hi g gs = some (fixed g)
+format_by Repeated lo hi g gs = some (repeated lo hi g)
+format_by Led lo hi g gs = some (led lo)
+format_by Extended lo hi g gs = some (extended gs)
+format_by Compound lo hi g gs = none
 
 -- a row of parts has a format
 unfoldable pub format_is : LayoutRow → Option Format
@@ -278,7 +304,7 @@ as_plain none = none
 as_plain (some s) = some (plain s)
 
 unfoldable pub layout_is : LayoutRow → Option Layout
-layout_is r = cond (eqb r.kind 5) (some (compound (primaries_is (r.end - r.first) r.first))) (as_plain (format_is r))
+layout_is r = cond (same_kind r.kind Compound) (some (compound (primaries_is (r.end - r.first) r.first))) (as_plain (format_is r))
 
 abbrev pub with : ℕ → Option Layout → Option Place
 with r none = none

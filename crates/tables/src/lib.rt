@@ -9,7 +9,6 @@ mod tables;
 pub use field_rules::{are_obeyed, first_rule, is_free, pow2, single_at, size_at};
 pub use profiles::{ProfileRow, profile_of, profile_row};
 pub use tables::{
-    COMPOUND, EXTENDED, FIXED, FRNS, FieldRow, GroupRow, LED, LayoutRow, NONE, PROFILES, PlaceRow,
-    REPEATED, SPARE, TWOS, field_at, group_at, layout_at, layout_row, place_at, primary_at,
-    subfield_at,
+    FRNS, FieldRow, GroupRow, Holds, Kind, LayoutRow, PROFILES, PlaceRow, field_at, group_at,
+    layout_at, layout_row, place_at, primary_at, subfield_at,
 };

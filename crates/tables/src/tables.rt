@@ -1,21 +1,22 @@
 // The items of each profile by table: where an item stands, how its parts lie in octets, and the fields of each part (section 5.2 of each category
 // document; Table 2 of category 017, 5.3.1; Table 9 of category 018, 5.3.1; Table 3 of category 061, 5.3). Profile 0 is category 017, edition
 // 1.3; profile 1 is category 018, edition 1.6; profile 2 is category 061, edition 1.2. Rows stand in the order of the profiles, FRN by FRN; the contracts tie each table, whole, to the rules' profiles.
-ghost use Rattle.std.specs.Prelude.{◌≡◌, ◌<◌, get_or, pos};
-ghost use Rattle.tables.specs.Tables.{field_count, range_count, group_count, layout_count, place_count, primary_count, subfield_count, field_at, group_at, layout_at, place_row_at, least, greatest, field_words, group_words, layout_words, layouts_in, references_in, primaries_in, subfields_in, primary_at, subfield_at};
+ghost use Rattle.std.specs.Prelude.{◌≡◌, ◌<◌, ◌≤◌, get_or, pos};
+ghost use Rattle.tables.specs.Tables.{holds_digit, kind_digit, field_count, range_count, group_count, layout_count, place_count, primary_count, subfield_count, field_at, group_at, layout_at, place_row_at, least, greatest, field_words, group_words, layout_words, layouts_in, references_in, primaries_in, subfields_in, primary_at, subfield_at};
 
-// What a field holds: a number, a number in two's complement, or zero.
-pub const UNSIGNED: u8 = 0;
-
-pub const TWOS: u8 = 1;
-
-pub const SPARE: u8 = 2;
+// What a field holds: a number, a number in two's complement, or zero. By the digit that a row has for it.
+#[derive(Clone, Copy, Debug, PartialEq, Eq)]
+pub enum Holds {
+    Unsigned = 0,
+    Twos = 1,
+    Spare = 2,
+}
 
 // A field: how many bits, what it holds, its least and its greatest value.
 #[derive(Clone, Copy)]
 pub struct FieldRow {
     pub bits: u64,
-    pub holds: u8,
+    pub holds: Holds,
     pub least: i64,
     pub greatest: i64,
 }
@@ -32,25 +33,23 @@ pub struct GroupRow {
 }
 
 // How the parts of an item lie: no item; one part; a count octet and parts; a length octet and contents; parts as far as FX bits say; primary octets
-// and subfields, each of which has a layout of its own.
-pub const NONE: u8 = 0;
-
-pub const FIXED: u8 = 1;
-
-pub const REPEATED: u8 = 2;
-
-pub const LED: u8 = 3;
-
-pub const EXTENDED: u8 = 4;
-
-pub const COMPOUND: u8 = 5;
+// and subfields, each of which has a layout of its own. By the digit that a row has for it.
+#[derive(Clone, Copy, Debug, PartialEq, Eq)]
+pub enum Kind {
+    NoItem = 0,
+    Fixed = 1,
+    Repeated = 2,
+    Led = 3,
+    Extended = 4,
+    Compound = 5,
+}
 
 // A layout: how its parts lie; the least and the greatest number of parts; the place of its first group and the one past its last.
 // The parts of an extended item have a group each, those of any other item share one. A compound item has no parts of its own: the places are
 // those of its first primary octet and past its last.
 #[derive(Clone, Copy)]
 pub struct LayoutRow {
-    pub kind: u8,
+    pub kind: Kind,
     pub least: usize,
     pub most: usize,
     pub first: usize,
@@ -1035,6 +1034,33 @@ fn subfield_in(place: usize) -> u8
     SUBFIELDS[place]
 }
 
+// ---- the digits that say a kind
+
+fn holds_of(digit: u16) -> Holds
+    requires { digit ≤ 2 }
+    ensures { holds_digit result ≡ digit }
+{
+    match digit {
+        0 => Holds::Unsigned,
+        1 => Holds::Twos,
+        _ => Holds::Spare,
+    }
+}
+
+fn kind_of(digit: u32) -> Kind
+    requires { digit ≤ 5 }
+    ensures { kind_digit result ≡ digit }
+{
+    match digit {
+        0 => Kind::NoItem,
+        1 => Kind::Fixed,
+        2 => Kind::Repeated,
+        3 => Kind::Led,
+        4 => Kind::Extended,
+        _ => Kind::Compound,
+    }
+}
+
 pub fn field_at(place: usize) -> FieldRow
     requires { place < field_count }
     ensures { result ≡ field_at place }
@@ -1043,7 +1069,7 @@ pub fn field_at(place: usize) -> FieldRow
     let range = (w % 100) as usize;
     FieldRow {
         bits: (w / 1000) as u64,
-        holds: (w / 100 % 10) as u8,
+        holds: holds_of(w / 100 % 10),
         least: least_at(range),
         greatest: greatest_at(range),
     }
@@ -1071,7 +1097,7 @@ pub fn layout_at(place: usize) -> LayoutRow
     let w = layout_word(place);
     let first = (w / 10 % 1_000) as usize;
     LayoutRow {
-        kind: (w / 100_000_000) as u8,
+        kind: kind_of(w / 100_000_000),
         least: (w / 10_000_000 % 10) as usize,
         most: (w / 10_000 % 1_000) as usize,
         first: first,
