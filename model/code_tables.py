@@ -220,7 +220,7 @@ def messages():
         for message in category.messages:
             number = "%d" % message.number if profile == 0 and category.base == 10 else "0x%X_%02X" % (profile, message.number)
             must, may = map(rows.quads, rows.must_and_may(profile, message))
-            out.append("%s => MessageRow::Known(%s, %s), // %s" % (number, must, may, rows.message_name(message)))
+            out.append("%s => (%s, %s), // %s" % (number, must, may, rows.message_name(message)))
     return [" " * 8 + line for line in out]
 
 

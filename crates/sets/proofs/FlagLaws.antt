@@ -229,9 +229,6 @@ bits_none bits h e = flags_same 64 bits 0 h (omega arith) (e ∙ sym flags_none)
 
 -- ---- a set with one FRN more: f is the FRN as it is held, t whether it is there already, w its bit
 
-pub with_same : (bits frn f : ℕ) {t : Bool} → f ≡ min frn 63 → t ≡ get_or (flags 64 bits) f false → t ≡ true → flags 64 bits ≡ set (flags 64 bits) (min frn 63) true
-with_same bits frn f e h y = flag_same 64 bits f (sym h ∙ y) ∙ ap (λ k. set (flags 64 bits) k true) e
-
 module _ (bits frn f w : ℕ) {t : Bool} (fits : bits < 2 ^ 64) (e : f ≡ min frn 63) (h : t ≡ get_or (flags 64 bits) f false) (n : t ≡ false) (is : w ≡ 2 ^ (63 - f)) where
   weight_is : w ≡ 2 ^ (64 - suc f)
   weight_is = let z : 63 - f ≡ 64 - suc f = omega arith in is ∙ ap (λ k. 2 ^ k) z

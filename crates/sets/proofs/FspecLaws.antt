@@ -12,7 +12,7 @@ use native.Mathlib.Nat.{add-zero, zero-add, sub-zero, mod-lt, mod-eq_of_lt, suc-
 use lib.Dec.{ltb, leb, eqb, lt→ltb}
 use lib.Pow.{pow_pos, shr_lt, field, mod-mod-pow}
 use borrow.Author.Tests.{lt-ltb, eq-eqb, ne_eqb, eqb-true, eqb-false, lt-leb, leb-false, not-true, not-false}
-use lib.ListN.{length, take, drop, get_or, replicate, length-append, length-drop, length-map, length-replicate, take-append-drop, replicate-append-replicate, get_or-eq_default}
+use lib.ListN.{length, take, drop, get_or, replicate, length-append, length-drop, length-map, length-replicate, take-append-drop, replicate-append-replicate}
 use lib.Seq.{drop-cons, drop-drop, length-take-le, take_at, drop_at}
 use Rattle.rules.specs.Answer.{ok, octets_of}
 use Rattle.rules.specs.Chain.{flatten, octets, write_num, write_chain}
@@ -579,9 +579,6 @@ fspec_within i bits k h = go (within (flags 64 bits) (flags 64 (usable_bits i)))
     go false e = let z : length (fspec_at i bits) ≡ 0 = ap length (fspec_barred i bits e) in absurd (omega arith)
 
 module _ (i bits k : ℕ) {n : ℕ} (fits : bits < 2 ^ 64) (is : n ≡ length (fspec_at i bits)) where
-  pub octet_none : n ≤ k → 0 ≡ get_or (fspec_at i bits) k 0
-  octet_none h = sym (get_or-eq_default (fspec_at i bits) 0 (subst (λ m. m ≤ k) is h))
-
   module _ (h : k < n) where
     here : k < length (fspec_at i bits)
     here = subst (λ m. k < m) is h
@@ -611,20 +608,19 @@ module _ (bits left n : ℕ) (c : Counting bits left n) where
   pub count_end : left ≡ 0 → (n ≡ rows_left 9 0 bits) × (n ≤ 9)
   count_end z = (sym (rows_done (9 - n) n) ∙ ap (rows_left (9 - n) n) (sym z) ∙ c.same, c.few)
 
-  pub count_less : (left ≡ 0 → ⊥) → n < 9
-  count_less h = go (9 - n) refl
-    where
-      go : (k : ℕ) → 9 - n ≡ k → n < 9
-      go zero e =
-          let b : left < 2 ^ (63 - 7 * n) = c.below in
-          let z : 63 - 7 * n ≡ 0 = omega arith in
-          let d : left < 2 ^ 0 = subst (λ j. left < 2 ^ j) z b in
-          absurd (h (omega arith))
-      go (suc k) e = omega arith
+  -- nine octets have every FRN
+  none_left : 9 ≤ n → left ≡ 0
+  none_left h =
+      let b : left < 2 ^ (63 - 7 * n) = c.below in
+      let z : 63 - 7 * n ≡ 0 = omega arith in
+      let d : left < 2 ^ 0 = subst (λ j. left < 2 ^ j) z b in
+      omega arith
 
-  pub count_next : (w : ℕ) → (left ≡ 0 → ⊥) → w ≡ 2 ^ (63 - 7 * (n + 1)) → Counting bits (left % w) (n + 1)
-  count_next w h e =
-      let l : n < 9 = count_less h in
+  pub count_past : 9 ≤ n → (9 ≡ rows_left 9 0 bits) × (9 ≤ 9)
+  count_past h = let e : n ≡ 9 = omega (arith, c.few) in subst (λ k. (k ≡ rows_left 9 0 bits) × (k ≤ 9)) e (count_end (none_left h))
+
+  pub count_next : (w : ℕ) → n < 9 → (left ≡ 0 → ⊥) → w ≡ 2 ^ (63 - 7 * (n + 1)) → Counting bits (left % w) (n + 1)
+  count_next w l h e =
       let o : 9 - n ≡ suc (9 - (n + 1)) = omega arith in
       record {
         few = omega arith;

@@ -9,17 +9,19 @@ use mathlib.Core.Option.{Option}
 use mathlib.Core.List.{List, [], ◌∷◌, ◌++◌, map}
 use native.Mathlib.Omega.{arith}
 use native.Mathlib.Nat.{mul-le-mul_right, sub-zero}
+use native.Mathlib.Numerals.{add-one}
 use lib.Pow.{pow-add}
 use lib.Dec.{eqb}
 use borrow.Author.Tests.{le-leb, lt-ltb, eqb-true, eq-eqb, ne_eqb, not-true, not-false}
-use lib.ListN.{length, take, drop, get_or, replicate, length-append, length-map, length-replicate}
+use lib.ListN.{length, drop, get_or, replicate, length-append, length-map, length-replicate, drop_of_length-le}
+use lib.Seq.{drop-cons}
 use mir.Syntax.{w8}
 use mir.Val.{Fits}
 use Rattle.rules.specs.Answer.{Answer, ok, refused, ◌>>=◌, need◌or◌then◌, when◌then◌else◌}
 use Rattle.rules.specs.Chain.{flatten, joined, read_num, read_chain}
 use Rattle.rules.specs.Presence.{flags, number, present, usable, house, flag_rows, read_presence}
 use Rattle.rules.specs.Record.{Place, places}
-use Rattle.rules.proofs.AnswerLaws.{refused_ok, ok_inj, bind_in, bind_elim, bind_assoc, if_inv, if_true, if_false, both_left, both_right, Octets, bind_same, to_end}
+use Rattle.rules.proofs.AnswerLaws.{refused_ok, ok_inj, bind_in, bind_elim, bind_assoc, if_inv, if_true, if_false, both_left, both_right, Octets, bind_same}
 use Rattle.rules.proofs.PresenceLaws.{flags_length, number_flags, number_append}
 use Rattle.tables.proofs.TableLaws.{usable_within}
 use Rattle.sets.specs.Sets.{category_at, bits_of, within, set_at}
@@ -238,36 +240,34 @@ set_law i bs o =
 one_more : (n k : ℕ) → k < n → n - k ≡ suc (n - (k + 1))
 one_more n k h = omega arith
 
-set_cons : (i l : ℕ) (bs : List ℕ) (bits used : ℕ) → (length bs ≡ 0 → ⊥)
-    → set_from i (suc l) bs bits used
-    ≡ (when eqb (get_or bs 0 0 % 2) 0
-    then ended i (get_or bs 0 0) (bits + get_or bs 0 0 / 2 * 2 ^ (56 - 7 * used)) (used + 1)
-    else set_from i l (drop 1 bs) (bits + get_or bs 0 0 / 2 * 2 ^ (56 - 7 * used)) (used + 1))
+set_step : (i l : ℕ) (bs : List ℕ) (bits used : ℕ) → used < length bs
+    → set_from i (suc l) (drop used bs) bits used
+    ≡ (when eqb (get_or bs used 0 % 2) 0
+    then ended i (get_or bs used 0) (bits + get_or bs used 0 / 2 * 2 ^ (56 - 7 * used)) (used + 1)
+    else set_from i l (drop (used + 1) bs) (bits + get_or bs used 0 / 2 * 2 ^ (56 - 7 * used)) (used + 1))
 unfolding set_from
-set_cons i l [] bits used h = absurd (h refl)
-set_cons i l (x ∷ bs) bits used h = refl
+set_step i l bs bits used h = rw (drop-cons bs used 0 h, add-one) refl
 
-pub set_begin : (i most : ℕ) (bs : List ℕ) → most ≡ length (category_at i).profile → Octets bs → set_from i (most - 0) bs 0 0 ≡ set_at i bs
+pub set_begin : (i most : ℕ) (bs : List ℕ) → most ≡ length (category_at i).profile → Octets bs → set_from i (most - 0) (drop 0 bs) 0 0 ≡ set_at i bs
 set_begin i most bs e o = ap (λ l. set_from i l bs 0 0) (sub-zero most ∙ e) ∙ set_law i bs o
 
-pub set_cut : (i most : ℕ) (bs : List ℕ) (bits used : ℕ) → used < most → length bs ≡ 0 → set_from i (most - used) bs bits used ≡ refused 5 0
+pub set_cut : (i most : ℕ) (bs : List ℕ) (bits used : ℕ) → used < most → length bs ≤ used → set_from i (most - used) (drop used bs) bits used ≡ refused 5 0
 unfolding set_from
-set_cut i most [] bits used u h = rw (one_more most used u)
-set_cut i most (x ∷ bs) bits used u h = absurd (omega arith)
+set_cut i most bs bits used u h = rw (one_more most used u, drop_of_length-le bs h)
 
 pub set_past : (i most : ℕ) (bs : List ℕ) (bits used : ℕ) → most ≤ used → set_from i (most - used) bs bits used ≡ refused 6 0
 unfolding set_from
 set_past i most bs bits used u = let e : most - used ≡ 0 = omega arith in rw e
 
-pub set_last : (i most : ℕ) (bs : List ℕ) (bits used x w : ℕ) → used < most → (length bs ≡ 0 → ⊥) → x ≡ get_or bs 0 0 → w ≡ x / 2 * 2 ^ (56 - 7 * used) → x % 2 ≡ 0
-    → set_from i (most - used) bs bits used ≡ ended i x (bits + w) (used + 1)
+pub set_last : (i most : ℕ) (bs : List ℕ) (bits used x w : ℕ) → used < most → used < length bs → x ≡ get_or bs used 0 → w ≡ x / 2 * 2 ^ (56 - 7 * used) → x % 2 ≡ 0
+    → set_from i (most - used) (drop used bs) bits used ≡ ended i x (bits + w) (used + 1)
 set_last i most bs bits used x w u h ex ew z =
-    rw (one_more most used u, set_cons i (most - (used + 1)) bs bits used h, ew, ← ex) (if_true _ (eq-eqb (x % 2) 0 z) refl)
+    rw (one_more most used u, set_step i (most - (used + 1)) bs bits used h, ew, ← ex) (if_true _ (eq-eqb (x % 2) 0 z) refl)
 
-pub set_more : (i most : ℕ) (bs : List ℕ) (bits used x w : ℕ) → used < most → (length bs ≡ 0 → ⊥) → x ≡ get_or bs 0 0 → w ≡ x / 2 * 2 ^ (56 - 7 * used) → (x % 2 ≡ 0 → ⊥)
-    → set_from i (most - used) bs bits used ≡ set_from i (most - (used + 1)) (take (length bs - 1) (drop 1 bs)) (bits + w) (used + 1)
+pub set_more : (i most : ℕ) (bs : List ℕ) (bits used x w : ℕ) → used < most → used < length bs → x ≡ get_or bs used 0 → w ≡ x / 2 * 2 ^ (56 - 7 * used) → (x % 2 ≡ 0 → ⊥)
+    → set_from i (most - used) (drop used bs) bits used ≡ set_from i (most - (used + 1)) (drop (used + 1) bs) (bits + w) (used + 1)
 set_more i most bs bits used x w u h ex ew z =
-    rw (one_more most used u, set_cons i (most - (used + 1)) bs bits used h, ew, ← ex, to_end bs 1) (if_false _ (ne_eqb (x % 2) 0 z) refl)
+    rw (one_more most used u, set_step i (most - (used + 1)) bs bits used h, ew, ← ex) (if_false _ (ne_eqb (x % 2) 0 z) refl)
 
 -- the set so far leaves room for the octets to come
 pub set_room : (bits used x w : ℕ) → used ≤ 8 → x < 256 → w ≡ x / 2 * 2 ^ (56 - 7 * used) → bits + 2 ^ (63 - 7 * used) ≤ 2 ^ 63

@@ -5,18 +5,16 @@ use Prim.Native.Nat.{ℕ, ◌-◌, ◌^◌, ◌<◌, ◌≤◌, min}
 use mathlib.Core.Path.{◌≡◌, sym, ap, ap₂, ◌∙◌}
 use mathlib.Core.Bool.{Bool, true, false}
 use mathlib.Core.List.{List}
-use native.Mathlib.Omega.{arith}
 use lib.ListN.{length, get_or, set, replicate}
+use Rattle.std.specs.Prelude.{Result}
 use Rattle.rules.specs.Presence.{flags}
-use Rattle.rules.proofs.AnswerLaws.{ok_inj}
+use Rattle.rules.specs.declared.faults.Fault.{Fault}
+use Rattle.rules.proofs.ToldLaws.{one_begun_as}
 use Rattle.sets.specs.declared.ItemSet.{ItemSet}
-use Rattle.sets.specs.declared.SetRead.{SetRead}
-use Rattle.sets.specs.declared.SetRead.TheVariants as read
-use Rattle.sets.specs.declared.Judgement.{Judgement}
-use Rattle.sets.specs.declared.Judgement.TheVariants as judgement
+use Rattle.sets.specs.declared.Fspec.{Fspec}
 use Rattle.sets.specs.Sets.{within, set_at, fspec_at}
 use Rattle.sets.specs.Steps.{usable_bits, type_frn, judge_set, rows_left}
-use Rattle.sets.specs.Answers.{set_of, set_number, judged_of, judged_number}
+use Rattle.sets.specs.Answers.{set_of, judged_of}
 use Rattle.sets.proofs.FlagLaws.{flags_same}
 
 -- ---- numbers and tests
@@ -28,9 +26,6 @@ one_has self frn a b p q = p ∙ sym q
 pub one_is_within : (self other : ItemSet) (a b : Bool)
     → a ≡ within (flags 64 self.bits) (flags 64 other.bits) → b ≡ within (flags 64 self.bits) (flags 64 other.bits) → a ≡ b
 one_is_within self other a b p q = p ∙ sym q
-
-pub one_set_number : (s : SetRead) (a b : ℕ) → a ≡ set_number s → b ≡ set_number s → a ≡ b
-one_set_number s a b p q = p ∙ sym q
 
 pub one_weight : (frn a b : ℕ) → a ≡ 2 ^ (63 - frn) → b ≡ 2 ^ (63 - frn) → a ≡ b
 one_weight frn a b p q = p ∙ sym q
@@ -48,9 +43,6 @@ one_fspec_octet profile set place a b p q = p ∙ sym q
 
 pub one_type_frn : (profile a b : ℕ) → a ≡ type_frn profile → b ≡ type_frn profile → a ≡ b
 one_type_frn profile a b p q = p ∙ sym q
-
-pub one_judged_number : (j : Judgement) (a b : ℕ) → a ≡ judged_number j → b ≡ judged_number j → a ≡ b
-one_judged_number j a b p q = p ∙ sym q
 
 -- ---- a set, which has 64 bits
 
@@ -71,25 +63,14 @@ one_with self frn a b f g p q = same_set_lem a b (flags_same 64 a.bits b.bits f 
 
 -- ---- an FSPEC
 
-set_told : (a b : SetRead) → set_of a ≡ set_of b → a ≡ b
-set_told (read.Items s m) (read.Items t n) e =
-    let p : ◌≡◌ {A = ℕ × ℕ} (s.bits, m) (t.bits, n) = ok_inj e in
-    ap₂ read.Items (same_set_lem s t (ap (λ x. x.0) p)) (ap (λ x. x.1) p)
-set_told (read.Items s m) (read.Refused n) e = let z : ◌≡◌ {A = ℕ} 0 1 = cc in absurd (omega arith)
-set_told (read.Refused m) (read.Items t n) e = let z : ◌≡◌ {A = ℕ} 0 1 = cc in absurd (omega arith)
-set_told (read.Refused m) (read.Refused n) e = cc
+same_fspec : (s t : Fspec) → ◌≡◌ {A = ℕ × ℕ} (s.set.bits, s.octets) (t.set.bits, t.octets) → s ≡ t
+same_fspec s t e = ap₂ (λ m n. record { set = m; octets = n }) (same_set_lem s.set t.set (ap (λ x. x.0) e)) (ap (λ x. x.1) e)
 
-pub one_from_octets : (profile : ℕ) (part : List ℕ) (a b : SetRead) → set_of a ≡ set_at profile part → set_of b ≡ set_at profile part → a ≡ b
-one_from_octets profile part a b p q = set_told a b (p ∙ sym q)
+pub one_from_octets : (profile : ℕ) (part : List ℕ) (a b : Result Fspec Fault) → set_of a ≡ set_at profile part → set_of b ≡ set_at profile part → a ≡ b
+one_from_octets profile part a b p q = one_begun_as _ same_fspec a b (p ∙ sym q)
 
 -- ---- a judgement
 
-judged_told : (a b : Judgement) → judged_of a ≡ judged_of b → a ≡ b
-judged_told judgement.Right judgement.Right e = cc
-judged_told judgement.Right (judgement.Refused n) e = let z : ◌≡◌ {A = ℕ} 0 1 = cc in absurd (omega arith)
-judged_told (judgement.Refused m) judgement.Right e = let z : ◌≡◌ {A = ℕ} 0 1 = cc in absurd (omega arith)
-judged_told (judgement.Refused m) (judgement.Refused n) e = cc
-
-pub one_judge : (profile : ℕ) (items : ItemSet) (kind : ℕ) (a b : Judgement)
+pub one_judge : (profile : ℕ) (items : ItemSet) (kind : ℕ) (a b : Result (Unit {0}) Fault)
     → judged_of a ≡ judge_set profile items.bits kind → judged_of b ≡ judge_set profile items.bits kind → a ≡ b
-one_judge profile items kind a b p q = judged_told a b (p ∙ sym q)
+one_judge profile items kind a b p q = one_begun_as _ (λ x y e. e) a b (p ∙ sym q)

@@ -8,25 +8,24 @@ ghost use Rattle.std.specs.Prelude.{◌≡◌, true, false, ◌+◌, ◌-◌, �
 ghost use Rattle.rules.specs.Presence.{flags};
 ghost use Rattle.sets.specs.Sets.{category_at, within, set_at, fspec_at};
 ghost use Rattle.sets.specs.Steps.{usable_bits, ended, type_frn, judge_set, rows_left};
-ghost use Rattle.sets.specs.Answers.{set_of, set_number, judged_of, judged_number};
+ghost use Rattle.sets.specs.Answers.{set_of, judged_of};
 
-use messages::{MessageRow, row_of};
+use messages::row_of;
 use numbers::wide;
+use rules::Fault;
 use tables::profile_row;
 
 // A set of FRNs: FRN f, 0 to 63, is bit 63 - f. FRN 0 is none, and no profile has one above 35.
-#[derive(Clone, Copy)]
+#[derive(Clone, Copy, Debug, PartialEq, Eq)]
 pub struct ItemSet {
     pub bits: u64,
 }
 
-// What the FSPEC at the start of a part says.
-#[derive(Drop)]
-pub enum SetRead {
-    // The items that it names, and how many octets it has.
-    Items { set: ItemSet, octets: usize },
-    // 5, 6, 7 or 8.
-    Refused { number: u8 },
+// An FSPEC: the items that it names, and how many octets it has.
+#[derive(Clone, Copy, Debug, PartialEq, Eq)]
+pub struct Fspec {
+    pub set: ItemSet,
+    pub octets: usize,
 }
 
 // How many octets an FSPEC has at most.
@@ -51,13 +50,6 @@ fn presence(x: u64, used: usize) -> u64
     ensures { result ≡ x / 2 * 2 ^ (56 - 7 * used) }
 {
     (x / 2) << (56 - 7 * used)
-}
-
-// An FRN as it is held in a set.
-fn capped(frn: usize) -> usize
-    ensures { result ≡ min frn 63 }
-{
-    if frn < 63 { frn } else { 63 }
 }
 
 // The bit of an FRN.
@@ -92,13 +84,12 @@ impl ItemSet {
     pub fn with(self, frn: usize) -> ItemSet
         ensures { flags 64 result.bits ≡ set (flags 64 self.bits) (min frn 63) true }
     {
-        let f = capped(frn);
+        let f = frn.min(63);
         if self.has(f) {
             return self;
         }
-        let bits = self.bits;
         ItemSet {
-            bits: bits + weight(f),
+            bits: self.bits + weight(f),
         }
     }
 
@@ -106,58 +97,42 @@ impl ItemSet {
     pub fn is_within(self, other: ItemSet) -> bool
         ensures { result ≡ within (flags 64 self.bits) (flags 64 other.bits) }
     {
-        let bits = self.bits;
-        let others = other.bits;
-        bits & others == bits
+        self.bits & other.bits == self.bits
     }
 
-    // The set, once the last octet x of its FSPEC is read.
-    fn ended(self, profile: usize, x: u64, used: usize) -> SetRead
+    // The FSPEC, once its last octet x is read: the set that it names, and how many octets it has.
+    fn ended(self, profile: usize, x: u64, used: usize) -> Result<Fspec, Fault>
         ensures { set_of result ≡ ended profile x self.bits used }
     {
         if x / 2 == 0 {
-            return SetRead::Refused { number: 7 };
+            return Err(Fault::NothingNamed);
         }
         if !self.is_within(usable(profile)) {
-            return SetRead::Refused { number: 8 };
+            return Err(Fault::NotUsable);
         }
-        SetRead::Items {
+        Ok(Fspec {
             set: self,
             octets: used,
-        }
+        })
     }
 
-    // The FSPEC at the start of a part.
-    pub fn from_octets(profile: usize, part: &[u8]) -> SetRead
+    // The FSPEC at the start of a part: FspecCut, FxPastEnd, NothingNamed or NotUsable.
+    pub fn from_octets(profile: usize, part: &[u8]) -> Result<Fspec, Fault>
         ensures { set_of result ≡ set_at profile part.now }
     {
         let most = fspec_most(profile);
-        let mut rest = part;
         let mut bits: u64 = 0;
-        let mut used: usize = 0;
-        while used < most {
-            if rest.len() == 0 {
-                return SetRead::Refused { number: 5 };
+        for used in 0..most {
+            if part.len() <= used {
+                return Err(Fault::FspecCut);
             }
-            let x = wide(rest[0]);
-            bits = bits + presence(x, used);
-            used = used + 1;
+            let x = wide(part[used]);
+            bits += presence(x, used);
             if x % 2 == 0 {
-                return ItemSet { bits }.ended(profile, x, used);
+                return ItemSet { bits }.ended(profile, x, used + 1);
             }
-            rest = &rest[1..];
         }
-        SetRead::Refused { number: 6 }
-    }
-}
-
-// The number of a refusal, 0 where there is none.
-pub fn set_number(s: SetRead) -> u8
-    ensures { result ≡ set_number s }
-{
-    match s {
-        SetRead::Items { set: _, octets: _ } => 0,
-        SetRead::Refused { number } => number,
+        Err(Fault::FxPastEnd)
     }
 }
 
@@ -169,12 +144,13 @@ pub fn octets_of(bits: u64) -> usize
     ensures { (result ≡ rows_left 9 0 bits) × (result ≤ 9) }
 {
     let mut left = bits;
-    let mut n: usize = 0;
-    while left != 0 {
-        n = n + 1;
-        left = left % weight(7 * n);
+    for n in 0..9 {
+        if left == 0 {
+            return n;
+        }
+        left %= weight(7 * (n + 1));
     }
-    n
+    9
 }
 
 // How many octets the FSPEC of a set has; 0 where the set is empty or names an FRN that the profile lacks.
@@ -184,8 +160,7 @@ pub fn fspec_octets(profile: usize, set: ItemSet) -> usize
     if !set.is_within(usable(profile)) {
         return 0;
     }
-    let bits = set.bits;
-    octets_of(bits)
+    octets_of(set.bits)
 }
 
 // The octet at a place of a set's FSPEC, counted from 0; 0 past its end.
@@ -196,8 +171,7 @@ pub fn fspec_octet(profile: usize, set: ItemSet, place: usize) -> u8
     if count <= place {
         return 0;
     }
-    let bits = set.bits;
-    let row = (bits >> (56 - 7 * place)) % 128;
+    let row = (set.bits >> (56 - 7 * place)) % 128;
     if place + 1 < count {
         (row * 2 + 1) as u8
     } else {
@@ -214,42 +188,20 @@ pub fn type_frn(profile: usize) -> usize
     profile_row(profile).kind as usize
 }
 
-// Whether a record has the items that its message type asks for.
-#[derive(Drop)]
-pub enum Judgement {
-    Right,
-    // 12, 13, 14 or 15.
-    Refused { number: u8 },
-}
-
-// By the items of a record, and the first octet of its message type item.
-pub fn judge(profile: usize, items: ItemSet, kind: u8) -> Judgement
+// Whether a record has the items that its message type asks for, by these items and the first octet of its message type item: TypeAbsent, TypeUnknown,
+// ItemMissing or ItemNotSent.
+pub fn judge(profile: usize, items: ItemSet, kind: u8) -> Result<(), Fault>
     ensures { judged_of result ≡ judge_set profile items.bits kind }
 {
     if !items.has(type_frn(profile)) {
-        return Judgement::Refused { number: 12 };
+        return Err(Fault::TypeAbsent);
     }
-    let row = row_of(profile, kind);
-    let MessageRow::Known(must, may) = row else {
-        return Judgement::Refused { number: 13 };
-    };
-    let compulsory = ItemSet { bits: must };
-    if !compulsory.is_within(items) {
-        return Judgement::Refused { number: 14 };
+    let row = row_of(profile, kind).ok_or(Fault::TypeUnknown)?;
+    if !row.must.is_within(items) {
+        return Err(Fault::ItemMissing);
     }
-    let sent = ItemSet { bits: may };
-    if !items.is_within(sent) {
-        return Judgement::Refused { number: 15 };
+    if !items.is_within(row.may) {
+        return Err(Fault::ItemNotSent);
     }
-    Judgement::Right
-}
-
-// The number of a refusal, 0 where there is none.
-pub fn judged_number(j: Judgement) -> u8
-    ensures { result ≡ judged_number j }
-{
-    match j {
-        Judgement::Right => 0,
-        Judgement::Refused { number } => number,
-    }
+    Ok(())
 }

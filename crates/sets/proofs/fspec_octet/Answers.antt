@@ -2,12 +2,9 @@
 use Prim.Native.Nat.{◌≤◌}
 use native.Mathlib.Omega.{arith}
 use borrow.Author.Rules.{rules}
-use Rattle.sets.proofs.FspecLaws.{octet_none, octet_few, octet_before, octet_at_end}
+use Rattle.sets.proofs.FspecLaws.{octet_few, octet_before, octet_at_end}
 use Rattle.sets.proofs.fspec_octet.Goals as goal
 use Rattle.sets.proofs.fspec_octet.Goals.{Else-count-place}
-
-pub returns-then-count-place : goal.returns-then-count-place
-returns-then-count-place c = octet_none _ _ _ (search rules) c.fspec_octets-count.ensures c.if-count-place.true
 
 -- an FSPEC has few octets
 few : (c : Else-count-place) → c.args.place ≤ 8

@@ -1,10 +1,6 @@
--- What the loop keeps, and how much is left.
-use Prim.Native.Nat.{◌-◌}
+-- What the loop keeps.
 use Rattle.sets.proofs.FspecLaws.{Counting}
 use Rattle.sets.proofs.octets_of.Given as goal
 
-abbrev pub invariant-loop-left : goal.invariant-loop-left
-invariant-loop-left l = Counting l.bits l.left l.n
-
-abbrev pub decreases-loop-left : goal.decreases-loop-left
-decreases-loop-left l = 9 - l.n
+abbrev pub invariant-loop-n : goal.invariant-loop-n
+invariant-loop-n l = Counting l.bits l.left l.n

@@ -1,13 +1,10 @@
 -- `sets::ItemSet::with` meets its contract: the bit of an FRN that is not there yet is added, and that sets its flag. Assumes nothing.
 use borrow.Author.Rules.{rules}
-use Rattle.sets.proofs.FlagLaws.{with_same, with_more, with_fits}
+use Rattle.sets.proofs.FlagLaws.{with_more, with_fits}
 use Rattle.sets.proofs.ItemSet.with.Goals as goal
 
-pub returns-then-has : goal.returns-then-has
-returns-then-has c = with_same _ _ _ c.capped-f.ensures c.has.ensures c.if-has.true
-
 pub overflow_add-result : goal.overflow_add-result
-overflow_add-result c = record { fits = with_fits _ _ _ _ (search rules) c.capped-f.ensures c.has.ensures c.if-has.false c.weight.ensures }
+overflow_add-result c = record { fits = with_fits _ _ _ _ (search rules) c.min-f.ensures c.has.ensures c.if-has.false c.weight.ensures }
 
 pub returns : goal.returns
-returns c = with_more _ _ _ _ (search rules) c.capped-f.ensures c.has.ensures c.if-has.false c.weight.ensures
+returns c = with_more _ _ _ _ (search rules) c.min-f.ensures c.has.ensures c.if-has.false c.weight.ensures
