@@ -17,7 +17,8 @@ use mir.Val.{to_z, of_z}
 use Rattle.rules.specs.Answer.{Answer, ok, ◌>>=◌, need◌or◌then◌, when◌then◌else◌}
 use Rattle.rules.specs.Field.{Field, Kind, spare, value, unsigned, signed, bits, half, get, unpack}
 use Rattle.tables.specs.declared.tables.FieldRow.{FieldRow}
-use Rattle.tables.specs.Tables.{minus, field_row}
+use Rattle.tables.specs.declared.tables.Holds.TheVariants.{Twos}
+use Rattle.tables.specs.Tables.{same_holds, minus, field_row}
 use Rattle.layouts.specs.Read.{twos_of, value_of, within, is_spare, width, legal, shown, values}
 
 -- ---- signed numbers
@@ -29,19 +30,19 @@ again z = to_z w64 (of_z w64 z)
 -- ---- values
 
 -- what the value is, by the kind and by the highest bit
-pub value_plain : (f : FieldRow) (c : ℕ) → eqb f.holds 1 ≡ false → value_of f c ≡ pos c
+pub value_plain : (f : FieldRow) (c : ℕ) → same_holds f.holds Twos ≡ false → value_of f c ≡ pos c
 unfolding value_of
 value_plain f c e = ap (λ (b : Bool). cond b (twos_of f.bits c) (pos c)) e
 
 pub value_low : (f : FieldRow) (c : ℕ) → c < 2 ^ (f.bits - 1) → value_of f c ≡ pos c
 unfolding value_of twos_of
-value_low f c h = go (eqb f.holds 1)
+value_low f c h = go (same_holds f.holds Twos)
   where
     go : (a : Bool) → cond a (cond (ltb c (2 ^ (f.bits - 1))) (pos c) (negsuc (2 ^ f.bits - suc c))) (pos c) ≡ pos c
     go true = ap (λ (b : Bool). cond b (pos c) (negsuc (2 ^ f.bits - suc c))) (lt-ltb c (2 ^ (f.bits - 1)) h)
     go false = refl
 
-pub value_high : (f : FieldRow) (c : ℕ) → eqb f.holds 1 ≡ true → 2 ^ (f.bits - 1) ≤ c → value_of f c ≡ negsuc (2 ^ f.bits - suc c)
+pub value_high : (f : FieldRow) (c : ℕ) → same_holds f.holds Twos ≡ true → 2 ^ (f.bits - 1) ≤ c → value_of f c ≡ negsuc (2 ^ f.bits - suc c)
 unfolding value_of twos_of
 value_high f c e h =
     ap (λ (b : Bool). cond b (cond (ltb c (2 ^ (f.bits - 1))) (pos c) (negsuc (2 ^ f.bits - suc c))) (pos c)) e

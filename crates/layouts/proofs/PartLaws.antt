@@ -13,10 +13,11 @@ use lib.Seq.{drop-drop}
 use lib.Pow.{shr_lt}
 use borrow.Author.Tests.{ltb-true, leb-true, eqb-true}
 use Rattle.rules.proofs.AnswerLaws.{both_left, both_right}
+use Rattle.layouts.specs.declared.parts.Run.{Run}
 use Rattle.tables.specs.declared.tables.GroupRow.{GroupRow}
 use Rattle.tables.specs.Tables.{field_count, group_count, group_at}
 use Rattle.tables.proofs.RuleLaws.{and_true, and_false}
-use Rattle.layouts.specs.Read.{rows, rows_at, part_at, width, legal, span, part_sound, parts_sound, parts_legal}
+use Rattle.layouts.specs.Read.{rows, rows_at, part_at, width, legal, span, part_sound, parts_sound, parts_legal, run_legal, run_sound, run_rest}
 
 -- ---- a sound group
 
@@ -85,24 +86,32 @@ first_part step g (suc k) s p h e =
       ok = rw (j, drop-drop (group_at g).octets p s) refl;
     }
 
-pub record CheckParts (step group count : ℕ) (s : List ℕ) (at p g k : ℕ) : Type 0 where
-  pub sound : parts_sound step g k ≡ true
-  pub place : p + span step g k ≡ at + span step group count
-  pub same : parts_legal step g k (drop p s) ≡ parts_legal step group count (drop at s)
+-- a run of which the first parts were checked, among those of the whole
+pub record Checking (whole r : Run) (s : List ℕ) : Type 0 where
+  pub few : r.step ≤ 1
+  pub sound : parts_sound r.step r.group r.count ≡ true
+  pub place : r.at + span r.step r.group r.count ≡ whole.at + span whole.step whole.group whole.count
+  pub same : run_legal r s ≡ run_legal whole s
 
-module _ (step group count : ℕ) (s : List ℕ) (at p g k : ℕ) (c : CheckParts step group count s at p g k) (h : 0 < k) {t : Bool} (et : t ≡ legal (rows_at g) (part_at step g (drop p s))) where
-  part_ok : parts_legal step group count (drop at s) ≡ (t && parts_legal step (g + step) (k - 1) (drop (p + (group_at g).octets) s))
-  part_ok = sym c.same ∙ (first_part step g k s p h c.sound).ok ∙ ap (λ x. x && parts_legal step (g + step) (k - 1) (drop (p + (group_at g).octets) s)) (sym et)
+pub check_begun : (r : Run) (s : List ℕ) → run_sound r s → Checking r r s
+check_begun r s h = record { few = h.0; sound = h.1; place = refl; same = refl }
 
-  pub part_bad : t ≡ false → false ≡ parts_legal step group count (drop at s)
-  part_bad e = sym (part_ok ∙ and_false _ e)
+module _ {whole r : Run} {s : List ℕ} (c : Checking whole r s) (h : 0 < r.count) where
+  pub first_checked : First r.step r.group r.count s r.at
+  first_checked = first_part r.step r.group r.count s r.at h c.sound
 
-  pub part_good : t ≡ true → {m : ℕ} → m ≡ (group_at g).octets → CheckParts step group count s at (p + m) (g + step) (k - 1)
-  part_good e em =
-      let f = first_part step g k s p h c.sound in
-      subst (λ m. CheckParts step group count s at (p + m) (g + step) (k - 1)) (sym em)
-      (record { sound = f.rest; place = omega (arith, c.place, f.spans); same = sym (part_ok ∙ and_true _ e) })
+  module _ {t : Bool} (et : t ≡ legal (rows_at r.group) (part_at r.step r.group (drop r.at s))) where
+    part_ok : run_legal whole s ≡ (t && run_legal (run_rest r) s)
+    part_ok = sym c.same ∙ first_checked.ok ∙ ap (λ x. x && run_legal (run_rest r) s) (sym et)
 
-pub parts_good : (step group count : ℕ) (s : List ℕ) (at p g k : ℕ) → CheckParts step group count s at p g k → k ≤ 0 → true ≡ parts_legal step group count (drop at s)
+    pub check_bad : t ≡ false → false ≡ run_legal whole s
+    check_bad e = sym (part_ok ∙ and_false _ e)
+
+    pub check_good : t ≡ true → {n : Run} → n ≡ run_rest r → Checking whole n s
+    check_good e en =
+        let f = first_checked in
+        subst (λ n. Checking whole n s) (sym en) (record { few = c.few; sound = f.rest; place = omega (arith, c.place, f.spans); same = sym (part_ok ∙ and_true _ e) })
+
+pub check_end : {whole r : Run} {s : List ℕ} → Checking whole r s → r.count ≡ 0 → true ≡ run_legal whole s
 unfolding parts_legal
-parts_good step group count s at p g k c h = let z : k ≡ 0 = omega arith in sym (ap (λ x. parts_legal step g x (drop p s)) z) ∙ c.same
+check_end {whole} {r} {s} c z = sym (ap (λ x. parts_legal r.step r.group x (drop r.at s)) z) ∙ c.same

@@ -24,6 +24,8 @@ use Rattle.rules.specs.Format.{Group, Format, fixed, repeated, led, extended, re
 use Rattle.rules.proofs.AnswerLaws.{Octets, both_left, both_right, need_bind, ok_inj, refused_ok, need_elim, bind_elim, if_inv, some_inj, none_some, octets_drop}
 use Rattle.rules.proofs.ChainLaws.{octets_take}
 use Rattle.rules.specs.Catalogue.{categories}
+use Rattle.tables.specs.declared.tables.Kind.{Kind as LayoutKind}
+use Rattle.tables.specs.declared.tables.Kind.TheVariants.{NoItem, Fixed, Repeated, Led, Extended, Compound}
 use Rattle.tables.specs.declared.tables.LayoutRow.{LayoutRow}
 use Rattle.tables.specs.Tables as t
 use Rattle.tables.specs.Tables.{group_count, fields, field_row, group_is, group_rows, no_group_row, group_at, format_is, format_by}
@@ -390,7 +392,7 @@ grouping_chain (suc c) g e h k = rw (groups_cons g e (omega arith) k) (refl, gro
 
 module _ (lo hi a e : ℕ) (bs : List ℕ) (o : Octets bs) where
   -- one part
-  fixed_reads : parts_sound 0 a 1 ≡ true → read_plain (fixed (group_is (group_at a))) bs ≡ read_kind 1 lo hi a e bs
+  fixed_reads : parts_sound 0 a 1 ≡ true → read_plain (fixed (group_is (group_at a))) bs ≡ read_kind Fixed lo hi a e bs
   unfolding shape_by read_parts Grouping need◌or◌then◌ ◌>>=◌
   fixed_reads s =
       let k = (group_at a).octets in
@@ -406,7 +408,7 @@ module _ (lo hi a e : ℕ) (bs : List ℕ) (o : Octets bs) where
       (le_or_lt k (length bs))
 
   -- a count octet and parts
-  list_reads : parts_sound 0 a hi ≡ true → read_plain (repeated lo hi (group_is (group_at a))) bs ≡ read_kind 2 lo hi a e bs
+  list_reads : parts_sound 0 a hi ≡ true → read_plain (repeated lo hi (group_is (group_at a))) bs ≡ read_kind Repeated lo hi a e bs
   unfolding shape_by list_shape read_parts need◌or◌then◌ ◌>>=◌
   list_reads s =
       let l = repeated lo hi (group_is (group_at a)) in
@@ -442,7 +444,7 @@ module _ (lo hi a e : ℕ) (bs : List ℕ) (o : Octets bs) where
       (le_or_lt 1 (length bs))
 
   -- a length octet and contents
-  led_reads : parts_sound 0 a 254 ≡ true → (group_at a).octets ≡ 1 → is_octet (fields_at a) ≡ true → read_plain (led lo) bs ≡ read_kind 3 lo hi a e bs
+  led_reads : parts_sound 0 a 254 ≡ true → (group_at a).octets ≡ 1 → is_octet (fields_at a) ≡ true → read_plain (led lo) bs ≡ read_kind Led lo hi a e bs
   unfolding shape_by read_parts need◌or◌then◌ ◌>>=◌
   led_reads s one oct =
       let l = led lo in
@@ -475,7 +477,7 @@ module _ (lo hi a e : ℕ) (bs : List ℕ) (o : Octets bs) where
       (le_or_lt 1 (length bs))
 
   -- parts as far as the FX bits say
-  chain_reads : parts_sound 1 a hi ≡ true → a + hi ≡ e → e ≤ group_count → read_plain (extended (slice a e all_groups)) bs ≡ read_kind 4 lo hi a e bs
+  chain_reads : parts_sound 1 a hi ≡ true → a + hi ≡ e → e ≤ group_count → read_plain (extended (slice a e all_groups)) bs ≡ read_kind Extended lo hi a e bs
   unfolding shape_by read_parts chain_parts ◌>>=◌
   chain_reads s h k = go (chain a (e - a) bs) refl
     where
@@ -485,7 +487,7 @@ module _ (lo hi a e : ℕ) (bs : List ℕ) (o : Octets bs) where
       parts_are : read_parts l bs ≡ (chain a (e - a) bs >>= chain_parts a bs)
       parts_are = chain_is (e - a) a e bs (omega arith) k
 
-      go : (m : Answer Shaped) → chain a (e - a) bs ≡ m → read_plain l bs ≡ read_kind 4 lo hi a e bs
+      go : (m : Answer Shaped) → chain a (e - a) bs ≡ m → read_plain l bs ≡ read_kind Extended lo hi a e bs
       go (ok x) q =
           let d : Chained a (e - a) x.0 x.1 bs = chained (e - a) a bs x q in
           all_there l bs 1 a x.0 0 bs (drop x.1 bs) (parts_are ∙ rw q) d.some o (parts_fewer 1 a x.0 hi (omega (arith, d.few)) s) (omega (arith, d.spans, d.there))
@@ -502,25 +504,25 @@ reads l i bs s h o = go l.kind refl
     r : Rowed l
     r = rowed l s
 
-    by : (k : ℕ) → l.kind ≡ k → format_by k l.least l.most (group_is (group_at l.first)) (slice l.first l.end all_groups) ≡ some i
+    by : (k : LayoutKind) → l.kind ≡ k → format_by k l.least l.most (group_is (group_at l.first)) (slice l.first l.end all_groups) ≡ some i
     by k e = subst (λ x. format_by x l.least l.most (group_is (group_at l.first)) (slice l.first l.end all_groups) ≡ some i) e h
 
-    at_kind : (k : ℕ) (j : Format) → l.kind ≡ k → some j ≡ some i → read_plain j bs ≡ read_kind k l.least l.most l.first l.end bs → read_plain i bs ≡ read_kind l.kind l.least l.most l.first l.end bs
+    at_kind : (k : LayoutKind) (j : Format) → l.kind ≡ k → some j ≡ some i → read_plain j bs ≡ read_kind k l.least l.most l.first l.end bs → read_plain i bs ≡ read_kind l.kind l.least l.most l.first l.end bs
     at_kind k j e f g = ap (λ x. read_plain x bs) (sym (some_inj f)) ∙ g ∙ ap (λ x. read_kind x l.least l.most l.first l.end bs) (sym e)
 
-    sound : (k n : ℕ) → l.kind ≡ k → l.most ≡ n → parts_sound (step_of k) l.first n ≡ true
+    sound : (k : LayoutKind) (n : ℕ) → l.kind ≡ k → l.most ≡ n → parts_sound (step_of k) l.first n ≡ true
     sound k n e f = subst (λ x. parts_sound (step_of k) l.first x ≡ true) f (subst (λ x. parts_sound (step_of x) l.first l.most ≡ true) e r.parts)
 
-    go : (k : ℕ) → l.kind ≡ k → read_plain i bs ≡ read_kind l.kind l.least l.most l.first l.end bs
-    go zero e = none_some (by 0 e)
-    go (suc zero) e = at_kind 1 (fixed (group_is (group_at l.first))) e (by 1 e) (fixed_reads l.least l.most l.first l.end bs o (sound 1 1 e (fixed_one l r e)))
-    go (suc (suc zero)) e = at_kind 2 (repeated l.least l.most (group_is (group_at l.first))) e (by 2 e) (list_reads l.least l.most l.first l.end bs o (sound 2 l.most e refl))
-    go (suc (suc (suc zero))) e =
-        at_kind 3 (led l.least) e (by 3 e) (led_reads l.least l.most l.first l.end bs o (sound 3 254 e (led_many l r e)) (led_size l r e) (led_octet l r e))
-    go (suc (suc (suc (suc zero)))) e =
-        at_kind 4 (extended (slice l.first l.end all_groups)) e (by 4 e)
-        (chain_reads l.least l.most l.first l.end bs o (sound 4 l.most e refl) (chain_ends l r e) (chain_inside l r e))
-    go (suc (suc (suc (suc (suc k))))) e = none_some (by (suc (suc (suc (suc (suc k))))) e)
+    go : (k : LayoutKind) → l.kind ≡ k → read_plain i bs ≡ read_kind l.kind l.least l.most l.first l.end bs
+    go NoItem e = none_some (by NoItem e)
+    go Fixed e = at_kind Fixed (fixed (group_is (group_at l.first))) e (by Fixed e) (fixed_reads l.least l.most l.first l.end bs o (sound Fixed 1 e (fixed_one l r e)))
+    go Repeated e = at_kind Repeated (repeated l.least l.most (group_is (group_at l.first))) e (by Repeated e) (list_reads l.least l.most l.first l.end bs o (sound Repeated l.most e refl))
+    go Led e =
+        at_kind Led (led l.least) e (by Led e) (led_reads l.least l.most l.first l.end bs o (sound Led 254 e (led_many l r e)) (led_size l r e) (led_octet l r e))
+    go Extended e =
+        at_kind Extended (extended (slice l.first l.end all_groups)) e (by Extended e)
+        (chain_reads l.least l.most l.first l.end bs o (sound Extended l.most e refl) (chain_ends l r e) (chain_inside l r e))
+    go Compound e = none_some (by Compound e)
 
 -- ---- what a shape says of the parts: they are there, in the tables and in the item
 
@@ -539,55 +541,55 @@ holds_fewer step g (suc c) zero h = absurd (not-suc-le-zero h)
 holds_fewer step g (suc c) (suc d) h = omega (arith, holds_fewer step (g + step) c d (le_of_suc-le-suc h))
 
 -- the number of parts is one that the layout allows
-record Counted (k hi a : ℕ) (bs : List ℕ) (c long : ℕ) : Type 0 where
+record Counted (k : LayoutKind) (hi a : ℕ) (bs : List ℕ) (c long : ℕ) : Type 0 where
   few : c ≤ hi
   spans : head_of k + span (step_of k) a c ≡ long
   there : long ≤ length bs
 
-fixed_counted : (lo hi a e : ℕ) (bs : List ℕ) (s : Shaped) → hi ≡ 1 → shape_by 1 lo hi a e bs ≡ ok s → Counted 1 hi a bs s.0 s.1
+fixed_counted : (lo hi a e : ℕ) (bs : List ℕ) (s : Shaped) → hi ≡ 1 → shape_by Fixed lo hi a e bs ≡ ok s → Counted Fixed hi a bs s.0 s.1
 unfolding shape_by
 fixed_counted lo hi a e bs s h q =
     need_elim (leb (group_at a).octets (length bs)) 9 _ q λ t u.
-    subst (λ (x : Shaped). Counted 1 hi a bs x.0 x.1) (ok_inj u)
+    subst (λ (x : Shaped). Counted Fixed hi a bs x.0 x.1) (ok_inj u)
     (record { few = omega arith; spans = omega (arith, span_equal a 1); there = leb→le _ _ t })
 
-list_counted : (lo hi a e : ℕ) (bs : List ℕ) (s : Shaped) → shape_by 2 lo hi a e bs ≡ ok s → Counted 2 hi a bs s.0 s.1
+list_counted : (lo hi a e : ℕ) (bs : List ℕ) (s : Shaped) → shape_by Repeated lo hi a e bs ≡ ok s → Counted Repeated hi a bs s.0 s.1
 unfolding shape_by list_shape
 list_counted lo hi a e bs s q =
     need_elim _ 9 _ q λ t₀ u₀.
     need_elim _ 9 _ u₀ λ t₁ u₁.
     need_elim _ 11 _ u₁ λ t₂ u₂.
     need_elim _ 11 _ u₂ λ t₃ u₃.
-    subst (λ (x : Shaped). Counted 2 hi a bs x.0 x.1) (ok_inj u₃)
+    subst (λ (x : Shaped). Counted Repeated hi a bs x.0 x.1) (ok_inj u₃)
     (record { few = leb→le _ _ t₃; spans = ap (λ x. 1 + x) (span_equal a (get_or bs 0 0)); there = leb→le _ _ t₁ })
 
-led_counted : (lo hi a e : ℕ) (bs : List ℕ) (s : Shaped) → Octets bs → hi ≡ 254 → (group_at a).octets ≡ 1 → shape_by 3 lo hi a e bs ≡ ok s → Counted 3 hi a bs s.0 s.1
+led_counted : (lo hi a e : ℕ) (bs : List ℕ) (s : Shaped) → Octets bs → hi ≡ 254 → (group_at a).octets ≡ 1 → shape_by Led lo hi a e bs ≡ ok s → Counted Led hi a bs s.0 s.1
 unfolding shape_by
 led_counted lo hi a e bs s o h one q =
     need_elim _ 9 _ q λ t₀ u₀.
     need_elim _ 10 _ u₀ λ t₁ u₁.
     need_elim _ 9 _ u₁ λ t₂ u₂.
     let k : lo < get_or bs 0 0 = ltb→lt _ _ t₁ in
-    subst (λ (x : Shaped). Counted 3 hi a bs x.0 x.1) (ok_inj u₂)
+    subst (λ (x : Shaped). Counted Led hi a bs x.0 x.1) (ok_inj u₂)
     (record {
       few = omega (arith, octet_small bs o);
       spans = omega (arith, span_one a (get_or bs 0 0 - 1) one);
       there = leb→le _ _ t₂;
     })
 
-chain_counted : (lo hi a e : ℕ) (bs : List ℕ) (s : Shaped) → a + hi ≡ e → shape_by 4 lo hi a e bs ≡ ok s → Counted 4 hi a bs s.0 s.1
+chain_counted : (lo hi a e : ℕ) (bs : List ℕ) (s : Shaped) → a + hi ≡ e → shape_by Extended lo hi a e bs ≡ ok s → Counted Extended hi a bs s.0 s.1
 unfolding shape_by
 chain_counted lo hi a e bs s h q =
     let d : Chained a (e - a) s.0 s.1 bs = chained (e - a) a bs s q in
     record { few = omega (arith, d.few); spans = omega (arith, d.spans); there = d.there }
 
-none_counted : (lo hi a e : ℕ) (bs : List ℕ) (s : Shaped) {C : Type 0} → shape_by 0 lo hi a e bs ≡ ok s → C
+none_counted : (lo hi a e : ℕ) (bs : List ℕ) (s : Shaped) {C : Type 0} → shape_by NoItem lo hi a e bs ≡ ok s → C
 unfolding shape_by
 none_counted lo hi a e bs s q = refused_ok q
 
-past_counted : (k lo hi a e : ℕ) (bs : List ℕ) (s : Shaped) {C : Type 0} → shape_by (suc (suc (suc (suc (suc k))))) lo hi a e bs ≡ ok s → C
+compound_counted : (lo hi a e : ℕ) (bs : List ℕ) (s : Shaped) {C : Type 0} → shape_by Compound lo hi a e bs ≡ ok s → C
 unfolding shape_by
-past_counted k lo hi a e bs s q = refused_ok q
+compound_counted lo hi a e bs s q = refused_ok q
 
 pub fitting : (l : LayoutRow) (bs : List ℕ) (s : Shaped) → row_sound l ≡ true → Octets bs → shape_of l bs ≡ ok s → Fitting l bs s.0 s.1
 unfolding shape_of
@@ -604,16 +606,16 @@ fitting l bs s h o q =
     r : Rowed l
     r = rowed l h
 
-    by : (k : ℕ) → l.kind ≡ k → shape_by k l.least l.most l.first l.end bs ≡ ok s
+    by : (k : LayoutKind) → l.kind ≡ k → shape_by k l.least l.most l.first l.end bs ≡ ok s
     by k e = subst (λ x. shape_by x l.least l.most l.first l.end bs ≡ ok s) e q
 
-    back : (k : ℕ) → l.kind ≡ k → Counted k l.most l.first bs s.0 s.1 → Counted l.kind l.most l.first bs s.0 s.1
+    back : (k : LayoutKind) → l.kind ≡ k → Counted k l.most l.first bs s.0 s.1 → Counted l.kind l.most l.first bs s.0 s.1
     back k e d = subst (λ x. Counted x l.most l.first bs s.0 s.1) (sym e) d
 
-    go : (k : ℕ) → l.kind ≡ k → Counted l.kind l.most l.first bs s.0 s.1
-    go zero e = none_counted l.least l.most l.first l.end bs s (by 0 e)
-    go (suc zero) e = back 1 e (fixed_counted l.least l.most l.first l.end bs s (fixed_one l r e) (by 1 e))
-    go (suc (suc zero)) e = back 2 e (list_counted l.least l.most l.first l.end bs s (by 2 e))
-    go (suc (suc (suc zero))) e = back 3 e (led_counted l.least l.most l.first l.end bs s o (led_many l r e) (led_size l r e) (by 3 e))
-    go (suc (suc (suc (suc zero)))) e = back 4 e (chain_counted l.least l.most l.first l.end bs s (chain_ends l r e) (by 4 e))
-    go (suc (suc (suc (suc (suc k))))) e = past_counted k l.least l.most l.first l.end bs s (by (suc (suc (suc (suc (suc k))))) e)
+    go : (k : LayoutKind) → l.kind ≡ k → Counted l.kind l.most l.first bs s.0 s.1
+    go NoItem e = none_counted l.least l.most l.first l.end bs s (by NoItem e)
+    go Fixed e = back Fixed e (fixed_counted l.least l.most l.first l.end bs s (fixed_one l r e) (by Fixed e))
+    go Repeated e = back Repeated e (list_counted l.least l.most l.first l.end bs s (by Repeated e))
+    go Led e = back Led e (led_counted l.least l.most l.first l.end bs s o (led_many l r e) (led_size l r e) (by Led e))
+    go Extended e = back Extended e (chain_counted l.least l.most l.first l.end bs s (chain_ends l r e) (by Extended e))
+    go Compound e = compound_counted l.least l.most l.first l.end bs s (by Compound e)

@@ -7,13 +7,15 @@ use mathlib.Core.Bool.{true, false, ◌&&◌}
 use mathlib.Core.List.{List, []}
 use native.Mathlib.Omega.{arith}
 use native.Mathlib.Nat.{not-suc-le-zero, add-zero}
-use lib.Dec.{leb, ltb, eqb, lit≤}
+use lib.Dec.{leb, ltb, eqb}
 use lib.ListN.{length, get_or, take, drop, length-drop}
 use lib.Seq.{slice, drop-drop, get_or-drop}
 use borrow.Author.Tests.{le-leb, lt-leb, le-ltb, lt-ltb, leb-true, eqb-true}
 use Rattle.rules.specs.Answer.{Answer, ok, refused, ◌>>=◌, need◌or◌then◌, when◌then◌else◌}
 use Rattle.rules.specs.Chain.{joined}
 use Rattle.rules.proofs.AnswerLaws.{both_left, both_right}
+use Rattle.tables.specs.declared.tables.Kind.{Kind}
+use Rattle.tables.specs.declared.tables.Kind.TheVariants.{NoItem, Fixed, Repeated, Led, Extended, Compound}
 use Rattle.tables.specs.declared.tables.LayoutRow.{LayoutRow}
 use Rattle.tables.specs.Tables.{group_count, fields, group_at}
 use Rattle.layouts.specs.Read.{holds, parts_sound, Shaped, chain, step_of, list_shape, shape_by, shape_of, is_octet, row_sound_by, row_sound}
@@ -140,124 +142,103 @@ pub record Grouped (l : LayoutRow) : Type 0 where
   pub sound : PartSound 0 (group_at l.first)
 
 module _ (l : LayoutRow) (r : Rowed l) where
-  grouped : step_of l.kind ≡ 0 → 1 ≤ l.most → Grouped l
+  pub grouped : step_of l.kind ≡ 0 → 1 ≤ l.most → Grouped l
   grouped e h =
       let f : First 0 l.first l.most [] 0 = first_part 0 l.first l.most [] 0 h (subst (λ x. parts_sound x l.first l.most ≡ true) e r.parts) in
       record { inside = f.inside; sound = part_sound_lem 0 (group_at l.first) f.sound }
 
-  by_kind : (k : ℕ) → l.kind ≡ k → row_sound_by k l.most l.first l.end ≡ true
+  by_kind : (k : Kind) → l.kind ≡ k → row_sound_by k l.most l.first l.end ≡ true
   by_kind k e = subst (λ x. row_sound_by x l.most l.first l.end ≡ true) e r.by
 
-  step_kind : (k : ℕ) → l.kind ≡ k → step_of l.kind ≡ step_of k
+  step_kind : (k : Kind) → l.kind ≡ k → step_of l.kind ≡ step_of k
   step_kind k e = ap step_of e
 
-  pub fixed_one : l.kind ≡ 1 → l.most ≡ 1
-  fixed_one e = eqb-true _ _ (both_left (eqb l.most 1) _ (by_kind 1 e))
+  pub fixed_one : l.kind ≡ Fixed → l.most ≡ 1
+  fixed_one e = eqb-true _ _ (both_left (eqb l.most 1) _ (by_kind Fixed e))
 
-  pub fixed_short : l.kind ≡ 1 → (group_at l.first).octets ≤ 7
-  fixed_short e = leb-true _ _ (both_right (eqb l.most 1) _ (by_kind 1 e))
+  pub fixed_short : l.kind ≡ Fixed → (group_at l.first).octets ≤ 7
+  fixed_short e = leb-true _ _ (both_right (eqb l.most 1) _ (by_kind Fixed e))
 
-  pub fixed_group : l.kind ≡ 1 → Grouped l
-  fixed_group e = grouped (step_kind 1 e) (omega (arith, fixed_one e))
+  pub fixed_group : l.kind ≡ Fixed → Grouped l
+  fixed_group e = grouped (step_kind Fixed e) (omega (arith, fixed_one e))
 
-  pub list_group : l.kind ≡ 2 → Grouped l
-  list_group e = grouped (step_kind 2 e) (leb-true _ _ (by_kind 2 e))
+  pub list_group : l.kind ≡ Repeated → Grouped l
+  list_group e = grouped (step_kind Repeated e) (leb-true _ _ (by_kind Repeated e))
 
-  pub led_many : l.kind ≡ 3 → l.most ≡ 254
-  led_many e = let t = by_kind 3 e in eqb-true _ _ (both_left (eqb l.most 254) _ (both_left (eqb l.most 254 && eqb (group_at l.first).octets 1) _ t))
+  pub led_many : l.kind ≡ Led → l.most ≡ 254
+  led_many e = let t = by_kind Led e in eqb-true _ _ (both_left (eqb l.most 254) _ (both_left (eqb l.most 254 && eqb (group_at l.first).octets 1) _ t))
 
-  pub led_size : l.kind ≡ 3 → (group_at l.first).octets ≡ 1
-  led_size e = let t = by_kind 3 e in eqb-true _ _ (both_right (eqb l.most 254) _ (both_left (eqb l.most 254 && eqb (group_at l.first).octets 1) _ t))
+  pub led_size : l.kind ≡ Led → (group_at l.first).octets ≡ 1
+  led_size e = let t = by_kind Led e in eqb-true _ _ (both_right (eqb l.most 254) _ (both_left (eqb l.most 254 && eqb (group_at l.first).octets 1) _ t))
 
-  pub led_octet : l.kind ≡ 3 → is_octet (slice (group_at l.first).first (group_at l.first).end fields) ≡ true
-  led_octet e = let t = by_kind 3 e in both_right (eqb l.most 254 && eqb (group_at l.first).octets 1) _ t
+  pub led_octet : l.kind ≡ Led → is_octet (slice (group_at l.first).first (group_at l.first).end fields) ≡ true
+  led_octet e = let t = by_kind Led e in both_right (eqb l.most 254 && eqb (group_at l.first).octets 1) _ t
 
-  pub led_group : l.kind ≡ 3 → Grouped l
-  led_group e = grouped (step_kind 3 e) (omega (arith, led_many e))
+  pub led_group : l.kind ≡ Led → Grouped l
+  led_group e = grouped (step_kind Led e) (omega (arith, led_many e))
 
-  pub chain_ends : l.kind ≡ 4 → l.first + l.most ≡ l.end
-  chain_ends e = let t = by_kind 4 e in eqb-true _ _ (both_left (eqb (l.first + l.most) l.end) _ t)
+  pub chain_ends : l.kind ≡ Extended → l.first + l.most ≡ l.end
+  chain_ends e = let t = by_kind Extended e in eqb-true _ _ (both_left (eqb (l.first + l.most) l.end) _ t)
 
-  chain_many : l.kind ≡ 4 → l.most ≡ l.end - l.first
+  chain_many : l.kind ≡ Extended → l.most ≡ l.end - l.first
   chain_many e = omega (arith, chain_ends e)
 
-  pub chain_inside : l.kind ≡ 4 → l.end ≤ group_count
-  chain_inside e = let t = by_kind 4 e in leb-true _ _ (both_right (eqb (l.first + l.most) l.end) _ t)
+  pub chain_inside : l.kind ≡ Extended → l.end ≤ group_count
+  chain_inside e = let t = by_kind Extended e in leb-true _ _ (both_right (eqb (l.first + l.most) l.end) _ t)
 
-  pub chain_parts_lem : l.kind ≡ 4 → parts_sound 1 l.first (l.end - l.first) ≡ true
-  chain_parts_lem e = subst (λ x. parts_sound x l.first (l.end - l.first) ≡ true) (step_kind 4 e) (subst (λ x. parts_sound (step_of l.kind) l.first x ≡ true) (chain_many e) r.parts)
-
-  pub few_kinds : l.kind ≤ 5
-  few_kinds = go l.kind refl
-    where
-      go : (k : ℕ) → l.kind ≡ k → k ≤ 5
-      go zero e = lit≤ tt
-      go (suc zero) e = lit≤ tt
-      go (suc (suc zero)) e = lit≤ tt
-      go (suc (suc (suc zero))) e = lit≤ tt
-      go (suc (suc (suc (suc zero)))) e = lit≤ tt
-      go (suc (suc (suc (suc (suc k))))) e =
-          let z : k ≡ 0 = eqb-true _ _ (by_kind (suc (suc (suc (suc (suc k))))) e) in
-          omega arith
-
-  -- what is left when each other way has been tested
-  pub a_list : ¬ (l.kind ≡ 0) → ¬ (l.kind ≡ 5) → ¬ (l.kind ≡ 1) → ¬ (l.kind ≡ 4) → ¬ (l.kind ≡ 3) → l.kind ≡ 2
-  a_list a f b d e = omega (arith, few_kinds)
+  pub chain_parts_lem : l.kind ≡ Extended → parts_sound 1 l.first (l.end - l.first) ≡ true
+  chain_parts_lem e = subst (λ x. parts_sound x l.first (l.end - l.first) ≡ true) (step_kind Extended e) (subst (λ x. parts_sound (step_of l.kind) l.first x ≡ true) (chain_many e) r.parts)
 
 -- ---- the shape by how the parts lie
 
 module _ (l : LayoutRow) (bs : List ℕ) where
-  shape_kind : (k : ℕ) → l.kind ≡ k → shape_of l bs ≡ shape_by k l.least l.most l.first l.end bs
+  shape_kind : (k : Kind) → l.kind ≡ k → shape_of l bs ≡ shape_by k l.least l.most l.first l.end bs
   unfolding shape_of
   shape_kind k e = ap (λ x. shape_by x l.least l.most l.first l.end bs) e
 
-  pub no_shape : l.kind ≡ 0 → refused 21 0 ≡ shape_of l bs
+  pub no_shape : l.kind ≡ NoItem → refused 21 0 ≡ shape_of l bs
   unfolding shape_by
-  no_shape e = sym (shape_kind 0 e)
+  no_shape e = sym (shape_kind NoItem e)
 
-  pub no_parts : l.kind ≡ 5 → refused 21 0 ≡ shape_of l bs
+  pub no_parts : l.kind ≡ Compound → refused 21 0 ≡ shape_of l bs
   unfolding shape_by
-  no_parts e = sym (shape_kind 5 e)
+  no_parts e = sym (shape_kind Compound e)
 
-  fixed_is : l.kind ≡ 1 → shape_of l bs ≡ (need leb (group_at l.first).octets (length bs) or 9 then ok (1, (group_at l.first).octets))
+  fixed_is : l.kind ≡ Fixed → shape_of l bs ≡ (need leb (group_at l.first).octets (length bs) or 9 then ok (1, (group_at l.first).octets))
   unfolding shape_by
-  fixed_is e = shape_kind 1 e
+  fixed_is e = shape_kind Fixed e
 
-  pub fixed_cut : l.kind ≡ 1 → {m : ℕ} → m ≡ (group_at l.first).octets → length bs < m → refused 9 0 ≡ shape_of l bs
+  pub fixed_cut : l.kind ≡ Fixed → {m : ℕ} → m ≡ (group_at l.first).octets → length bs < m → refused 9 0 ≡ shape_of l bs
   unfolding need◌or◌then◌
   fixed_cut e em h = sym (fixed_is e ∙ rw (← em, lt-leb _ _ h))
 
-  pub fixed_there : l.kind ≡ 1 → {m : ℕ} → m ≡ (group_at l.first).octets → m ≤ length bs → ok (1, m) ≡ shape_of l bs
+  pub fixed_there : l.kind ≡ Fixed → {m : ℕ} → m ≡ (group_at l.first).octets → m ≤ length bs → ok (1, m) ≡ shape_of l bs
   unfolding need◌or◌then◌
   fixed_there e em h = sym (fixed_is e ∙ rw (← em, le-leb _ _ h))
 
-  pub chain_shape : l.kind ≡ 4 → chain l.first (l.end - l.first) bs ≡ shape_of l bs
+  pub chain_shape : l.kind ≡ Extended → chain l.first (l.end - l.first) bs ≡ shape_of l bs
   unfolding shape_by
-  chain_shape e = sym (shape_kind 4 e)
+  chain_shape e = sym (shape_kind Extended e)
 
-  pub list_shape_lem : l.kind ≡ 2 → 1 ≤ length bs → list_shape l.least l.most (group_at l.first).octets (get_or bs 0 0) (length bs) ≡ shape_of l bs
+  pub list_shape_lem : l.kind ≡ Repeated → 1 ≤ length bs → list_shape l.least l.most (group_at l.first).octets (get_or bs 0 0) (length bs) ≡ shape_of l bs
   unfolding shape_by need◌or◌then◌
-  list_shape_lem e h = sym (shape_kind 2 e ∙ rw (le-leb 1 (length bs) h))
+  list_shape_lem e h = sym (shape_kind Repeated e ∙ rw (le-leb 1 (length bs) h))
 
   -- no count or length octet
-  pub no_head_lem : ¬ (l.kind ≡ 0) → ¬ (l.kind ≡ 5) → ¬ (l.kind ≡ 1) → ¬ (l.kind ≡ 4) → l.kind ≤ 5 → length bs < 1 → refused 9 0 ≡ shape_of l bs
+  pub list_none : l.kind ≡ Repeated → length bs < 1 → refused 9 0 ≡ shape_of l bs
   unfolding shape_by need◌or◌then◌
-  no_head_lem a f b d few h = go l.kind refl
-    where
-      go : (k : ℕ) → l.kind ≡ k → refused 9 0 ≡ shape_of l bs
-      go zero e = absurd (a e)
-      go (suc zero) e = absurd (b e)
-      go (suc (suc zero)) e = sym (shape_kind 2 e ∙ rw (lt-leb 1 (length bs) h))
-      go (suc (suc (suc zero))) e = sym (shape_kind 3 e ∙ rw (lt-leb 1 (length bs) h))
-      go (suc (suc (suc (suc zero)))) e = absurd (d e)
-      go (suc (suc (suc (suc (suc k))))) e = absurd (f (omega (arith, e)))
+  list_none e h = sym (shape_kind Repeated e ∙ rw (lt-leb 1 (length bs) h))
 
-  led_is : l.kind ≡ 3 → 1 ≤ length bs
+  pub led_none : l.kind ≡ Led → length bs < 1 → refused 9 0 ≡ shape_of l bs
+  unfolding shape_by need◌or◌then◌
+  led_none e h = sym (shape_kind Led e ∙ rw (lt-leb 1 (length bs) h))
+
+  led_is : l.kind ≡ Led → 1 ≤ length bs
       → shape_of l bs ≡ (need ltb l.least (get_or bs 0 0) or 10 then need leb (get_or bs 0 0) (length bs) or 9 then ok (get_or bs 0 0 - 1, get_or bs 0 0))
   unfolding shape_by need◌or◌then◌
-  led_is e h = shape_kind 3 e ∙ rw (le-leb 1 (length bs) h)
+  led_is e h = shape_kind Led e ∙ rw (le-leb 1 (length bs) h)
 
-  module _ (e : l.kind ≡ 3) (h : 1 ≤ length bs) {n : ℕ} (en : n ≡ get_or bs 0 0) where
+  module _ (e : l.kind ≡ Led) (h : 1 ≤ length bs) {n : ℕ} (en : n ≡ get_or bs 0 0) where
     pub led_short : n ≤ l.least → refused 10 0 ≡ shape_of l bs
     unfolding need◌or◌then◌
     led_short k = sym (led_is e h ∙ rw (← en, le-ltb l.least n k))

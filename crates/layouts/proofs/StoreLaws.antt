@@ -11,15 +11,16 @@ use native.Mathlib.Numerals.{add-one}
 use lib.IntN.{ℤ}
 use lib.ListN.{length, set, drop, length-append}
 use lib.Seq.{sets, drop-drop}
-use borrow.Author.Tests.{eq-eqb, ne_eqb}
 use mir.Syntax.{w64}
 use mir.Val.{SFits}
 use mir.ValLaws.{to_z-of_z}
 use Rattle.rules.specs.Chain.{flatten}
+use Rattle.tables.specs.declared.tables.Holds.TheVariants.{Spare}
 use Rattle.tables.specs.declared.tables.FieldRow.{FieldRow}
-use Rattle.tables.specs.declared.tables.GroupRow.{GroupRow}
+use Rattle.layouts.specs.declared.parts.Run.{Run}
 use Rattle.tables.specs.Tables.{field_count, group_at}
-use Rattle.layouts.specs.Read.{rows, rows_at, part_at, value_of, is_spare, width, shown, takes, values, count, span, holds, parts_sound, part_values}
+use Rattle.tables.proofs.KindLaws.{holds_same, holds_other}
+use Rattle.layouts.specs.Read.{rows, rows_at, part_at, value_of, is_spare, width, shown, takes, values, count, span, holds, parts_sound, part_values, run_sound, run_holds, run_values, run_rest}
 use Rattle.layouts.proofs.FieldCodes.{again}
 use Rattle.layouts.proofs.PartLaws.{First, first_part}
 use Rattle.layouts.proofs.Stores.{sets_append}
@@ -27,13 +28,13 @@ use Rattle.layouts.proofs.Turns.{Cut, rows_nil}
 
 -- ---- one value, unless the field is spare
 
-pub spare_yes : (f : FieldRow) → f.holds ≡ 2 → is_spare f ≡ true
+pub spare_yes : (f : FieldRow) → f.holds ≡ Spare → is_spare f ≡ true
 unfolding is_spare
-spare_yes f h = eq-eqb f.holds 2 h
+spare_yes f h = holds_same f.holds Spare h
 
-pub spare_no : (f : FieldRow) → (f.holds ≡ 2 → ⊥) → is_spare f ≡ false
+pub spare_no : (f : FieldRow) → (f.holds ≡ Spare → ⊥) → is_spare f ≡ false
 unfolding is_spare
-spare_no f h = ne_eqb f.holds 2 h
+spare_no f h = holds_other f.holds Spare h
 
 pub put_spare : (f : FieldRow) (v : ℤ) (l : List ℤ) (at : ℕ) → is_spare f ≡ true → (at ≡ at + takes f) × (l ≡ sets l at (shown f v []))
 put_spare f v l at e = (sym (ap (λ (b : Bool). at + cond b 0 1) e ∙ add-zero at), sym (ap (λ (b : Bool). sets l at (cond b [] (v ∷ []))) e))
@@ -101,15 +102,16 @@ length_values (f ∷ fs) n = go (is_spare f) (length_values fs (n % 2 ^ width fs
     go true h = omega arith
     go false h = omega arith
 
-pub record StoreParts (step group c₀ : ℕ) (s : List ℕ) (at : ℕ) (out₀ : List ℤ) (start p g k q : ℕ) (out : List ℤ) : Type 0 where
-  pub sound : parts_sound step g k ≡ true
-  pub place : p + span step g k ≡ at + span step group c₀
-  pub room : q + holds step g k ≡ start + holds step group c₀
-  pub same : sets out q (flatten (part_values step g k (drop p s))) ≡ sets out₀ start (flatten (part_values step group c₀ (drop at s)))
+-- a run of which the first parts were stored, among those of the whole
+pub record StoringRun (whole : Run) (s : List ℕ) (out₀ : List ℤ) (start : ℕ) (r : Run) (q : ℕ) (out : List ℤ) : Type 0 where
+  pub few : r.step ≤ 1
+  pub sound : parts_sound r.step r.group r.count ≡ true
+  pub place : r.at + span r.step r.group r.count ≡ whole.at + span whole.step whole.group whole.count
+  pub room : q + run_holds r ≡ start + run_holds whole
+  pub same : sets out q (run_values r s) ≡ sets out₀ start (run_values whole s)
 
-pub store_begun : (step group c₀ : ℕ) (s : List ℕ) (at : ℕ) (out₀ : List ℤ) (start : ℕ) → parts_sound step group c₀ ≡ true
-    → StoreParts step group c₀ s at out₀ start at group c₀ start out₀
-store_begun step group c₀ s at out₀ start h = record { sound = h; place = refl; room = refl; same = refl }
+pub store_begun : (r : Run) (s : List ℕ) (out : List ℤ) (start : ℕ) → run_sound r s → StoringRun r s out start r start out
+store_begun r s out start h = record { few = h.0; sound = h.1; place = refl; room = refl; same = refl }
 
 -- the first of the parts, and the others
 pub holds_cons : (step g k : ℕ) → 0 < k → holds step g k ≡ count (rows_at g) + holds step (g + step) (k - 1)
@@ -123,34 +125,37 @@ unfolding part_values
 values_cons step g zero s p h = absurd (not-suc-le-zero h)
 values_cons step g (suc k) s p h = let e : suc k - 1 ≡ k = omega arith in rw (e, drop-drop (group_at g).octets p s)
 
-pub part_stored : (step group c₀ : ℕ) (s : List ℕ) (at : ℕ) (out₀ : List ℤ) (start p g k q q' : ℕ) (out out' : List ℤ) {r : GroupRow}
-    → StoreParts step group c₀ s at out₀ start p g k q out → 0 < k → r ≡ group_at g
-    → (q' ≡ q + count (rows_at g)) × (out' ≡ sets out q (values (rows_at g) (part_at step g (drop p s))))
-    → StoreParts step group c₀ s at out₀ start (p + r.octets) (g + step) (k - 1) q' out'
-part_stored step group c₀ s at out₀ start p g k q q' out out' c h er eo =
-    let f : First step g k s p = first_part step g k s p h c.sound in
-    let vs : List ℤ = values (rows_at g) (part_at step g (drop p s)) in
-    let rest : List ℤ = flatten (part_values step (g + step) (k - 1) (drop (p + (group_at g).octets) s)) in
-    subst (λ (r : GroupRow). StoreParts step group c₀ s at out₀ start (p + r.octets) (g + step) (k - 1) q' out') (sym er)
-    (record {
-      sound = f.rest;
-      place = omega (arith, c.place, f.spans);
-      room = omega (arith, c.room, holds_cons step g k h, eo.0);
-      same =
-          ap (λ (x : List ℤ). sets x q' rest) eo.1
-          ∙ ap (λ (x : ℕ). sets (sets out q vs) x rest) (eo.0 ∙ ap (λ (x : ℕ). q + x) (sym (length_values (rows_at g) (part_at step g (drop p s)))))
-          ∙ sym (sets_append vs rest out q)
-          ∙ ap (sets out q) (sym (values_cons step g k s p h))
-          ∙ c.same;
-    })
+module _ {whole : Run} {s : List ℕ} {out₀ : List ℤ} {start : ℕ} {r : Run} {q : ℕ} {out : List ℤ} (c : StoringRun whole s out₀ start r q out) where
+  pub first_stored : 0 < r.count → First r.step r.group r.count s r.at
+  first_stored h = first_part r.step r.group r.count s r.at h c.sound
 
-pub parts_stored : (step group c₀ : ℕ) (s : List ℕ) (at : ℕ) (out₀ : List ℤ) (start p g k q : ℕ) (out : List ℤ)
-    → StoreParts step group c₀ s at out₀ start p g k q out → k ≤ 0
-    → (q ≡ start + holds step group c₀) × (out ≡ sets out₀ start (flatten (part_values step group c₀ (drop at s))))
-unfolding holds part_values
-parts_stored step group c₀ s at out₀ start p g k q out c h =
-    let z : k ≡ 0 = omega arith in
-    (sym (ap (λ x. q + holds step g x) z ∙ add-zero q) ∙ c.room, sym (ap (λ x. sets out q (flatten (part_values step g x (drop p s)))) z) ∙ c.same)
+  pub part_stored : 0 < r.count → {n : Run} {q' : ℕ} {out' : List ℤ} → n ≡ run_rest r
+      → (q' ≡ q + count (rows_at r.group)) × (out' ≡ sets out q (values (rows_at r.group) (part_at r.step r.group (drop r.at s))))
+      → StoringRun whole s out₀ start n q' out'
+  part_stored h {n} {q'} {out'} en eo =
+      let f : First r.step r.group r.count s r.at = first_stored h in
+      let vs : List ℤ = values (rows_at r.group) (part_at r.step r.group (drop r.at s)) in
+      let rest : List ℤ = run_values (run_rest r) s in
+      subst (λ (n : Run). StoringRun whole s out₀ start n q' out') (sym en)
+      (record {
+        few = c.few;
+        sound = f.rest;
+        place = omega (arith, c.place, f.spans);
+        room = omega (arith, c.room, holds_cons r.step r.group r.count h, eo.0);
+        same =
+            ap (λ (x : List ℤ). sets x q' rest) eo.1
+            ∙ ap (λ (x : ℕ). sets (sets out q vs) x rest) (eo.0 ∙ ap (λ (x : ℕ). q + x) (sym (length_values (rows_at r.group) (part_at r.step r.group (drop r.at s)))))
+            ∙ sym (sets_append vs rest out q)
+            ∙ ap (sets out q) (sym (values_cons r.step r.group r.count s r.at h))
+            ∙ c.same;
+      })
+
+  pub parts_stored : r.count ≡ 0 → (q ≡ start + run_holds whole) × (out ≡ sets out₀ start (run_values whole s))
+  unfolding holds part_values
+  parts_stored z = (
+    sym (ap (λ x. q + holds r.step r.group x) z ∙ add-zero q) ∙ c.room,
+    sym (ap (λ x. sets out q (flatten (part_values r.step r.group x (drop r.at s)))) z) ∙ c.same,
+  )
 
 -- how many values so many parts have
 pub length_held : (step g c : ℕ) (bs : List ℕ) → length (flatten (part_values step g c bs)) ≡ holds step g c
@@ -158,16 +163,3 @@ unfolding part_values holds
 length_held step g zero bs = refl
 length_held step g (suc c) bs =
     rw (length-append (values (rows_at g) (part_at step g bs)) (flatten (part_values step (g + step) c (drop (group_at g).octets bs))), length_values (rows_at g) (part_at step g bs), length_held step (g + step) c (drop (group_at g).octets bs))
-
--- what storing an item asks, and gives, of the step and the head that were worked out
-module _ (st hd a c start : ℕ) {step head : ℕ} (es : step ≡ st) (eh : head ≡ hd) where
-  pub store_asks : (n : ℕ) → step ≤ 1 → parts_sound st a c ≡ true → hd + span st a c ≤ n → start + holds st a c ≤ 8_192
-      → ((step ≤ 1) × (parts_sound step a c ≡ true) × (head + span step a c ≤ n)) × (start + holds step a c ≤ 8_192)
-  store_asks n one sound there room =
-      let e : span step a c ≡ span st a c = ap (λ x. span x a c) es in
-      ((one, ap (λ x. parts_sound x a c) es ∙ sound, omega (arith, e, eh, there)), subst (λ x. start + holds x a c ≤ 8_192) (sym es) room)
-
-  pub store_gives : (bs : List ℕ) (old new : List ℤ) (q : ℕ) → (q ≡ start + holds step a c) × (new ≡ sets old start (flatten (part_values step a c (drop head bs))))
-      → (q ≡ start + holds st a c) × (new ≡ sets old start (flatten (part_values st a c (drop hd bs))))
-  store_gives bs old new q h =
-      (h.0 ∙ ap (λ x. start + holds x a c) es, h.1 ∙ ap (λ x. sets old start (flatten (part_values x a c (drop head bs)))) es ∙ ap (λ x. sets old start (flatten (part_values st a c (drop x bs)))) eh)

@@ -3,33 +3,32 @@ use Prim.Native.Nat.{ℕ, ◌+◌}
 use mathlib.Core.Path.{◌≡◌, sym, ap, ap₂, ◌∙◌}
 use mathlib.Core.Bool.{Bool}
 use mathlib.Core.List.{List}
-use native.Mathlib.Omega.{arith}
+use Rattle.std.specs.Prelude.{Result}
 use lib.IntN.{ℤ}
 use lib.ListN.{drop}
 use lib.Seq.{sets}
 use Rattle.rules.specs.Chain.{flatten}
-use Rattle.rules.proofs.AnswerLaws.{ok_inj}
+use Rattle.rules.specs.declared.faults.Refusal.{Refusal}
+use Rattle.rules.proofs.ToldLaws.{one_told_as}
 use Rattle.tables.specs.declared.tables.LayoutRow.{LayoutRow}
-use Rattle.layouts.specs.declared.parts.Shape.{Shape}
-use Rattle.layouts.specs.declared.parts.Shape.TheVariants.{Parts, Refused}
-use Rattle.layouts.specs.Read.{rows_at, part_at, legal, fault_at, holds, part_values, Shaped, shape_is, head_of, step_of, whole_of}
+use Rattle.layouts.specs.declared.parts.Parts.{Parts}
+use Rattle.layouts.specs.declared.parts.Run.{Run}
+use Rattle.layouts.specs.Read.{rows_at, part_at, legal, run_fault, holds, part_values, parts_is, shape_is, head_of, step_of, whole_of}
 
-pub one_part_legal : (s : List ℕ) (at group step : ℕ) (a b : Bool)
-    → a ≡ legal (rows_at group) (part_at step group (drop at s)) → b ≡ legal (rows_at group) (part_at step group (drop at s)) → a ≡ b
-one_part_legal s at group step a b p q = p ∙ sym q
+pub one_first_legal : (self : Run) (s : List ℕ) (a b : Bool)
+    → a ≡ legal (rows_at self.group) (part_at self.step self.group (drop self.at s)) → b ≡ legal (rows_at self.group) (part_at self.step self.group (drop self.at s)) → a ≡ b
+one_first_legal self s a b p q = p ∙ sym q
 
-pub one_fault_at : (s : List ℕ) (at count group step a b : ℕ) → a ≡ fault_at step group count at s → b ≡ fault_at step group count at s → a ≡ b
-one_fault_at s at count group step a b p q = p ∙ sym q
+pub one_fault_at : (self : Run) (s : List ℕ) (a b : ℕ) → a ≡ run_fault self s → b ≡ run_fault self s → a ≡ b
+one_fault_at self s a b p q = p ∙ sym q
 
-pub shape_told : (a b : Shape) → shape_is a ≡ shape_is b → a ≡ b
-shape_told (Parts k m) (Parts l n) e =
-    let p : ◌≡◌ {A = Shaped} (k, m) (l, n) = ok_inj e in
-    ap₂ Parts (ap (λ x. x.0) p) (ap (λ x. x.1) p)
-shape_told (Parts k m) (Refused n q) e = let z : ◌≡◌ {A = ℕ} 0 1 = cc in absurd (omega arith)
-shape_told (Refused m p) (Parts l n) e = let z : ◌≡◌ {A = ℕ} 0 1 = cc in absurd (omega arith)
-shape_told (Refused m p) (Refused n q) e = cc
+one_parts : (a b : Parts) → parts_is a ≡ parts_is b → a ≡ b
+one_parts a b e = ap₂ (λ k n. record { count = k; long = n }) (ap (λ x. x.0) e) (ap (λ x. x.1) e)
 
-pub one_whole_of : (l : LayoutRow) (s : List ℕ) (a b : Shape) → shape_is a ≡ whole_of l s → shape_is b ≡ whole_of l s → a ≡ b
+pub shape_told : (a b : Result Parts Refusal) → shape_is a ≡ shape_is b → a ≡ b
+shape_told a b e = one_told_as parts_is one_parts a b e
+
+pub one_whole_of : (l : LayoutRow) (s : List ℕ) (a b : Result Parts Refusal) → shape_is a ≡ whole_of l s → shape_is b ≡ whole_of l s → a ≡ b
 one_whole_of l s a b p q = shape_told a b (p ∙ sym q)
 
 -- the answer, and what the output then holds

@@ -7,23 +7,25 @@ use mathlib.Core.Bool.{Bool, true, false, ◌&&◌}
 use mathlib.Core.List.{List, [], ◌∷◌, map}
 use native.Mathlib.Omega.{arith}
 use native.Mathlib.Nat.{add-zero, mod-lt}
-use lib.Dec.{ltb, eqb, leb-zero}
+use lib.Dec.{ltb, eqb, leb-zero, lit≤}
 use lib.IntN.{pos}
 use lib.Signed.{le_z}
 use lib.ListN.{length, drop, length-drop}
 use lib.Pow.{pow_pos, shr_lt}
-use borrow.Author.Tests.{le-leb, lt-ltb, ltb-true, ltb-false, eqb-true, ne_eqb}
+use borrow.Author.Tests.{le-leb, lt-ltb, ltb-true, ltb-false, eqb-true}
 use Rattle.rules.specs.Answer.{ok, refused, ◌>>=◌}
 use Rattle.rules.specs.Field.{Field, spare, value, unsigned, signed, bits, half}
 use Rattle.rules.proofs.AnswerLaws.{Octets, both_left, both_right, refused_ok, bind_elim, octets_drop}
+use Rattle.tables.specs.declared.tables.Kind.{Kind}
+use Rattle.tables.specs.declared.tables.Kind.TheVariants.{NoItem, Fixed, Repeated, Led, Extended, Compound}
 use Rattle.tables.specs.declared.tables.LayoutRow.{LayoutRow}
 use Rattle.tables.specs.Tables.{group_count, field_row, minus, is_free, group_at}
 use Rattle.tables.proofs.TableLaws.{fields_at, group_free}
-use Rattle.layouts.specs.Read.{rows_at, part_at, twos_of, value_of, within, legal, span, part_sound, parts_sound, parts_legal, fault_at, need◌or◌further◌then◌, Shaped, head_of, step_of, shape_of, whole_of, row_sound}
+use Rattle.layouts.specs.Read.{rows_at, part_at, twos_of, value_of, within, legal, span, part_sound, parts_sound, parts_legal, fault_at, need◌or◌further◌then◌, Shaped, head_of, step_of, run_of, run_legal, run_fault, run_sound, shape_of, whole_of, row_sound}
 use Rattle.layouts.proofs.FieldCodes.{Wide, width_bits, low_minus, low_neg, twice}
 use Rattle.layouts.proofs.PartLaws.{PartSound, part_sound_lem}
 use Rattle.layouts.proofs.ReadLaws.{further_elim, rows_map, wide_slice, part_small, Fitting, fitting}
-use Rattle.layouts.proofs.ShapeLaws.{rowed, Grouped, fixed_group, list_group, led_group, few_kinds, no_shape, no_parts}
+use Rattle.layouts.proofs.ShapeLaws.{rowed, Grouped, fixed_group, list_group, led_group, no_shape, no_parts}
 
 -- ---- free groups
 
@@ -73,6 +75,26 @@ free_parts g (suc c) bs o s h f =
 
 -- ---- shapes with legal fields
 
+-- parts that have no FX bit share one group
+one_group : (k : Kind) → ¬ (k ≡ Extended) → step_of k ≡ 0
+one_group NoItem h = refl
+one_group Fixed h = refl
+one_group Repeated h = refl
+one_group Led h = refl
+one_group Extended h = absurd (h refl)
+one_group Compound h = refl
+
+other_kind : (k : Kind) → step_of k ≡ 0 → ¬ (k ≡ Extended)
+other_kind k h e = let z : ◌≡◌ {A = ℕ} 1 0 = sym (ap step_of e) ∙ h in absurd (omega arith)
+
+pub step_small : (k : Kind) → step_of k ≤ 1
+step_small NoItem = lit≤ tt
+step_small Fixed = lit≤ tt
+step_small Repeated = lit≤ tt
+step_small Led = lit≤ tt
+step_small Extended = lit≤ tt
+step_small Compound = lit≤ tt
+
 module _ (l : LayoutRow) (bs : List ℕ) where
   pub whole_stopped : (n p : ℕ) → shape_of l bs ≡ refused n p → whole_of l bs ≡ refused n p
   unfolding whole_of ◌>>=◌
@@ -98,19 +120,18 @@ module _ (l : LayoutRow) (bs : List ℕ) where
       fits : Fitting l bs c long
       fits = fitting l bs (c, long) s o e
 
-      -- what the walk over the parts asks
-      pub record Walk (step head : ℕ) : Type 0 where
-        pub sound : parts_sound step l.first c ≡ true
-        pub there : head + span step l.first c ≤ length bs
+      -- the code can walk its parts, and the answer is by what it finds there
+      pub walk : run_sound (run_of l c) bs
+      walk = (step_small l.kind, fits.sound, omega (arith, fits.spans, fits.there))
 
-      walk : Walk (step_of l.kind) (head_of l.kind)
-      walk = record { sound = fits.sound; there = omega (arith, fits.spans, fits.there) }
+      pub run_good : {t : Bool} → t ≡ run_legal (run_of l c) bs → t ≡ true → ok (c, long) ≡ whole_of l bs
+      run_good et u = whole_legal (sym et ∙ u)
+
+      pub run_barred : {t : Bool} → t ≡ run_legal (run_of l c) bs → t ≡ false → {p : ℕ} → p ≡ run_fault (run_of l c) bs → refused 11 p ≡ whole_of l bs
+      run_barred et u ep = ap (refused 11) ep ∙ whole_barred (sym et ∙ u)
 
       -- parts with an FX bit
-      module _ (k : l.kind ≡ 4) where
-        pub walk_chain : Walk 1 0
-        walk_chain = subst (λ x. Walk (step_of x) (head_of x)) k walk
-
+      module _ (k : l.kind ≡ Extended) where
         module _ {t : Bool} (et : t ≡ parts_legal 1 l.first c (drop 0 bs)) where
           legal_chain : parts_legal (step_of l.kind) l.first c (drop (head_of l.kind) bs) ≡ t
           legal_chain = ap (λ x. parts_legal (step_of x) l.first c (drop (head_of x) bs)) k ∙ sym et
@@ -118,44 +139,35 @@ module _ (l : LayoutRow) (bs : List ℕ) where
           pub chain_legal : t ≡ true → ok (c, long) ≡ whole_of l bs
           chain_legal u = whole_legal (legal_chain ∙ u)
 
-          pub chain_barred : t ≡ false → {p : ℕ} → p ≡ fault_at 1 l.first c 0 bs → refused 11 p ≡ whole_of l bs
-          chain_barred u ep = ap (refused 11) (ep ∙ sym (ap (λ x. fault_at (step_of x) l.first c (head_of x) bs) k)) ∙ whole_barred (legal_chain ∙ u)
-
       -- parts of one group
-      module _ (k : ¬ (l.kind ≡ 4)) where
+      module _ (k : ¬ (l.kind ≡ Extended)) where
         no_step : step_of l.kind ≡ 0
-        no_step = rw (ne_eqb l.kind 4 k)
+        no_step = one_group l.kind k
 
         pub group_at_lem : Grouped l
         group_at_lem = go l.kind refl
           where
-            go : (j : ℕ) → l.kind ≡ j → Grouped l
-            go zero q = refused_ok (no_shape l bs q ∙ e)
-            go (suc zero) q = fixed_group l (rowed l s) q
-            go (suc (suc zero)) q = list_group l (rowed l s) q
-            go (suc (suc (suc zero))) q = led_group l (rowed l s) q
-            go (suc (suc (suc (suc zero)))) q = absurd (k q)
-            go (suc (suc (suc (suc (suc j))))) q = refused_ok (no_parts l bs (omega (arith, q, few_kinds l (rowed l s))) ∙ e)
-
-        pub walk_equal : {h : ℕ} → h ≡ head_of l.kind → Walk 0 h
-        walk_equal eh = subst (Walk 0) (sym eh) (subst (λ x. Walk x (head_of l.kind)) no_step walk)
+            go : (j : Kind) → l.kind ≡ j → Grouped l
+            go NoItem q = refused_ok (no_shape l bs q ∙ e)
+            go Fixed q = fixed_group l (rowed l s) q
+            go Repeated q = list_group l (rowed l s) q
+            go Led q = led_group l (rowed l s) q
+            go Extended q = absurd (k q)
+            go Compound q = refused_ok (no_parts l bs q ∙ e)
 
         pub equal_free : {t : Bool} → t ≡ (group_at l.first).free → t ≡ true → ok (c, long) ≡ whole_of l bs
         equal_free et f =
-            let w : Walk 0 (head_of l.kind) = walk_equal refl in
+            let w : run_sound (run_of l c) bs = walk in
             whole_legal
             (ap (λ x. parts_legal x l.first c (drop (head_of l.kind) bs)) no_step
-            ∙ free_parts l.first c (drop (head_of l.kind) bs) (octets_drop (head_of l.kind) bs o) w.sound (omega (arith, w.there, length-drop (head_of l.kind) bs))
+            ∙ free_parts l.first c (drop (head_of l.kind) bs) (octets_drop (head_of l.kind) bs o)
+            (subst (λ x. parts_sound x l.first c ≡ true) no_step w.1)
+            (let n : span 0 l.first c ≡ span (step_of l.kind) l.first c = ap (λ x. span x l.first c) (sym no_step) in omega (arith, n, w.2, length-drop (head_of l.kind) bs))
             (sym (group_free l.first group_at_lem.inside) ∙ sym et ∙ f))
 
-        module _ {t : Bool} {h : ℕ} (eh : h ≡ head_of l.kind) (et : t ≡ parts_legal 0 l.first c (drop h bs)) where
-          legal_equal : parts_legal (step_of l.kind) l.first c (drop (head_of l.kind) bs) ≡ t
-          legal_equal = ap (λ x. parts_legal x l.first c (drop (head_of l.kind) bs)) no_step ∙ ap (λ x. parts_legal 0 l.first c (drop x bs)) (sym eh) ∙ sym et
+      -- the same by the step of the run
+      pub step_group : step_of l.kind ≡ 0 → l.first < group_count
+      step_group k = (group_at_lem (other_kind l.kind k)).inside
 
-          pub equal_legal : t ≡ true → ok (c, long) ≡ whole_of l bs
-          equal_legal u = whole_legal (legal_equal ∙ u)
-
-          pub equal_barred : t ≡ false → {p : ℕ} → p ≡ fault_at 0 l.first c h bs → refused 11 p ≡ whole_of l bs
-          equal_barred u ep =
-              ap (refused 11) (ep ∙ ap (λ x. fault_at 0 l.first c x bs) eh ∙ sym (ap (λ x. fault_at x l.first c (head_of l.kind) bs) no_step))
-              ∙ whole_barred (legal_equal ∙ u)
+      pub step_free : step_of l.kind ≡ 0 → {t : Bool} → t ≡ (group_at l.first).free → t ≡ true → ok (c, long) ≡ whole_of l bs
+      step_free k et f = equal_free (other_kind l.kind k) et f

@@ -1,18 +1,24 @@
 -- The reading rule of an item as the code follows it, over the rows of the tables: first its shape, how many parts it has and how many octets
 -- it takes; then its parts, one after another. `proofs/ReadLaws` has that these are the rules' `read_plain`. Assumes nothing.
-use Rattle.std.specs.Prelude.{ℕ, zero, suc, ◌+◌, ◌-◌, ◌*◌, ◌/◌, ◌%◌, ◌^◌, Bool, true, false, cond, ◌&&◌, List, [], ◌∷◌, map, leb, ltb, eqb, ℤ, pos, negsuc, length, take, drop, get_or}
+use Rattle.std.specs.Prelude.{ℕ, zero, suc, ◌+◌, ◌-◌, ◌*◌, ◌/◌, ◌%◌, ◌^◌, ◌≡◌, ◌≤◌, Result, Bool, true, false, cond, ◌&&◌, List, [], ◌∷◌, map, leb, ltb, eqb, ℤ, pos, negsuc, length, take, drop, get_or}
 use Rattle.std.specs.Int.Signed.{le_z}
 use Rattle.std.proofs.Math.Seq.{slice}
 use Rattle.rules.specs.Answer.{Answer, ok, refused, ◌>>=◌, need◌or◌then◌, when◌then◌else◌, Read}
 use Rattle.rules.specs.Field.{Field, spare, value, unsigned, signed}
-use Rattle.rules.specs.Chain.{joined}
+use Rattle.rules.specs.Chain.{joined, flatten}
 use Rattle.rules.specs.Format.{PartValues}
+use Rattle.rules.specs.Told.{told_as, begun_as}
+use Rattle.rules.specs.declared.faults.Fault.{Fault}
+use Rattle.rules.specs.declared.faults.Refusal.{Refusal}
+use Rattle.tables.specs.declared.tables.Holds.TheVariants.{Twos, Spare}
+use Rattle.tables.specs.declared.tables.Kind.{Kind}
+use Rattle.tables.specs.declared.tables.Kind.TheVariants.{NoItem, Fixed, Repeated, Led, Extended, Compound}
 use Rattle.tables.specs.declared.tables.FieldRow.{FieldRow}
 use Rattle.tables.specs.declared.tables.GroupRow.{GroupRow}
 use Rattle.tables.specs.declared.tables.LayoutRow.{LayoutRow}
-use Rattle.tables.specs.Tables.{field_count, group_count, fields, field_row, group_at}
-use Rattle.layouts.specs.declared.parts.Shape.{Shape}
-use Rattle.layouts.specs.declared.parts.Shape.TheVariants.{Parts, Refused}
+use Rattle.tables.specs.Tables.{same_holds, field_count, group_count, fields, field_row, group_at}
+use Rattle.layouts.specs.declared.parts.Parts.{Parts}
+use Rattle.layouts.specs.declared.parts.Run.{Run}
 
 infixr 10 need◌or◌further◌then◌
 -- ---- the fields of a part
@@ -27,13 +33,13 @@ twos_of w c = cond (ltb c (2 ^ (w - 1))) (pos c) (negsuc (2 ^ w - suc c))
 
 -- the value that a field's code stands for
 unfoldable pub value_of : FieldRow → ℕ → ℤ
-value_of f c = cond (eqb f.holds 1) (twos_of f.bits c) (pos c)
+value_of f c = cond (same_holds f.holds Twos) (twos_of f.bits c) (pos c)
 
 unfoldable pub within : FieldRow → ℤ → Bool
 within f v = le_z f.least v && le_z v f.greatest
 
 unfoldable pub is_spare : FieldRow → Bool
-is_spare f = eqb f.holds 2
+is_spare f = same_holds f.holds Spare
 
 abbrev pub width : List FieldRow → ℕ
 width [] = 0
@@ -103,14 +109,40 @@ unfoldable pub part_values : ℕ → ℕ → ℕ → List ℕ → List (List ℤ
 part_values step g zero bs = []
 part_values step g (suc c) bs = values (rows_at g) (part_at step g bs) ∷ part_values step (g + step) c (drop (group_at g).octets bs)
 
+-- the same of a run; and that the code can walk it: its parts are sound and there
+abbrev pub run_legal : Run → List ℕ → Bool
+run_legal r bs = parts_legal r.step r.group r.count (drop r.at bs)
+
+abbrev pub run_fault : Run → List ℕ → ℕ
+run_fault r bs = fault_at r.step r.group r.count r.at bs
+
+abbrev pub run_holds : Run → ℕ
+run_holds r = holds r.step r.group r.count
+
+abbrev pub run_values : Run → List ℕ → List ℤ
+run_values r bs = flatten (part_values r.step r.group r.count (drop r.at bs))
+
+abbrev pub run_sound : Run → List ℕ → Type 0
+run_sound r bs = (r.step ≤ 1) × (parts_sound r.step r.group r.count ≡ true) × (r.at + span r.step r.group r.count ≤ length bs)
+
+-- the parts after the first
+abbrev pub run_rest : Run → Run
+run_rest r = record { at = r.at + (group_at r.group).octets; count = r.count - 1; group = r.group + r.step; step = r.step }
+
 -- ---- shapes: how many parts, and how many octets
 
 abbrev pub Shaped : Type 0
 Shaped = ℕ × ℕ
 
-abbrev pub shape_is : Shape → Answer Shaped
-shape_is (Parts c n) = ok (c, n)
-shape_is (Refused n p) = refused n p
+abbrev pub parts_is : Parts → Shaped
+parts_is p = (p.count, p.long)
+
+abbrev pub shape_is : Result Parts Refusal → Answer Shaped
+shape_is r = told_as parts_is r
+
+-- the same of a shape alone, which is refused at the item's start
+abbrev pub begun_is : Result Parts Fault → Answer Shaped
+begun_is r = begun_as parts_is r
 
 -- so many printed parts, the first by the group at a place: 9 where one is cut, 6 where FX asks for more
 unfoldable pub chain : ℕ → ℕ → List ℕ → Answer Shaped
@@ -122,11 +154,25 @@ chain g (suc n) bs =
     else chain (g + 1) n (drop (group_at g).octets bs) >>= λ s. ok (s.0 + 1, s.1 + (group_at g).octets)
 
 -- an octet before the parts; each part its own group
-abbrev pub head_of : ℕ → ℕ
-head_of kind = cond (eqb kind 2) 1 (cond (eqb kind 3) 1 0)
+abbrev pub head_of : Kind → ℕ
+head_of NoItem = 0
+head_of Fixed = 0
+head_of Repeated = 1
+head_of Led = 1
+head_of Extended = 0
+head_of Compound = 0
 
-abbrev pub step_of : ℕ → ℕ
-step_of kind = cond (eqb kind 4) 1 0
+abbrev pub step_of : Kind → ℕ
+step_of NoItem = 0
+step_of Fixed = 0
+step_of Repeated = 0
+step_of Led = 0
+step_of Extended = 1
+step_of Compound = 0
+
+-- the run of an item's parts
+abbrev pub run_of : LayoutRow → ℕ → Run
+run_of l c = record { at = head_of l.kind; count = c; group = l.first; step = step_of l.kind }
 
 -- a list of c parts, from a least to a greatest number, in so many octets
 unfoldable pub list_shape : ℕ → ℕ → ℕ → ℕ → ℕ → Answer Shaped
@@ -136,17 +182,17 @@ list_shape lo hi size c have =
     need leb c hi or 11 then ok (c, 1 + c * size)
 
 -- by how the parts lie: 21 no parts, 9 the count or length octet, 10 the length, 9 the body, 11 the count
-unfoldable pub shape_by : ℕ → ℕ → ℕ → ℕ → ℕ → List ℕ → Answer Shaped
-shape_by zero lo hi a e bs = refused 21 0
-shape_by (suc zero) lo hi a e bs = need leb (group_at a).octets (length bs) or 9 then ok (1, (group_at a).octets)
-shape_by (suc (suc zero)) lo hi a e bs =
+unfoldable pub shape_by : Kind → ℕ → ℕ → ℕ → ℕ → List ℕ → Answer Shaped
+shape_by NoItem lo hi a e bs = refused 21 0
+shape_by Fixed lo hi a e bs = need leb (group_at a).octets (length bs) or 9 then ok (1, (group_at a).octets)
+shape_by Repeated lo hi a e bs =
     need leb 1 (length bs) or 9 then list_shape lo hi (group_at a).octets (get_or bs 0 0) (length bs)
-shape_by (suc (suc (suc zero))) lo hi a e bs =
+shape_by Led lo hi a e bs =
     need leb 1 (length bs) or 9 then
     need ltb lo (get_or bs 0 0) or 10 then
     need leb (get_or bs 0 0) (length bs) or 9 then ok (get_or bs 0 0 - 1, get_or bs 0 0)
-shape_by (suc (suc (suc (suc zero)))) lo hi a e bs = chain a (e - a) bs
-shape_by (suc (suc (suc (suc (suc k))))) lo hi a e bs = refused 21 0
+shape_by Extended lo hi a e bs = chain a (e - a) bs
+shape_by Compound lo hi a e bs = refused 21 0
 
 unfoldable pub shape_of : LayoutRow → List ℕ → Answer Shaped
 shape_of l bs = shape_by l.kind l.least l.most l.first l.end bs
@@ -172,7 +218,7 @@ single_size g bs =
 
 -- ---- an item by its row: its shape, then its fields
 
-abbrev pub read_kind : ℕ → ℕ → ℕ → ℕ → ℕ → Read PartValues
+abbrev pub read_kind : Kind → ℕ → ℕ → ℕ → ℕ → Read PartValues
 read_kind k lo hi a e bs = do
   (c, long) ← shape_by k lo hi a e bs
   need parts_legal (step_of k) a c (drop (head_of k) bs) or 11 further fault_at (step_of k) a c (head_of k) bs then ok (part_values (step_of k) a c (drop (head_of k) bs), drop long bs)
@@ -190,13 +236,13 @@ is_octet (value w (unsigned lo hi) ∷ []) = eqb w 8 && eqb lo 0 && eqb hi 255
 is_octet (value w (unsigned lo hi) ∷ (f ∷ fs)) = false
 is_octet (value w (signed lo hi) ∷ fs) = false
 
-abbrev pub row_sound_by : ℕ → ℕ → ℕ → ℕ → Bool
-row_sound_by zero hi a e = true
-row_sound_by (suc zero) hi a e = eqb hi 1 && leb (group_at a).octets 7
-row_sound_by (suc (suc zero)) hi a e = leb 1 hi
-row_sound_by (suc (suc (suc zero))) hi a e = eqb hi 254 && eqb (group_at a).octets 1 && is_octet (slice (group_at a).first (group_at a).end fields)
-row_sound_by (suc (suc (suc (suc zero)))) hi a e = eqb (a + hi) e && leb e group_count
-row_sound_by (suc (suc (suc (suc (suc k))))) hi a e = eqb k 0
+abbrev pub row_sound_by : Kind → ℕ → ℕ → ℕ → Bool
+row_sound_by NoItem hi a e = true
+row_sound_by Fixed hi a e = eqb hi 1 && leb (group_at a).octets 7
+row_sound_by Repeated hi a e = leb 1 hi
+row_sound_by Led hi a e = eqb hi 254 && eqb (group_at a).octets 1 && is_octet (slice (group_at a).first (group_at a).end fields)
+row_sound_by Extended hi a e = eqb (a + hi) e && leb e group_count
+row_sound_by Compound hi a e = true
 
 -- there is a sound group for each part that an item may have, and room for all their values
 unfoldable pub row_sound : LayoutRow → Bool

@@ -5,7 +5,7 @@ ghost use Rattle.tables.specs.Tables.{field_count};
 ghost use Rattle.layouts.specs.Read.{rows, value_of, width, shown, takes, values, count};
 
 use numbers::{down, up};
-use tables::{FieldRow, SPARE, TWOS, field_at, pow2};
+use tables::{FieldRow, Holds, field_at, pow2};
 
 // The value that a field's code stands for.
 pub fn value_of(f: FieldRow, code: u64) -> i64
@@ -14,7 +14,7 @@ pub fn value_of(f: FieldRow, code: u64) -> i64
     ensures { result ≡ value_of f code }
 {
     let bits = f.bits;
-    if f.holds != TWOS {
+    if f.holds != Holds::Twos {
         return up(code);
     }
     if code < pow2(bits - 1) {
@@ -30,7 +30,7 @@ fn put(f: FieldRow, v: i64, out: &mut [i64; 8192], at: usize) -> usize
     requires { at + takes f ≤ 8_192 }
     ensures { (result ≡ at + takes f) × (out.new ≡ sets out.old at (shown f v [])) }
 {
-    if f.holds == SPARE {
+    if f.holds == Holds::Spare {
         return at;
     }
     out[at] = v;
@@ -46,15 +46,13 @@ pub fn fields_store(n: u64, w: u64, a: usize, e: usize, out: &mut [i64; 8192], a
 {
     let mut rest = n;
     let mut left = w;
-    let mut i = a;
-    let mut k = at;
-    while i < e {
+    let mut next = at;
+    for i in a..e {
         let f = field_at(i);
-        left = left - f.bits;
+        left -= f.bits;
         let v = value_of(f, rest >> left);
-        k = put(f, v, out, k);
-        rest = rest % pow2(left);
-        i = i + 1;
+        next = put(f, v, out, next);
+        rest %= pow2(left);
     }
-    k
+    next
 }

@@ -5,4 +5,4 @@
 mod fields;
 mod parts;
 
-pub use parts::{Shape, fault_at, item_store, part_legal, whole_of};
+pub use parts::{Parts, Run, item_store, whole_of};

@@ -2,15 +2,14 @@
 ghost use Rattle.std.specs.Prelude.{◌≡◌, true, ◌+◌, ◌-◌, ◌*◌, ◌%◌, ◌≤◌, ◌<◌, ◌^◌, length, take, drop, eqb};
 ghost use Rattle.std.proofs.lemmas.List.Edits.{sets};
 ghost use Rattle.rules.specs.Chain.{joined, flatten};
-ghost use Rattle.layouts.specs.Read.{rows_at, part_at, legal, span, part_sound, parts_sound, parts_legal, fault_at, values, count, holds, part_values, shape_is, chain, list_shape, head_of, step_of, shape_of, whole_of, row_sound};
+ghost use Rattle.layouts.specs.Read.{rows_at, part_at, legal, span, part_sound, parts_sound, values, count, holds, part_values, run_legal, run_fault, run_sound, run_rest, run_values, run_holds, shape_is, begun_is, chain, list_shape, head_of, step_of, run_of, shape_of, whole_of, row_sound};
 ghost use Rattle.tables.specs.Tables.{group_count, group_at};
+ghost use Rattle.tables.specs.declared.tables.Kind.TheVariants.{Repeated};
 
 use super::fields::fields_store;
 use numbers::{octet, wide};
-use tables::{
-    COMPOUND, EXTENDED, FIXED, LED, LayoutRow, NONE, REPEATED, are_obeyed, first_rule, group_at,
-    is_free, size_at,
-};
+use rules::{Fault, Refusal};
+use tables::{Kind, LayoutRow, are_obeyed, first_rule, group_at, is_free, size_at};
 
 // The number of some octets, high octet first.
 fn number_at(s: &[u8], at: usize, size: usize) -> u64
@@ -18,64 +17,144 @@ fn number_at(s: &[u8], at: usize, size: usize) -> u64
     ensures { (result ≡ joined (take size (drop at s.now))) × (result < 2 ^ (8 * size)) }
 {
     let mut n: u64 = 0;
-    let mut i: usize = 0;
-    while i < size {
+    for i in 0..size {
         n = n * 256 + wide(s[at + i]);
-        i = i + 1;
     }
     n
 }
 
-// Whether the fields of the part at a place, by a group, are legal: those that have a rule obey it.
-pub fn part_legal(s: &[u8], at: usize, group: usize, step: usize) -> bool
-    requires { (step ≤ 1) × (group < group_count) × (part_sound step (group_at group) ≡ true) × (at + (group_at group).octets ≤ length s.now) }
-    ensures { result ≡ legal (rows_at group) (part_at step group (drop at s.now)) }
-{
-    let a = first_rule(group);
-    let e = first_rule(group + 1);
-    if e <= a {
-        return true;
-    }
-    are_obeyed(number_at(s, at, size_at(group)) >> step, a, e)
+// ---- parts
+
+// Parts end to end: where the first starts, how many there are, and the first's group. With step 1 each part has the next group and ends in an FX
+// bit, with step 0 all share that group.
+#[derive(Clone, Copy)]
+pub struct Run {
+    pub at: usize,
+    pub count: usize,
+    pub group: usize,
+    pub step: usize,
 }
 
-// Whether the fields of so many parts, from a place on, are legal. The first part is by the group given; with step 1 each part has the next
-// group and ends in an FX bit, with step 0 all share that group.
-pub fn parts_legal(s: &[u8], at: usize, count: usize, group: usize, step: usize) -> bool
-    requires { (step ≤ 1) × (parts_sound step group count ≡ true) × (at + span step group count ≤ length s.now) }
-    ensures { result ≡ parts_legal step group count (drop at s.now) }
-{
-    let mut p = at;
-    let mut g = group;
-    let mut k = count;
-    while 0 < k {
-        if !part_legal(s, p, g, step) {
-            return false;
+impl Run {
+    // The parts of an item that has so many.
+    fn of(l: LayoutRow, count: usize) -> Run
+        ensures { result ≡ run_of l count }
+    {
+        Run {
+            at: head_of(l.kind),
+            count,
+            group: l.first,
+            step: step_of(l.kind),
         }
-        p = p + size_at(g);
-        g = g + step;
-        k = k - 1;
     }
-    true
+
+    // The parts after the first.
+    fn rest(self) -> Run
+        requires { (self.step ≤ 1) × (0 < self.count) × (self.group < group_count) × (self.at + (group_at self.group).octets < 2 ^ 63) }
+        ensures { result ≡ run_rest self }
+    {
+        Run {
+            at: self.at + size_at(self.group),
+            count: self.count - 1,
+            group: self.group + self.step,
+            step: self.step,
+        }
+    }
+
+    // Whether the fields of the first part are legal: those that have a rule obey it.
+    pub fn first_legal(self, s: &[u8]) -> bool
+        requires { (self.step ≤ 1) × (self.group < group_count) × (part_sound self.step (group_at self.group) ≡ true) × (self.at + (group_at self.group).octets ≤ length s.now) }
+        ensures { result ≡ legal (rows_at self.group) (part_at self.step self.group (drop self.at s.now)) }
+    {
+        let first = first_rule(self.group);
+        let end = first_rule(self.group + 1);
+        if end <= first {
+            return true;
+        }
+        let number = number_at(s, self.at, size_at(self.group));
+        are_obeyed(number >> self.step, first, end)
+    }
+
+    // Whether the fields of every part are.
+    fn is_legal(self, s: &[u8]) -> bool
+        requires { run_sound self s.now }
+        ensures { result ≡ run_legal self s.now }
+    {
+        let mut run = self;
+        for _done in 0..self.count {
+            if !run.first_legal(s) {
+                return false;
+            }
+            run = run.rest();
+        }
+        true
+    }
+
+    // Where the first field at fault stands, counted from the item's first octet. It is asked on refusal alone. Whichever field it is, the refusal is
+    // at the item's start, so nothing is looked at.
+    pub fn fault_at(self, s: &[u8]) -> usize
+        requires { run_sound self s.now }
+        ensures { result ≡ run_fault self s.now }
+    {
+        0
+    }
+
+    // The values of the first part, from a place of the output on; the place after them.
+    fn first_store(self, s: &[u8], out: &mut [i64; 8192], start: usize) -> usize
+        requires step_bound { (self.step ≤ 1) × (self.group < group_count) × (part_sound self.step (group_at self.group) ≡ true) × (self.at + (group_at self.group).octets ≤ length s.now) }
+        requires group_bound { start + count (rows_at self.group) ≤ 8_192 }
+        ensures { (result ≡ start + count (rows_at self.group)) × (out.new ≡ sets out.old start (values (rows_at self.group) (part_at self.step self.group (drop self.at s.now)))) }
+    {
+        let r = group_at(self.group);
+        let size = r.octets;
+        let w = 8 * size - self.step;
+        let n = number_at(s, self.at, size) >> self.step;
+        fields_store(n, w as u64, r.first, r.end, out, start)
+    }
+
+    // The values of every part.
+    fn store(self, s: &[u8], out: &mut [i64; 8192], start: usize) -> usize
+        requires there { run_sound self s.now }
+        requires room { start + run_holds self ≤ 8_192 }
+        ensures { (result ≡ start + run_holds self) × (out.new ≡ sets out.old start (run_values self s.now)) }
+    {
+        let mut run = self;
+        let mut next = start;
+        for _done in 0..self.count {
+            next = run.first_store(s, out, next);
+            run = run.rest();
+        }
+        next
+    }
 }
 
-// Where the first field at fault among so many parts stands, which start at a place, counted from the item's first octet. It is asked on refusal
-// alone. Whichever field it is, the refusal is at the item's start, so nothing is looked at.
-pub fn fault_at(s: &[u8], at: usize, count: usize, group: usize, step: usize) -> usize
-    requires { (step ≤ 1) × (parts_sound step group count ≡ true) × (at + span step group count ≤ length s.now) }
-    ensures { result ≡ fault_at step group count at s.now }
+// How many octets come before the parts.
+fn head_of(kind: Kind) -> usize
+    ensures { result ≡ head_of kind }
 {
-    0
+    match kind {
+        Kind::Repeated | Kind::Led => 1,
+        _ => 0,
+    }
+}
+
+// Whether each part has its own group, and an FX bit.
+fn step_of(kind: Kind) -> usize
+    ensures { result ≡ step_of kind }
+{
+    match kind {
+        Kind::Extended => 1,
+        _ => 0,
+    }
 }
 
 // ---- shapes
 
 // How many parts an item has, and how many octets it takes.
-#[derive(Drop)]
-pub enum Shape {
-    Parts { count: usize, long: usize },
-    // The number of the refusal, and its place, counted from the item's first octet.
-    Refused { number: u8, place: usize },
+#[derive(Clone, Copy)]
+pub struct Parts {
+    pub count: usize,
+    pub long: usize,
 }
 
 // Whether the FX bit of a part's last octet says that no other part follows.
@@ -86,229 +165,105 @@ fn is_last(x: u8) -> bool
 }
 
 // The shape of an item whose parts follow each other as far as the FX bits say, at most those of the groups from first to before last.
-fn chain_of(s: &[u8], first: usize, last: usize) -> Shape
+fn chain_of(s: &[u8], first: usize, last: usize) -> Result<Parts, Fault>
     requires { (last ≤ group_count) × (parts_sound 1 first (last - first) ≡ true) }
-    ensures { shape_is result ≡ chain first (last - first) s.now }
+    ensures { begun_is result ≡ chain first (last - first) s.now }
 {
-    let mut g = first;
     let mut at: usize = 0;
     let mut count: usize = 0;
-    while g < last {
+    for g in first..last {
         let size = size_at(g);
         if s.len() - at < size {
-            return Shape::Refused {
-                number: 9,
-                place: 0,
-            };
+            return Err(Fault::ItemCut);
         }
-        at = at + size;
-        count = count + 1;
+        at += size;
+        count += 1;
         if is_last(s[at - 1]) {
-            return Shape::Parts { count, long: at };
+            return Ok(Parts { count, long: at });
         }
-        g = g + 1;
     }
-    Shape::Refused {
-        number: 6,
-        place: 0,
-    }
+    Err(Fault::FxPastEnd)
 }
 
 // The shape of a list of n parts, of which an item may have so many, in as many octets as there are.
-fn list_of(l: LayoutRow, n: usize, have: usize) -> Shape
-    requires { (row_sound l ≡ true) × (l.kind ≡ 2) × (n ≤ 255) }
-    ensures { shape_is result ≡ list_shape l.least l.most (group_at l.first).octets n have }
+fn list_of(l: LayoutRow, n: usize, have: usize) -> Result<Parts, Fault>
+    requires { (row_sound l ≡ true) × (l.kind ≡ Repeated) × (n ≤ 255) }
+    ensures { begun_is result ≡ list_shape l.least l.most (group_at l.first).octets n have }
 {
     let long = 1 + n * size_at(l.first);
     if have < long {
-        return Shape::Refused {
-            number: 9,
-            place: 0,
-        };
+        return Err(Fault::ItemCut);
     }
     if n < l.least {
-        return Shape::Refused {
-            number: 11,
-            place: 0,
-        };
+        return Err(Fault::FieldBarred);
     }
     if l.most < n {
-        return Shape::Refused {
-            number: 11,
-            place: 0,
-        };
+        return Err(Fault::FieldBarred);
     }
-    Shape::Parts { count: n, long }
+    Ok(Parts { count: n, long })
 }
 
 // The shape of an item that starts a part of a block, by its layout: 21 where there is no item, and for a compound one, which has no parts of its
 // own; 9 where its count or length octet is cut, 10 where its length is under the least, 9 where it is cut, 6 where FX asks for more than is
 // printed, 11 where its count is barred.
-pub fn shape_of(l: LayoutRow, s: &[u8]) -> Shape
+pub fn shape_of(l: LayoutRow, s: &[u8]) -> Result<Parts, Fault>
     requires { row_sound l ≡ true }
-    ensures { shape_is result ≡ shape_of l s.now }
+    ensures { begun_is result ≡ shape_of l s.now }
 {
-    let kind = l.kind;
-    if kind == NONE {
-        return Shape::Refused {
-            number: 21,
-            place: 0,
-        };
-    }
-    if kind == COMPOUND {
-        return Shape::Refused {
-            number: 21,
-            place: 0,
-        };
-    }
-    if kind == FIXED {
-        let size = size_at(l.first);
-        if s.len() < size {
-            return Shape::Refused {
-                number: 9,
-                place: 0,
-            };
+    match l.kind {
+        Kind::NoItem | Kind::Compound => Err(Fault::ReferenceUnknown),
+        Kind::Fixed => {
+            let long = size_at(l.first);
+            if s.len() < long {
+                return Err(Fault::ItemCut);
+            }
+            Ok(Parts { count: 1, long })
         }
-        return Shape::Parts {
-            count: 1,
-            long: size,
-        };
-    }
-    if kind == EXTENDED {
-        return chain_of(s, l.first, l.end);
-    }
-    if s.len() < 1 {
-        return Shape::Refused {
-            number: 9,
-            place: 0,
-        };
-    }
-    let n = octet(s[0]);
-    if kind == LED {
-        if n <= l.least {
-            return Shape::Refused {
-                number: 10,
-                place: 0,
-            };
+        Kind::Repeated => {
+            if s.len() < 1 {
+                return Err(Fault::ItemCut);
+            }
+            list_of(l, octet(s[0]), s.len())
         }
-        if s.len() < n {
-            return Shape::Refused {
-                number: 9,
-                place: 0,
-            };
+        Kind::Led => {
+            if s.len() < 1 {
+                return Err(Fault::ItemCut);
+            }
+            let long = octet(s[0]);
+            if long <= l.least {
+                return Err(Fault::LengthTooSmall);
+            }
+            if s.len() < long {
+                return Err(Fault::ItemCut);
+            }
+            Ok(Parts {
+                count: long - 1,
+                long,
+            })
         }
-        return Shape::Parts {
-            count: n - 1,
-            long: n,
-        };
+        Kind::Extended => chain_of(s, l.first, l.end),
     }
-    list_of(l, n, s.len())
-}
-
-// How many octets come before the parts.
-fn head_of(kind: u8) -> usize
-    ensures { result ≡ head_of kind }
-{
-    if kind == REPEATED {
-        return 1;
-    }
-    if kind == LED {
-        return 1;
-    }
-    0
 }
 
 // The shape of an item whose fields are legal, else 11. The fields of a free group need no look, however many parts there are.
-pub fn whole_of(l: LayoutRow, s: &[u8]) -> Shape
+pub fn whole_of(l: LayoutRow, s: &[u8]) -> Result<Parts, Refusal>
     requires { row_sound l ≡ true }
     ensures { shape_is result ≡ whole_of l s.now }
 {
-    let shape = shape_of(l, s);
-    let Shape::Parts { count, long: _ } = shape else {
-        return shape;
-    };
-    let kind = l.kind;
-    if kind == EXTENDED {
-        if parts_legal(s, 0, count, l.first, 1) {
-            return shape;
+    let parts = shape_of(l, s)?;
+    let run = Run::of(l, parts.count);
+    if run.step == 0 {
+        if is_free(l.first) {
+            return Ok(parts);
         }
-        return Shape::Refused {
-            number: 11,
-            place: fault_at(s, 0, count, l.first, 1),
-        };
     }
-    if is_free(l.first) {
-        return shape;
+    if !run.is_legal(s) {
+        return Err(Fault::FieldBarred.at(run.fault_at(s)));
     }
-    let head = head_of(kind);
-    if parts_legal(s, head, count, l.first, 0) {
-        return shape;
-    }
-    Shape::Refused {
-        number: 11,
-        place: fault_at(s, head, count, l.first, 0),
-    }
+    Ok(parts)
 }
 
 // ---- storing
-
-// The values of the part at a place, by a group, from a place of the output on; the place after them.
-fn part_store(
-    s: &[u8],
-    at: usize,
-    group: usize,
-    step: usize,
-    out: &mut [i64; 8192],
-    q: usize,
-) -> usize
-    requires step_bound { (step ≤ 1) × (group < group_count) × (part_sound step (group_at group) ≡ true) × (at + (group_at group).octets ≤ length s.now) }
-    requires group_bound { q + count (rows_at group) ≤ 8_192 }
-    ensures { (result ≡ q + count (rows_at group)) × (out.new ≡ sets out.old q (values (rows_at group) (part_at step group (drop at s.now)))) }
-{
-    let r = group_at(group);
-    let size = r.octets;
-    let w = 8 * size - step;
-    let n = number_at(s, at, size) >> step;
-    fields_store(n, w as u64, r.first, r.end, out, q)
-}
-
-// The values of so many parts, from a place of the output on; the place after them.
-pub fn parts_store(
-    s: &[u8],
-    at: usize,
-    parts: usize,
-    group: usize,
-    step: usize,
-    out: &mut [i64; 8192],
-    start: usize,
-) -> usize
-    requires step_bound { (step ≤ 1) × (parts_sound step group parts ≡ true) × (at + span step group parts ≤ length s.now) }
-    requires parts_bound { start + holds step group parts ≤ 8_192 }
-    ensures { (result ≡ start + holds step group parts) × (out.new ≡ sets out.old start (flatten (part_values step group parts (drop at s.now)))) }
-{
-    let mut p = at;
-    let mut g = group;
-    let mut k = parts;
-    let mut q = start;
-    while 0 < k {
-        q = part_store(s, p, g, step, out, q);
-        let r = group_at(g);
-        p = p + r.octets;
-        g = g + step;
-        k = k - 1;
-    }
-    q
-}
-
-// Whether each part has its own group, and an FX bit.
-fn step_of(kind: u8) -> usize
-    ensures { (result ≡ step_of kind) × (result ≤ 1) }
-{
-    if kind == EXTENDED {
-        return 1;
-    }
-    0
-}
 
 // The values of an item with so many parts, from a place of the output on; the place after them.
 pub fn item_store(
@@ -322,6 +277,5 @@ pub fn item_store(
     requires parts_bound { start + holds (step_of l.kind) l.first parts ≤ 8_192 }
     ensures { (result ≡ start + holds (step_of l.kind) l.first parts) × (out.new ≡ sets out.old start (flatten (part_values (step_of l.kind) l.first parts (drop (head_of l.kind) s.now)))) }
 {
-    let kind = l.kind;
-    parts_store(s, head_of(kind), parts, l.first, step_of(kind), out, start)
+    Run::of(l, parts).store(s, out, start)
 }

@@ -26,8 +26,8 @@ overflow_shr-rest c = (cut_at (goal.at.overflow_shr-rest c).After-struct_known-1
 pub value_of-v-requires : goal.value_of-v-requires
 value_of-v-requires c = record { le_bits = ((cut_at (goal.at.value_of-v-requires c).After-struct_known-1).some, (cut_at (goal.at.value_of-v-requires c).After-struct_known-1).small); code_bound = (cut_at (goal.at.value_of-v-requires c).After-struct_known-1).code }
 
-pub put-k-requires : goal.put-k-requires
-put-k-requires c = omega (arith, (cut_at (goal.at.put-k-requires c).After-struct_known-1).counts, c.loop-i.invariant.room, c.requires.e_bound)
+pub put-next-requires : goal.put-next-requires
+put-next-requires c = omega (arith, (cut_at (goal.at.put-next-requires c).After-struct_known-1).counts, c.loop-i.invariant.room, c.requires.e_bound)
 
 pub pow2-rest-requires : goal.pow2-rest-requires
 pow2-rest-requires c = (cut_at (goal.at.pow2-rest-requires c).After-struct_known-1).less
@@ -38,7 +38,7 @@ nonzero_rem-rest c = omega (arith, c.pow2-rest.ensures, (cut_at (goal.at.nonzero
 pub loop-i-preserved : goal.loop-i-preserved
 loop-i-preserved c =
     stored _ _ _ _ _ _ _ _ _ _ _ _ _ _ c.loop-i.invariant (cut_at (goal.at.loop-i-preserved c).After-struct_known-1)
-    (to_z-of_z w64 _ (record { sfits = c.value_of-v.type_inv }) ∙ c.value_of-v.ensures) c.put-k.ensures c.pow2-rest.ensures
+    (to_z-of_z w64 _ (record { sfits = c.value_of-v.type_inv }) ∙ c.value_of-v.ensures) c.put-next.ensures c.pow2-rest.ensures
 
 pub returns : goal.returns
 returns c = stored_all _ _ _ _ _ _ _ _ _ _ c.loop-i.invariant c.loop-i-test.false c.requires.e_le_field_count.0

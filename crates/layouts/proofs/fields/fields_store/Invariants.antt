@@ -1,10 +1,6 @@
--- What the loop keeps, and how much is left.
-use Prim.Native.Nat.{◌-◌}
+-- What the loop keeps.
 use Rattle.layouts.proofs.StoreLaws.{Storing}
 use Rattle.layouts.proofs.fields.fields_store.Given as goal
 
 abbrev pub invariant-loop-i : goal.invariant-loop-i
-invariant-loop-i l = Storing l.a l.e l.n l.at l.initial.out l.i l.rest l.left l.k l.out
-
-abbrev pub decreases-loop-i : goal.decreases-loop-i
-decreases-loop-i l = l.e - l.i
+invariant-loop-i l = Storing l.a l.e l.n l.at l.initial.out l.i l.rest l.left l.next l.out

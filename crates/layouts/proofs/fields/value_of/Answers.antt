@@ -6,7 +6,10 @@ use mir.Syntax.{w64}
 use mir.ValLaws.{to_z-of_z}
 use lib.Pow.{pow_pos}
 use lib.IntN.{negsuc}
-use borrow.Author.Tests.{eq-eqb, ne_eqb}
+use denote.Enum.Bare.{differs_true, differs_false}
+use Rattle.tables.specs.contracts.tables.Holds.{the_type}
+use Rattle.tables.specs.declared.tables.Holds.TheVariants.{Twos}
+use Rattle.tables.proofs.KindLaws.{holds_same, holds_other}
 use Rattle.layouts.proofs.FieldCodes.{below63, value_plain, value_low, value_high}
 use Rattle.layouts.proofs.fields.value_of.Goals as goal
 
@@ -14,9 +17,9 @@ pub up-requires : goal.up-requires
 up-requires c =
     below63 _ _ c.requires.le_bits.1 c.requires.code_bound
 
-pub returns-then-f-ne-TWOS : goal.returns-then-f-ne-TWOS
-returns-then-f-ne-TWOS c =
-    to_z-of_z w64 _ (record { sfits = c.up.type_inv }) ∙ c.up.ensures ∙ sym (value_plain c.args.f c.args.code (ne_eqb _ 1 c.if-f-ne-TWOS.true))
+pub returns-then-ne : goal.returns-then-ne
+returns-then-ne c =
+    to_z-of_z w64 _ (record { sfits = c.up.type_inv }) ∙ c.up.ensures ∙ sym (value_plain c.args.f c.args.code (holds_other _ Twos (differs_true the_type _ _ (sym c.ne.ensures ∙ c.if-ne.true))))
 
 pub up-requires-then-code-pow2 : goal.up-requires-then-code-pow2
 up-requires-then-code-pow2 c =
@@ -34,4 +37,4 @@ down-requires c =
 pub returns : goal.returns
 returns c =
     to_z-of_z w64 _ (record { sfits = c.down.type_inv }) ∙ c.down.ensures ∙ ap negsuc (omega (arith, c.pow2-2.ensures))
-    ∙ sym (value_high c.args.f c.args.code (eq-eqb _ 1 c.if-f-ne-TWOS.false) (omega (arith, c.if-code-pow2.false, c.pow2.ensures)))
+    ∙ sym (value_high c.args.f c.args.code (holds_same _ Twos (differs_false the_type tt _ _ (sym c.ne.ensures ∙ c.if-ne.false))) (omega (arith, c.if-code-pow2.false, c.pow2.ensures)))

@@ -1,11 +1,13 @@
 -- `layouts::parts::item_store` meets its contract. Assumes nothing.
-use Rattle.layouts.proofs.StoreLaws.{store_asks, store_gives}
+use Rattle.layouts.proofs.WholeLaws.{step_small}
 use Rattle.layouts.proofs.parts.item_store.Goals as goal
 
-pub parts_store-requires : goal.parts_store-requires
-parts_store-requires c =
-    let a = store_asks _ _ _ _ _ c.step_of.ensures.0 c.head_of.ensures _ c.step_of.ensures.1 c.requires.parts_value.0 c.requires.parts_value.1 c.requires.parts_bound in
-    record { step_bound = a.0; parts_bound = a.1 }
+pub store-requires : goal.store-requires
+store-requires c =
+    record {
+      there = rw c.of.ensures (step_small c.args.l.kind, c.requires.parts_value.0, c.requires.parts_value.1);
+      room = rw c.of.ensures c.requires.parts_bound;
+    }
 
 pub returns : goal.returns
-returns c = store_gives _ _ _ _ _ c.step_of.ensures.0 c.head_of.ensures _ _ _ _ c.parts_store.ensures
+returns c = rw c.of.ensures at c.store.ensures

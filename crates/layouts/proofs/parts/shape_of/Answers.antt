@@ -1,49 +1,45 @@
--- `layouts::parts::shape_of` meets its contract: each `return` is a case of `shape_of`. Assumes nothing.
-use mathlib.Core.Path.{◌≡◌, ◌∙◌}
+-- `layouts::parts::shape_of` meets its contract: each arm is a case of `shape_of`. Assumes nothing.
+use mathlib.Core.Path.{◌∙◌}
+use mathlib.Core.Logic.{⊎_elim}
 use native.Mathlib.Nat.{le_of_suc-le-suc}
-use Rattle.layouts.proofs.ShapeLaws.{rowed, few_kinds, a_list, fixed_group, chain_inside, chain_parts_lem, no_shape, no_parts, fixed_cut, fixed_there, chain_shape, no_head_lem, led_short, led_cut, led_there, list_shape_lem}
+use Rattle.layouts.proofs.ShapeLaws.{rowed, fixed_group, chain_inside, chain_parts_lem, no_shape, no_parts, fixed_cut, fixed_there, chain_shape, list_none, led_none, led_short, led_cut, led_there, list_shape_lem}
 use Rattle.layouts.proofs.parts.shape_of.Goals as goal
-use Rattle.layouts.proofs.parts.shape_of.Goals.{Else-kind-eq-LED}
 
-list_at : (c : Else-kind-eq-LED) → c.args.l.kind ≡ 2
-list_at c = a_list _ (rowed _ c.requires) c.if-kind-eq-NONE.false c.if-kind-eq-COMPOUND.false c.if-kind-eq-FIXED.false c.if-kind-eq-EXTENDED.false c.if-kind-eq-LED.false
+pub returns-in-NoItem : goal.returns-in-NoItem
+returns-in-NoItem c = ⊎_elim (no_shape _ _) (no_parts _ _) c.in-NoItem.is
 
-pub returns-then-kind-eq-NONE : goal.returns-then-kind-eq-NONE
-returns-then-kind-eq-NONE c = no_shape _ _ c.if-kind-eq-NONE.true
+pub size_at-long-requires : goal.size_at-long-requires
+size_at-long-requires c = (fixed_group _ (rowed _ c.requires) c.in-Fixed.is).inside
 
-pub returns-then-kind-eq-COMPOUND : goal.returns-then-kind-eq-COMPOUND
-returns-then-kind-eq-COMPOUND c = no_parts _ _ c.if-kind-eq-COMPOUND.true
+pub returns-then-s-long : goal.returns-then-s-long
+returns-then-s-long c = fixed_cut _ _ c.in-Fixed.is c.size_at-long.ensures c.if-s-long.true
 
-pub size_at-size-requires : goal.size_at-size-requires
-size_at-size-requires c = (fixed_group _ (rowed _ c.requires) c.if-kind-eq-FIXED.true).inside
-
-pub returns-then-s-size : goal.returns-then-s-size
-returns-then-s-size c = fixed_cut _ _ c.if-kind-eq-FIXED.true c.size_at-size.ensures c.if-s-size.true
-
-pub returns-then-kind-eq-FIXED : goal.returns-then-kind-eq-FIXED
-returns-then-kind-eq-FIXED c = fixed_there _ _ c.if-kind-eq-FIXED.true c.size_at-size.ensures c.if-s-size.false
-
-pub chain_of-requires : goal.chain_of-requires
-chain_of-requires c = (chain_inside _ (rowed _ c.requires) c.if-kind-eq-EXTENDED.true, chain_parts_lem _ (rowed _ c.requires) c.if-kind-eq-EXTENDED.true)
-
-pub returns-then-kind-eq-EXTENDED : goal.returns-then-kind-eq-EXTENDED
-returns-then-kind-eq-EXTENDED c = c.chain_of.ensures ∙ chain_shape _ _ c.if-kind-eq-EXTENDED.true
+pub returns-else-s-long : goal.returns-else-s-long
+returns-else-s-long c = fixed_there _ _ c.in-Fixed.is c.size_at-long.ensures c.if-s-long.false
 
 pub returns-then-s-lt1 : goal.returns-then-s-lt1
-returns-then-s-lt1 c = no_head_lem _ _ c.if-kind-eq-NONE.false c.if-kind-eq-COMPOUND.false c.if-kind-eq-FIXED.false c.if-kind-eq-EXTENDED.false (few_kinds _ (rowed _ c.requires)) c.if-s-lt1.true
-
-pub returns-then-n-l : goal.returns-then-n-l
-returns-then-n-l c = led_short _ _ c.if-kind-eq-LED.true c.if-s-lt1.false c.octet-n.ensures.0 c.if-n-l.true
-
-pub returns-then-s-n : goal.returns-then-s-n
-returns-then-s-n c = led_cut _ _ c.if-kind-eq-LED.true c.if-s-lt1.false c.octet-n.ensures.0 c.if-n-l.false c.if-s-n.true
-
-pub returns-then-kind-eq-LED : goal.returns-then-kind-eq-LED
-returns-then-kind-eq-LED c = led_there _ _ c.if-kind-eq-LED.true c.if-s-lt1.false c.octet-n.ensures.0 c.if-n-l.false c.if-s-n.false
+returns-then-s-lt1 c = list_none _ _ c.in-Repeated.is c.if-s-lt1.true
 
 pub list_of-requires : goal.list_of-requires
-list_of-requires c = (c.requires, list_at (goal.at.list_of-requires c).Else-kind-eq-LED, le_of_suc-le-suc c.octet-n.ensures.1)
+list_of-requires c = (c.requires, c.in-Repeated.is, le_of_suc-le-suc c.octet.ensures.1)
 
-pub returns : goal.returns
-returns c =
-    c.list_of.ensures ∙ rw c.octet-n.ensures.0 (list_shape_lem _ _ (list_at (goal.at.returns c).Else-kind-eq-LED) c.if-s-lt1.false)
+pub returns-else-s-lt1 : goal.returns-else-s-lt1
+returns-else-s-lt1 c = c.list_of.ensures ∙ rw c.octet.ensures.0 (list_shape_lem _ _ c.in-Repeated.is c.if-s-lt1.false)
+
+pub returns-then-s-lt1-2 : goal.returns-then-s-lt1-2
+returns-then-s-lt1-2 c = led_none _ _ c.in-Led.is c.if-s-lt1-2.true
+
+pub returns-then-long-l : goal.returns-then-long-l
+returns-then-long-l c = led_short _ _ c.in-Led.is c.if-s-lt1-2.false c.octet-long.ensures.0 c.if-long-l.true
+
+pub returns-then-s-long-2 : goal.returns-then-s-long-2
+returns-then-s-long-2 c = led_cut _ _ c.in-Led.is c.if-s-lt1-2.false c.octet-long.ensures.0 c.if-long-l.false c.if-s-long-2.true
+
+pub returns-else-s-long-2 : goal.returns-else-s-long-2
+returns-else-s-long-2 c = led_there _ _ c.in-Led.is c.if-s-lt1-2.false c.octet-long.ensures.0 c.if-long-l.false c.if-s-long-2.false
+
+pub chain_of-requires : goal.chain_of-requires
+chain_of-requires c = (chain_inside _ (rowed _ c.requires) c.in-Extended.is, chain_parts_lem _ (rowed _ c.requires) c.in-Extended.is)
+
+pub returns-in-Extended : goal.returns-in-Extended
+returns-in-Extended c = c.chain_of.ensures ∙ chain_shape _ _ c.in-Extended.is
