@@ -3,6 +3,7 @@
 -- In order: numbers that say absent; the count of a subfield; the fields of parts; those of a subfield; the loop over subfields; an item. Assumes nothing.
 use Prim.Native.Nat.{ℕ, zero, suc, ◌+◌, ◌-◌, ◌*◌, ◌%◌, ◌^◌, ◌≤◌, ◌<◌}
 use mathlib.Core.Path.{◌≡◌, refl, sym, ap, ap₂, ◌∙◌, subst}
+use mathlib.Core.Logic.{◌⊎◌, ⊎_elim}
 use mathlib.Core.Bool.{Bool, true, false, cond, ◌&&◌}
 use mathlib.Core.List.{List, [], ◌∷◌, ◌++◌}
 use native.Mathlib.Omega.{arith}
@@ -19,14 +20,17 @@ use Rattle.rules.specs.Presence.{flags}
 use Rattle.rules.specs.Layout.{at_start}
 use Rattle.rules.specs.FieldList.{absent_field}
 use Rattle.rules.proofs.AnswerLaws.{Octets, both_left, both_right, Passes, ok_inj, refused_ok, bind_in, bind_elim, bind_out, if_true, if_false, octets_drop, to_end}
+use Rattle.tables.specs.declared.tables.Kind.{Kind}
+use Rattle.tables.specs.declared.tables.Kind.TheVariants.{NoItem, Fixed, Repeated, Led, Extended, Compound}
 use Rattle.tables.specs.declared.tables.LayoutRow.{LayoutRow}
 use Rattle.tables.specs.Tables.{group_count, group_at, subfield_at, layout_at}
 use Rattle.layouts.proofs.PartLaws.{part_sound_lem}
+use Rattle.tables.proofs.KindLaws.{kind_same, kind_other}
 use Rattle.layouts.specs.Read.{Shaped, holds, span, part_sound, parts_sound, part_values, head_of, step_of, whole_of, row_sound}
 use Rattle.layouts.proofs.ReadLaws.{Fitting, fitting, holds_fewer}
 use Rattle.layouts.proofs.StoreLaws.{length_held}
 use Rattle.layouts.proofs.Stores.{sets_append}
-use Rattle.layouts.proofs.WholeLaws.{whole_shape}
+use Rattle.layouts.proofs.WholeLaws.{one_group, whole_shape}
 use Rattle.compounds.specs.declared.fields.Stored.{Stored}
 use Rattle.compounds.specs.Compound.{Told, count_of, part_fields, plain_read, absent_at, place_read, subfields_read, printed, primary, compound_read, item_read, size_from, shaped, most_fields, most_in, Fits, Checked, Kept, KeptAll}
 use Rattle.compounds.proofs.SubfieldLaws.{place_within, flags_cons, row_fits}
@@ -37,45 +41,47 @@ pub record Absent (n start : ℕ) (old : List ℤ) (left at : ℕ) (out : List �
   pub place : at + left ≡ start + n
   pub same : sets out at (replicate left absent_field) ≡ sets old start (replicate n absent_field)
 
-pub absent_begun : (n start : ℕ) (old : List ℤ) → Absent n start old n start old
-absent_begun n start old = record { place = refl; same = refl }
+pub absent_begun : (n start : ℕ) (old : List ℤ) → Absent n start old (start + n - start) start old
+absent_begun n start old = let e : start + n - start ≡ n = omega arith in rw e (record { place = refl; same = refl })
 
-pub absent_turn : (n start : ℕ) (old : List ℤ) (left at : ℕ) (out : List ℤ) → Absent n start old left at out → 0 < left
-    → Absent n start old (left - 1) (at + 1) (set out at absent_field)
-absent_turn n start old zero at out a h = absurd (not-suc-le-zero h)
-absent_turn n start old (suc k) at out a h =
-    let e : suc k - 1 ≡ k = omega arith in
-    record { place = omega (arith, a.place); same = rw (e, add-one at) a.same }
+pub absent_turn : (n start : ℕ) (old : List ℤ) (at : ℕ) (out : List ℤ) → Absent n start old (start + n - at) at out → at < start + n
+    → Absent n start old (start + n - (at + 1)) (at + 1) (set out at absent_field)
+absent_turn n start old at out a h =
+    let e : start + n - at ≡ suc (start + n - (at + 1)) = omega arith in
+    let z : at + 1 ≡ suc at = add-one at in
+    record { place = omega arith; same = subst (λ k. sets (set out at absent_field) k (replicate (start + n - (at + 1)) absent_field) ≡ sets old start (replicate n absent_field)) (sym z) (subst (λ k. sets out at (replicate k absent_field) ≡ sets old start (replicate n absent_field)) e a.same) }
 
-pub absent_ended : (n start : ℕ) (old : List ℤ) (left at : ℕ) (out : List ℤ) → Absent n start old left at out → left ≤ 0
-    → (at ≡ start + n) × (out ≡ sets old start (replicate n absent_field))
-absent_ended n start old zero at out a h = (omega (arith, a.place), a.same)
-absent_ended n start old (suc k) at out a h = absurd (not-suc-le-zero h)
+pub absent_ended : (n start : ℕ) (old : List ℤ) (at : ℕ) (out : List ℤ) → Absent n start old (start + n - at) at out → start + n ≤ at
+    → out ≡ sets old start (replicate n absent_field)
+absent_ended n start old at out a h =
+    let e : start + n - at ≡ 0 = omega arith in
+    subst (λ k. sets out at (replicate k absent_field) ≡ sets old start (replicate n absent_field)) e a.same
 
 -- ---- the count of a subfield
 
-pub counted_list : (kind : ℕ) → kind ≡ 2 → true ≡ eqb (head_of kind) 1
-counted_list kind e = sym (ap (λ k. eqb (head_of k) 1) e)
+pub one_octet : (kind : Kind) → (kind ≡ Repeated) ⊎ (kind ≡ Led) → true ≡ eqb (head_of kind) 1
+one_octet kind e = ⊎_elim (λ h. sym (ap (λ k. eqb (head_of k) 1) h)) (λ h. sym (ap (λ k. eqb (head_of k) 1) h)) e
 
-pub counted_led : (kind : ℕ) → ¬ (kind ≡ 2) → eqb kind 3 ≡ eqb (head_of kind) 1
-counted_led kind h = go (eqb kind 3) (ne_eqb kind 2 h)
-  where
-    go : (t : Bool) → eqb kind 2 ≡ false → t ≡ eqb (cond (eqb kind 2) 1 (cond t 1 0)) 1
-    go true e = rw e
-    go false e = rw e
+pub other_octet : (kind : Kind) → ¬ (kind ≡ Repeated) → ¬ (kind ≡ Led) → false ≡ eqb (head_of kind) 1
+other_octet NoItem r l = refl
+other_octet Fixed r l = refl
+other_octet Repeated r l = absurd (r refl)
+other_octet Led r l = absurd (l refl)
+other_octet Extended r l = refl
+other_octet Compound r l = refl
 
 -- nothing stored
 pub stored_none : (start : ℕ) (out vs : List ℤ) → vs ≡ [] → (start ≡ start + length vs) × (out ≡ sets out start vs)
 stored_none start out vs e = (let z : start ≡ start + 0 = omega arith in z ∙ ap (λ l. start + length l) (sym e), ap (sets out start) (sym e))
 
-pub no_count : (sub : Bool) (kind c : ℕ) → sub ≡ false → count_of sub kind c ≡ []
+pub no_count : (sub : Bool) (kind : Kind) (c : ℕ) → sub ≡ false → count_of sub kind c ≡ []
 no_count sub kind c e = ap (λ t. cond (t && eqb (head_of kind) 1) (pos c ∷ []) []) e
 
-pub no_octet : (sub : Bool) (kind c : ℕ) {t : Bool} → t ≡ eqb (head_of kind) 1 → t ≡ false → count_of sub kind c ≡ []
+pub no_octet : (sub : Bool) (kind : Kind) (c : ℕ) {t : Bool} → t ≡ eqb (head_of kind) 1 → t ≡ false → count_of sub kind c ≡ []
 no_octet true kind c et e = rw (← et, e)
 no_octet false kind c et e = refl
 
-pub counted : (sub : Bool) (kind c : ℕ) {t : Bool} → sub ≡ true → t ≡ eqb (head_of kind) 1 → t ≡ true → {v : ℤ} → v ≡ pos c → count_of sub kind c ≡ v ∷ []
+pub counted : (sub : Bool) (kind : Kind) (c : ℕ) {t : Bool} → sub ≡ true → t ≡ eqb (head_of kind) 1 → t ≡ true → {v : ℤ} → v ≡ pos c → count_of sub kind c ≡ v ∷ []
 counted sub kind c es et e ev = rw (es, ← et, e, ev)
 
 -- one number stored
@@ -84,7 +90,7 @@ stored_one start out vs v e = (ap (λ l. start + length l) (sym e), ap (sets out
 
 -- ---- the fields of parts
 
-pub count_short : (sub : Bool) (kind c : ℕ) → length (count_of sub kind c) ≤ 1
+pub count_short : (sub : Bool) (kind : Kind) (c : ℕ) → length (count_of sub kind c) ≤ 1
 count_short sub kind c = go (sub && eqb (head_of kind) 1)
   where
     go : (t : Bool) → length (cond t (pos c ∷ []) []) ≤ 1
@@ -140,15 +146,15 @@ module _ (sub : Bool) (l : LayoutRow) (bs : List ℕ) (c : ℕ) where
         three_stored (count_of sub l.kind c) values (replicate (step_of l.kind * (l.most - c)) absent_field) old start a b e o₁ o₂ o₃ p (q.0 ∙ ap (λ n. a + n) (sym held), q.1)
         (r.0 ∙ ap (λ n. b + n) (sym (length-replicate (step_of l.kind * (l.most - c)) absent_field)), r.1)
 
-    pub stored_plain : ¬ (l.kind ≡ 4) → (b ≡ start + length (part_fields sub l c bs)) × (o₂ ≡ sets old start (part_fields sub l c bs))
+    pub stored_plain : ¬ (l.kind ≡ Extended) → (b ≡ start + length (part_fields sub l c bs)) × (o₂ ≡ sets old start (part_fields sub l c bs))
     stored_plain h =
-        let z : step_of l.kind * (l.most - c) ≡ 0 = ap (λ t. cond t 1 0 * (l.most - c)) (ne_eqb l.kind 4 h) ∙ zero-mul (l.most - c) in
+        let z : step_of l.kind * (l.most - c) ≡ 0 = ap (λ n. n * (l.most - c)) (one_group l.kind h) ∙ zero-mul (l.most - c) in
         stored b o₂ (omega arith, ap (λ n. sets o₂ b (replicate n absent_field)) (sym z))
 
-    pub stored_extended : l.kind ≡ 4 → (e : ℕ) (o₃ : List ℤ) → (e ≡ b + (l.most - c)) × (o₃ ≡ sets o₂ b (replicate (l.most - c) absent_field))
+    pub stored_extended : l.kind ≡ Extended → (e : ℕ) (o₃ : List ℤ) → (e ≡ b + (l.most - c)) × (o₃ ≡ sets o₂ b (replicate (l.most - c) absent_field))
         → (e ≡ start + length (part_fields sub l c bs)) × (o₃ ≡ sets old start (part_fields sub l c bs))
     stored_extended h e o₃ r =
-        let z : step_of l.kind * (l.most - c) ≡ l.most - c = ap (λ t. cond t 1 0 * (l.most - c)) (eq-eqb l.kind 4 h) ∙ one-mul (l.most - c) in
+        let z : step_of l.kind * (l.most - c) ≡ l.most - c = ap (λ k. step_of k * (l.most - c)) h ∙ one-mul (l.most - c) in
         stored e o₃ (subst (λ n. (e ≡ b + n) × (o₃ ≡ sets o₂ b (replicate n absent_field))) (sym z) r)
 
 -- ---- a subfield
@@ -177,11 +183,10 @@ module _ (i : ℕ) (bs : List ℕ) (start : ℕ) (old new : List ℤ) {t : Bool}
       subst (λ t. Kept (place_read i t bs) start (record { octets = long; next = next }) old new) (sym et)
       (subst (λ m. Kept (m >>= (λ s. ok (part_fields true (layout_at (subfield_at i)) s.0 bs, s.1))) start (record { octets = long; next = next }) old new) e (refl, r.0, r.1))
 
-  pub none_kept : (n p : ℕ) (r : Stored) → refused n p ≡ whole_of (layout_at (subfield_at i)) bs → Kept (place_read i t bs) start r old new
-  unfolding plain_read ◌>>=◌
-  none_kept n p r e =
-      subst (λ t. Kept (place_read i t bs) start r old new) (sym et)
-      (subst (λ m. Kept (m >>= (λ s. ok (part_fields true (layout_at (subfield_at i)) s.0 bs, s.1))) start r old new) e tt)
+  -- one that is read is not refused
+  pub there_passes : Passes (place_read i t bs) → (n p : ℕ) → refused n p ≡ whole_of (layout_at (subfield_at i)) bs → ⊥
+  unfolding plain_read
+  there_passes h n p e = refused_ok (sym (bind_out _ (sym e)) ∙ ap (λ t. place_read i t bs) (sym et) ∙ h.1)
 
 -- it lists no more numbers than there is room for
 plain_few : (sub : Bool) (l : LayoutRow) (bs : List ℕ) (x : Told) → ((s : Shaped) → whole_of l bs ≡ ok s → Fitting l bs s.0 s.1) → plain_read sub l bs ≡ ok x
@@ -257,6 +262,10 @@ module _ (first places : ℕ) (s : List ℕ) (out₀ : List ℤ) (y : Told) (i m
       go zero k = absurd (not-suc-le-zero k)
       go (suc n) k = let e : suc n - 1 ≡ n = omega arith in rw e refl
 
+  -- it passes
+  pub list_passes : Passes (place_read i (leb weight left) (take (length s - at) (drop at s)))
+  list_passes = (parted.one, ap (place_read i (leb weight left)) (to_end s at) ∙ parted.first_read)
+
   pub list_room : q + most_fields (layout_at (subfield_at i)) ≤ 8_192
   list_room = omega (arith, w.room, most_cons)
 
@@ -300,19 +309,19 @@ list_ended first places bits s out₀ y i (suc more) left at q out w h e = absur
 -- ---- an item
 
 module _ (l : LayoutRow) (bs : List ℕ) (c : ℕ) (k : Checked l bs c) where
-  pub plain_fits : ¬ (l.kind ≡ 5) → Fits l bs c
+  pub plain_fits : ¬ (l.kind ≡ Compound) → Fits l bs c
   unfolding shaped
-  plain_fits h = (k.0, sym (if_false _ (ne_eqb l.kind 5 h) refl) ∙ k.1)
+  plain_fits h = (k.0, sym (if_false _ (kind_other l.kind Compound h) refl) ∙ k.1)
 
-  pub plain_kept : (old new : List ℤ) → ¬ (l.kind ≡ 5) → (r : ℕ) → (r ≡ 0 + length (part_fields false l c bs)) × (new ≡ sets old 0 (part_fields false l c bs)) → KeptAll (item_read l bs) r old new
+  pub plain_kept : (old new : List ℤ) → ¬ (l.kind ≡ Compound) → (r : ℕ) → (r ≡ 0 + length (part_fields false l c bs)) × (new ≡ sets old 0 (part_fields false l c bs)) → KeptAll (item_read l bs) r old new
   unfolding item_read plain_read
-  plain_kept old new h r e = subst (λ m. KeptAll m r old new) (sym (if_false _ (ne_eqb l.kind 5 h) (bind_in _ (plain_fits h).1 refl))) (omega (arith, e.0), e.1)
+  plain_kept old new h r e = subst (λ m. KeptAll m r old new) (sym (if_false _ (kind_other l.kind Compound h) (bind_in _ (plain_fits h).1 refl))) (omega (arith, e.0), e.1)
 
 -- a compound item that was checked: its primary octets are read, and its subfields
-module _ (l : LayoutRow) (bs : List ℕ) (c : ℕ) (k : Checked l bs c) (h : l.kind ≡ 5) where
+module _ (l : LayoutRow) (bs : List ℕ) (c : ℕ) (k : Checked l bs c) (h : l.kind ≡ Compound) where
   checked_size : size_from 0 (compound_read l bs) ≡ ok (c, k.0)
   unfolding shaped
-  checked_size = sym (if_true _ (eq-eqb l.kind 5 h) refl) ∙ k.1
+  checked_size = sym (if_true _ (kind_same l.kind Compound h) refl) ∙ k.1
 
   pub read_passes : Passes (compound_read l bs)
   read_passes = go (compound_read l bs) checked_size
@@ -345,5 +354,5 @@ module _ (l : LayoutRow) (bs : List ℕ) (c : ℕ) (k : Checked l bs c) (h : l.k
     unfolding item_read at_start ◌>>=◌
     compound_kept r old new q =
         let w = named_passes in
-        subst (λ m. KeptAll m r old new) (sym (if_true _ (eq-eqb l.kind 5 h) (compound_is ∙ ap (λ m. at_start m >>= (λ x. ok (x.0, n + x.1))) w.1)))
+        subst (λ m. KeptAll m r old new) (sym (if_true _ (kind_same l.kind Compound h) (compound_is ∙ ap (λ m. at_start m >>= (λ x. ok (x.0, n + x.1))) w.1)))
         (subst (λ m. KeptAll m r old new) w.1 q)

@@ -11,7 +11,6 @@ use native.Mathlib.Nat.{le_of_suc-le-suc, add-zero, zero-mul, one-mul}
 use lib.Dec.{T, eqb}
 use lib.IntN.{ℤ, pos}
 use lib.ListN.{length, take, drop, replicate, length-append, length-drop, length-map}
-use borrow.Author.Tests.{eqb-true, ne_eqb}
 use lib.Seq.{drop_at, drop-drop, slice, length-take-le}
 use Rattle.rules.specs.Answer.{Answer, ok, refused, ◌>>=◌, when◌then◌else◌, later, Write}
 use Rattle.rules.specs.Chain.{flatten}
@@ -23,9 +22,12 @@ use Rattle.rules.proofs.AnswerLaws.{Octets, Only, Split, after, ok_inj, refused_
 use Rattle.rules.specs.Catalogue.{categories}
 use Rattle.rules.proofs.FormatLaws.{plain_laws}
 use Rattle.rules.proofs.PresenceLaws.{row_forth, rows_forth}
+use Rattle.tables.specs.declared.tables.Kind.{Kind}
+use Rattle.tables.specs.declared.tables.Kind.TheVariants.{NoItem, Fixed, Repeated, Led, Extended, Compound}
 use Rattle.tables.specs.declared.tables.LayoutRow.{LayoutRow}
-use Rattle.tables.specs.Tables.{layout_count, layout_rows, no_layout_row, primaries, fields, layouts, primary_count, subfields_in, group_count, groups, group_rows, group_at, group_is, layout_at, subfield_at, format_by, format_is, bits_is, primaries_is, as_plain, layout_is}
+use Rattle.tables.specs.Tables.{same_kind, layout_count, layout_rows, no_layout_row, primaries, fields, layouts, primary_count, subfields_in, group_count, groups, group_rows, group_at, group_is, layout_at, subfield_at, format_by, format_is, bits_is, primaries_is, as_plain, layout_is}
 use Rattle.tables.proofs.TableLaws.{each, at_row, groups_long, subfield_row}
+use Rattle.tables.proofs.KindLaws.{kind_true}
 use Rattle.layouts.specs.Read.{rows, is_spare, holds, Shaped, parts_legal, part_values, need◌or◌further◌then◌, head_of, step_of, shape_by, shape_of, whole_of, read_by, row_sound}
 use Rattle.layouts.proofs.ReadLaws.{reads, fitting}
 use Rattle.layouts.proofs.ShapeLaws.{rowed, chain_ends, chain_inside}
@@ -94,13 +96,13 @@ values_count step g (suc c) bs = ap suc (values_count step (g + step) c (drop (g
 
 -- parts are listed as the rules list them
 module _ (sub : Bool) (l : LayoutRow) (c : ℕ) (bs : List ℕ) where
-  abbrev vs : ℕ → PartValues
+  abbrev vs : Kind → PartValues
   vs k = part_values (step_of k) l.first c (drop (head_of k) bs)
 
-  abbrev fields_by : ℕ → List ℤ
+  abbrev fields_by : Kind → List ℤ
   fields_by k = count_of sub k c ++ (flatten (vs k) ++ replicate (step_of k * (l.most - c)) absent_field)
 
-  none_absent : (k : ℕ) → step_of k ≡ 0 → flatten (vs k) ++ replicate (step_of k * (l.most - c)) absent_field ≡ flatten (vs k)
+  none_absent : (k : Kind) → step_of k ≡ 0 → flatten (vs k) ++ replicate (step_of k * (l.most - c)) absent_field ≡ flatten (vs k)
   none_absent k e =
       ap (λ n. flatten (vs k) ++ replicate n absent_field) (ap (λ n. n * (l.most - c)) e ∙ zero-mul (l.most - c)) ∙ append-nil (flatten (vs k))
 
@@ -111,35 +113,35 @@ module _ (sub : Bool) (l : LayoutRow) (c : ℕ) (bs : List ℕ) where
       all_groups : List Group
       all_groups = map group_is (group_rows 0 groups)
 
-      by : (k : ℕ) → l.kind ≡ k → format_by k l.least l.most (group_is (group_at l.first)) (slice l.first l.end (map group_is (group_rows 0 groups))) ≡ some s
+      by : (k : Kind) → l.kind ≡ k → format_by k l.least l.most (group_is (group_at l.first)) (slice l.first l.end (map group_is (group_rows 0 groups))) ≡ some s
       by k e = subst (λ x. format_by x l.least l.most (group_is (group_at l.first)) (slice l.first l.end (map group_is (group_rows 0 groups))) ≡ some s) e h
 
-      at_kind : (k : ℕ) (f : Format) (t : Bool) → l.kind ≡ k → some f ≡ some s → sub ≡ t → listed_as t f (vs k) ≡ count_of t k c ++ (flatten (vs k) ++ replicate (step_of k * (l.most - c)) absent_field)
+      at_kind : (k : Kind) (f : Format) (t : Bool) → l.kind ≡ k → some f ≡ some s → sub ≡ t → listed_as t f (vs k) ≡ count_of t k c ++ (flatten (vs k) ++ replicate (step_of k * (l.most - c)) absent_field)
           → listed_as sub s (vs l.kind) ≡ fields_by l.kind
       at_kind k f t e d u g =
           ap (λ x. listed_as sub s (vs x)) e ∙ ap (λ x. listed_as sub x (vs k)) (sym (some_inj d)) ∙ ap (λ x. listed_as x f (vs k)) u ∙ g
           ∙ ap (λ x. count_of x k c ++ (flatten (vs k) ++ replicate (step_of k * (l.most - c)) absent_field)) (sym u) ∙ ap fields_by (sym e)
 
-      counted : (k : ℕ) → pos (length (vs k)) ∷ flatten (vs k) ≡ pos c ∷ flatten (vs k)
+      counted : (k : Kind) → pos (length (vs k)) ∷ flatten (vs k) ≡ pos c ∷ flatten (vs k)
       counted k = ap (λ n. pos n ∷ flatten (vs k)) (values_count (step_of k) l.first c (drop (head_of k) bs))
 
       -- one absent number for each printed part that is not there
-      extents : l.kind ≡ 4 → flatten (vs 4) ++ replicate (length (slice l.first l.end all_groups) - length (vs 4)) absent_field ≡ flatten (vs 4) ++ replicate (1 * (l.most - c)) absent_field
+      extents : l.kind ≡ Extended → flatten (vs Extended) ++ replicate (length (slice l.first l.end all_groups) - length (vs Extended)) absent_field ≡ flatten (vs Extended) ++ replicate (1 * (l.most - c)) absent_field
       extents e =
-          ap (λ n. flatten (vs 4) ++ replicate n absent_field)
+          ap (λ n. flatten (vs Extended) ++ replicate n absent_field)
           (ap₂ ◌-◌ (slice_long l.first l.end l.most (chain_ends l (rowed l r) e) (chain_inside l (rowed l r) e)) (values_count 1 l.first c (drop 0 bs)) ∙ sym (one-mul (l.most - c)))
 
-      go : (k : ℕ) → l.kind ≡ k → (t : Bool) → sub ≡ t → listed_as sub s (vs l.kind) ≡ fields_by l.kind
-      go zero e t u = none_some (by 0 e)
-      go (suc zero) e true u = at_kind 1 (fixed (group_is (group_at l.first))) true e (by 1 e) u (sym (none_absent 1 refl))
-      go (suc zero) e false u = at_kind 1 (fixed (group_is (group_at l.first))) false e (by 1 e) u (sym (none_absent 1 refl))
-      go (suc (suc zero)) e true u = at_kind 2 (repeated l.least l.most (group_is (group_at l.first))) true e (by 2 e) u (counted 2 ∙ ap (λ x. pos c ∷ x) (sym (none_absent 2 refl)))
-      go (suc (suc zero)) e false u = at_kind 2 (repeated l.least l.most (group_is (group_at l.first))) false e (by 2 e) u (sym (none_absent 2 refl))
-      go (suc (suc (suc zero))) e true u = at_kind 3 (led l.least) true e (by 3 e) u (counted 3 ∙ ap (λ x. pos c ∷ x) (sym (none_absent 3 refl)))
-      go (suc (suc (suc zero))) e false u = at_kind 3 (led l.least) false e (by 3 e) u (sym (none_absent 3 refl))
-      go (suc (suc (suc (suc zero)))) e true u = at_kind 4 (extended (slice l.first l.end all_groups)) true e (by 4 e) u (extents e)
-      go (suc (suc (suc (suc zero)))) e false u = at_kind 4 (extended (slice l.first l.end all_groups)) false e (by 4 e) u (extents e)
-      go (suc (suc (suc (suc (suc k))))) e t u = none_some (by (suc (suc (suc (suc (suc k))))) e)
+      go : (k : Kind) → l.kind ≡ k → (t : Bool) → sub ≡ t → listed_as sub s (vs l.kind) ≡ fields_by l.kind
+      go NoItem e t u = none_some (by NoItem e)
+      go Fixed e true u = at_kind Fixed (fixed (group_is (group_at l.first))) true e (by Fixed e) u (sym (none_absent Fixed refl))
+      go Fixed e false u = at_kind Fixed (fixed (group_is (group_at l.first))) false e (by Fixed e) u (sym (none_absent Fixed refl))
+      go Repeated e true u = at_kind Repeated (repeated l.least l.most (group_is (group_at l.first))) true e (by Repeated e) u (counted Repeated ∙ ap (λ x. pos c ∷ x) (sym (none_absent Repeated refl)))
+      go Repeated e false u = at_kind Repeated (repeated l.least l.most (group_is (group_at l.first))) false e (by Repeated e) u (sym (none_absent Repeated refl))
+      go Led e true u = at_kind Led (led l.least) true e (by Led e) u (counted Led ∙ ap (λ x. pos c ∷ x) (sym (none_absent Led refl)))
+      go Led e false u = at_kind Led (led l.least) false e (by Led e) u (sym (none_absent Led refl))
+      go Extended e true u = at_kind Extended (extended (slice l.first l.end all_groups)) true e (by Extended e) u (extents e)
+      go Extended e false u = at_kind Extended (extended (slice l.first l.end all_groups)) false e (by Extended e) u (extents e)
+      go Compound e t u = none_some (by Compound e)
 
 -- an item that is not compound, or a subfield, by its row
 plain_told : (sub : Bool) (l : LayoutRow) (s : Format) (bs : List ℕ) → row_sound l ≡ true → format_is l ≡ some s → Octets bs
@@ -412,7 +414,7 @@ module _ (n j : ℕ) (bs : List ℕ) (h : j + n ≤ primary_count) (o : Octets b
 pub item_told : (l : LayoutRow) (i : Layout) (bs : List ℕ) → row_sound l ≡ true → item_sound l ≡ true → layout_is l ≡ some i → Octets bs
     → (read_item i bs >>= told_of (field_list i) bs) ≡ item_read l bs
 unfolding layout_is item_read
-item_told l i bs r s h o = go (eqb l.kind 5) refl h
+item_told l i bs r s h o = go (same_kind l.kind Compound) refl h
   where
     plain_read_lem : (f : Option Format) → format_is l ≡ f → as_plain f ≡ some i → (read_item i bs >>= told_of (field_list i) bs) ≡ plain_read false l bs
     plain_read_lem none e d = none_some d
@@ -421,10 +423,10 @@ item_told l i bs r s h o = go (eqb l.kind 5) refl h
         ∙ unfold read_item in (bind_assoc (read_plain f bs) (λ x. ok (in_parts x.0, x.1)) (told_of (field_list (plain f)) bs) ∙ bind_same (read_plain f bs) _ _ (λ x g. bind_in _ refl refl))
         ∙ plain_told false l f bs r e o
 
-    go : (t : Bool) → eqb l.kind 5 ≡ t → cond t (some (compound (primaries_is (l.end - l.first) l.first))) (as_plain (format_is l)) ≡ some i
+    go : (t : Bool) → same_kind l.kind Compound ≡ t → cond t (some (compound (primaries_is (l.end - l.first) l.first))) (as_plain (format_is l)) ≡ some i
         → (read_item i bs >>= told_of (field_list i) bs) ≡ (when t then compound_read l bs else plain_read false l bs)
     go true e d =
-        let c : Compounded l = compounded l s (eqb-true l.kind 5 e) in
+        let c : Compounded l = compounded l s (kind_true l.kind Compound e) in
         ap (λ x. read_item x bs >>= told_of (field_list x) bs) (sym (some_inj d))
         ∙ compound_told (printed l) l.first bs (let z : l.first + printed l ≤ primary_count = omega (arith, c.order, c.inside) in z) o
         ∙ unfold compound_read when◌then◌else◌ in refl
@@ -435,22 +437,21 @@ pub no_row : (l : LayoutRow) (bs : List ℕ) → layout_is l ≡ none → item_r
 unfolding layout_is item_read format_is format_by
 no_row l bs h = go l.kind refl
   where
-    by : (k : ℕ) → l.kind ≡ k
-        → cond (eqb k 5) (some (compound (primaries_is (l.end - l.first) l.first))) (as_plain (format_by k l.least l.most (group_is (group_at l.first)) (slice l.first l.end (map group_is (group_rows 0 groups))))) ≡ none
-    by k e = subst (λ x. cond (eqb x 5) (some (compound (primaries_is (l.end - l.first) l.first))) (as_plain (format_by x l.least l.most (group_is (group_at l.first)) (slice l.first l.end (map group_is (group_rows 0 groups))))) ≡ none) e h
+    by : (k : Kind) → l.kind ≡ k
+        → cond (same_kind k Compound) (some (compound (primaries_is (l.end - l.first) l.first))) (as_plain (format_by k l.least l.most (group_is (group_at l.first)) (slice l.first l.end (map group_is (group_rows 0 groups))))) ≡ none
+    by k e = subst (λ x. cond (same_kind x Compound) (some (compound (primaries_is (l.end - l.first) l.first))) (as_plain (format_by x l.least l.most (group_is (group_at l.first)) (slice l.first l.end (map group_is (group_rows 0 groups))))) ≡ none) e h
 
-    none_read : (k : ℕ) → l.kind ≡ k → eqb k 5 ≡ false → shape_by k l.least l.most l.first l.end bs ≡ refused 21 0
-        → (when eqb l.kind 5 then compound_read l bs else plain_read false l bs) ≡ refused 21 0
-    none_read k e f s = if_false _ (ap (λ x. eqb x 5) e ∙ f) (unfold plain_read whole_of shape_of in (bind_out _ (bind_out _ (ap (λ x. shape_by x l.least l.most l.first l.end bs) e ∙ s))))
+    none_read : (k : Kind) → l.kind ≡ k → same_kind k Compound ≡ false → shape_by k l.least l.most l.first l.end bs ≡ refused 21 0
+        → (when same_kind l.kind Compound then compound_read l bs else plain_read false l bs) ≡ refused 21 0
+    none_read k e f s = if_false _ (ap (λ x. same_kind x Compound) e ∙ f) (unfold plain_read whole_of shape_of in (bind_out _ (bind_out _ (ap (λ x. shape_by x l.least l.most l.first l.end bs) e ∙ s))))
 
-    go : (k : ℕ) → l.kind ≡ k → (when eqb l.kind 5 then compound_read l bs else plain_read false l bs) ≡ refused 21 0
-    go zero e = none_read 0 e refl (unfold shape_by in refl)
-    go (suc zero) e = none_some (sym (by 1 e))
-    go (suc (suc zero)) e = none_some (sym (by 2 e))
-    go (suc (suc (suc zero))) e = none_some (sym (by 3 e))
-    go (suc (suc (suc (suc zero)))) e = none_some (sym (by 4 e))
-    go (suc (suc (suc (suc (suc zero))))) e = none_some (sym (by 5 e))
-    go (suc (suc (suc (suc (suc (suc k)))))) e = none_read (suc (suc (suc (suc (suc (suc k)))))) e (ne_eqb (suc (suc (suc (suc (suc (suc k)))))) 5 (λ (z : suc (suc (suc (suc (suc (suc k))))) ≡ 5). absurd (omega arith))) (unfold shape_by in refl)
+    go : (k : Kind) → l.kind ≡ k → (when same_kind l.kind Compound then compound_read l bs else plain_read false l bs) ≡ refused 21 0
+    go NoItem e = none_read NoItem e refl (unfold shape_by in refl)
+    go Fixed e = none_some (sym (by Fixed e))
+    go Repeated e = none_some (sym (by Repeated e))
+    go Led e = none_some (sym (by Led e))
+    go Extended e = none_some (sym (by Extended e))
+    go Compound e = none_some (sym (by Compound e))
 
 -- every row of the table is one that the code can work with
 pub row_item : (j : ℕ) → j < layout_count → item_sound (layout_at j) ≡ true

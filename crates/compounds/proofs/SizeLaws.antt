@@ -6,12 +6,14 @@ use mathlib.Core.List.{List, [], ◌∷◌}
 use native.Mathlib.Omega.{arith}
 use lib.Dec.{eqb}
 use lib.ListN.{drop}
-use borrow.Author.Tests.{ne_eqb}
 use Rattle.rules.specs.Answer.{Answer, ok, refused, ◌>>=◌, when◌then◌else◌}
 use Rattle.rules.specs.Presence.{flags}
 use Rattle.rules.specs.Layout.{at_start}
 use Rattle.rules.proofs.AnswerLaws.{Only, only_bind, only_need, only_if, ok_inj, refused_ok, bind_in, bind_out, bind_assoc, if_true, if_false}
+use Rattle.tables.specs.declared.tables.Kind.TheVariants.{Compound}
 use Rattle.tables.specs.declared.tables.LayoutRow.{LayoutRow}
+use Rattle.tables.specs.Tables.{same_kind}
+use Rattle.tables.proofs.KindLaws.{kind_other}
 use Rattle.layouts.specs.Read.{Shaped, shape_by, shape_of, whole_of, whole_size}
 use Rattle.compounds.specs.Compound.{Told, last_of, before_of, primary, plain_read, part_fields, subfields_read, printed, compound_read, item_read, item_size, size_from, shaped}
 
@@ -43,7 +45,7 @@ module _ (l : LayoutRow) (bs : List ℕ) where
   -- refused alike
   pub shape_refused : (n p : ℕ) → refused n p ≡ shaped l bs → item_read l bs ≡ refused n p
   unfolding shaped item_read
-  shape_refused n p h = go (eqb l.kind 5) h
+  shape_refused n p h = go (same_kind l.kind Compound) h
     where
       compound_refused : (m : Answer Told) → Only First m → refused n p ≡ size_from 0 m → m ≡ refused n p
       compound_refused (ok x) f e = refused_ok e
@@ -64,13 +66,13 @@ module _ (l : LayoutRow) (bs : List ℕ) where
 
   pub shape_read : (c long : ℕ) → ok (c, long) ≡ shaped l bs → ReadTo long
   unfolding shaped item_read
-  shape_read c long h = go (eqb l.kind 5) refl h
+  shape_read c long h = go (same_kind l.kind Compound) refl h
     where
       compound_read_lem : (m : Answer Told) → ok (c, long) ≡ size_from 0 m → (x : Told) × (m ≡ ok x) × (x.1 ≡ long)
       compound_read_lem (ok x) e = (x, refl, (let d : ◌≡◌ {A = Shaped} (c, long) (0, 0 + x.1) = ok_inj e in let z : long ≡ 0 + x.1 = ap (λ s. s.1) d in omega arith))
       compound_read_lem (refused a b) e = refused_ok (sym e)
 
-      go : (t : Bool) → eqb l.kind 5 ≡ t → ok (c, long) ≡ (when t then size_from 0 (compound_read l bs) else whole_of l bs) → ReadTo long
+      go : (t : Bool) → same_kind l.kind Compound ≡ t → ok (c, long) ≡ (when t then size_from 0 (compound_read l bs) else whole_of l bs) → ReadTo long
       go true e h =
           let r = compound_read_lem (compound_read l bs) (h ∙ (unfold when◌then◌else◌ in refl)) in
           record { told = r.0; is_read = if_true _ e r.1; octets = r.2 }
@@ -87,15 +89,15 @@ module _ (l : LayoutRow) (bs : List ℕ) where
   size_refused n p h = sym (bind_out _ (shape_refused n p h))
 
   -- an item that is not compound, by its parts
-  pub whole_item : ¬ (l.kind ≡ 5) → whole_size l bs ≡ item_size l bs
+  pub whole_item : ¬ (l.kind ≡ Compound) → whole_size l bs ≡ item_size l bs
   unfolding whole_size item_size item_read plain_read
-  whole_item h = sym (ap (λ m. m >>= (λ (x : Told). ok x.1)) (if_false _ (ne_eqb l.kind 5 h) refl) ∙ bind_assoc (whole_of l bs) _ _ ∙ go (whole_of l bs))
+  whole_item h = sym (ap (λ m. m >>= (λ (x : Told). ok x.1)) (if_false _ (kind_other l.kind Compound h) refl) ∙ bind_assoc (whole_of l bs) _ _ ∙ go (whole_of l bs))
     where
       go : (m : Answer Shaped) → (m >>= (λ s. ◌>>=◌ {A = Told} (ok (part_fields false l s.0 bs, s.1)) (λ x. ok x.1))) ≡ (m >>= (λ s. ok s.1))
       go (ok s) = unfold ◌>>=◌ in refl
       go (refused n p) = unfold ◌>>=◌ in refl
 
   -- a compound one has no parts
-  pub no_whole : (n : ℕ) → whole_size l bs ≡ ok n → ¬ (l.kind ≡ 5)
+  pub no_whole : (n : ℕ) → whole_size l bs ≡ ok n → ¬ (l.kind ≡ Compound)
   unfolding whole_size whole_of shape_of shape_by
   no_whole n h k = refused_ok (sym (bind_out _ (bind_out _ (ap (λ x. shape_by x l.least l.most l.first l.end bs) k))) ∙ h)

@@ -8,7 +8,7 @@ use mathlib.Core.List.{List, [], ◌∷◌, ◌++◌}
 use native.Mathlib.Omega.{arith}
 use native.Mathlib.Nat.{le_refl, mod-lt, not-suc-le-zero}
 use lib.Dec.{leb, lit≤}
-use borrow.Author.Tests.{leb-true, eq-eqb, ne_eqb}
+use borrow.Author.Tests.{leb-true}
 use lib.Pow.{pow_pos}
 use lib.ListN.{length, take, drop, length-drop}
 use lib.Seq.{drop-drop}
@@ -16,10 +16,12 @@ use Rattle.rules.specs.Answer.{Answer, ok, refused, ◌>>=◌}
 use Rattle.rules.specs.Presence.{flags}
 use Rattle.rules.specs.Layout.{at_start}
 use Rattle.rules.proofs.AnswerLaws.{Octets, both_left, both_right, if_true, if_false, ok_inj, bind_elim, bind_in, bind_out, refused_ok, octets_drop, to_end}
+use Rattle.tables.specs.declared.tables.Kind.TheVariants.{Compound}
 use Rattle.tables.specs.declared.tables.LayoutRow.{LayoutRow}
 use Rattle.rules.specs.Catalogue.{categories}
 use Rattle.tables.specs.Tables.{layouts, primary_count, subfields_in, subfield_count, subfield_at, layout_at}
 use Rattle.tables.proofs.TableLaws.{subfields_long, subfield_row}
+use Rattle.tables.proofs.KindLaws.{kind_same, kind_other}
 use Rattle.layouts.specs.Read.{Shaped, whole_of}
 use Rattle.layouts.proofs.ReadLaws.{Fitting, fitting}
 use Rattle.layouts.proofs.SoundLaws.{layout_sound}
@@ -211,14 +213,14 @@ pub record Compounded (l : LayoutRow) : Type 0 where
   pub few : printed l ≤ 2
   pub room : most_in (7 * l.first) (7 * printed l) ≤ 8_192
 
-pub compounded : (l : LayoutRow) → item_sound l ≡ true → l.kind ≡ 5 → Compounded l
+pub compounded : (l : LayoutRow) → item_sound l ≡ true → l.kind ≡ Compound → Compounded l
 unfolding item_sound
 compounded l s k =
     let a = leb l.first l.end in
     let b = leb l.end primary_count in
     let c = leb (printed l) 2 in
     let d = leb (most_in (7 * l.first) (7 * printed l)) 8_192 in
-    let t : a && b && c && d ≡ true = sym (ap (λ x. cond x (a && b && c && d) (leb (most_fields l) 8_192)) (eq-eqb l.kind 5 k)) ∙ s in
+    let t : a && b && c && d ≡ true = sym (ap (λ x. cond x (a && b && c && d) (leb (most_fields l) 8_192)) (kind_same l.kind Compound k)) ∙ s in
     let u : a && b && c ≡ true = both_left (a && b && c) d t in
     let v : a && b ≡ true = both_left (a && b) c u in
     record {
@@ -228,15 +230,15 @@ compounded l s k =
       room = leb-true _ _ (both_right (a && b && c) d t);
     }
 
-pub plain_room : (l : LayoutRow) → item_sound l ≡ true → ¬ (l.kind ≡ 5) → most_fields l ≤ 8_192
+pub plain_room : (l : LayoutRow) → item_sound l ≡ true → ¬ (l.kind ≡ Compound) → most_fields l ≤ 8_192
 unfolding item_sound
-plain_room l s k = leb-true _ _ (sym (ap (λ x. cond x (leb l.first l.end && leb l.end primary_count && leb (printed l) 2 && leb (most_in (7 * l.first) (7 * printed l)) 8_192) (leb (most_fields l) 8_192)) (ne_eqb l.kind 5 k)) ∙ s)
+plain_room l s k = leb-true _ _ (sym (ap (λ x. cond x (leb l.first l.end && leb l.end primary_count && leb (printed l) 2 && leb (most_in (7 * l.first) (7 * printed l)) 8_192) (leb (most_fields l) 8_192)) (kind_other l.kind Compound k)) ∙ s)
 
 module _ (l : LayoutRow) (bs : List ℕ) {m : Answer Shaped} where
-  pub shape_compound : l.kind ≡ 5 → m ≡ size_from 0 (compound_read l bs) → m ≡ shaped l bs
+  pub shape_compound : l.kind ≡ Compound → m ≡ size_from 0 (compound_read l bs) → m ≡ shaped l bs
   unfolding shaped
-  shape_compound k e = e ∙ sym (if_true _ (eq-eqb l.kind 5 k) refl)
+  shape_compound k e = e ∙ sym (if_true _ (kind_same l.kind Compound k) refl)
 
-  pub shape_plain : ¬ (l.kind ≡ 5) → m ≡ whole_of l bs → m ≡ shaped l bs
+  pub shape_plain : ¬ (l.kind ≡ Compound) → m ≡ whole_of l bs → m ≡ shaped l bs
   unfolding shaped
-  shape_plain k e = e ∙ sym (if_false _ (ne_eqb l.kind 5 k) refl)
+  shape_plain k e = e ∙ sym (if_false _ (kind_other l.kind Compound k) refl)

@@ -5,12 +5,14 @@ use mathlib.Core.List.{List}
 use lib.IntN.{ℤ}
 use Rattle.rules.specs.Answer.{Answer, ok, refused}
 use Rattle.tables.specs.declared.tables.LayoutRow.{LayoutRow}
-use Rattle.layouts.specs.declared.parts.Shape.{Shape}
+use Rattle.std.specs.Prelude.{Result}
+use Rattle.rules.specs.declared.faults.Refusal.{Refusal}
+use Rattle.layouts.specs.declared.parts.Parts.{Parts}
 use Rattle.layouts.specs.Read.{shape_is}
 use Rattle.layouts.proofs.Unique.{shape_told}
 use Rattle.compounds.specs.Compound.{Told, item_read, shaped, KeptAll}
 
-pub one_item_of : (l : LayoutRow) (s : List ℕ) (a b : Shape) → shape_is a ≡ shaped l s → shape_is b ≡ shaped l s → a ≡ b
+pub one_item_of : (l : LayoutRow) (s : List ℕ) (a b : Result Parts Refusal) → shape_is a ≡ shaped l s → shape_is b ≡ shaped l s → a ≡ b
 one_item_of l s a b p q = shape_told a b (p ∙ sym q)
 
 -- the answer, and what the output then holds

@@ -2,7 +2,7 @@
 -- 02, W-205) is its primary octets, then the subfields that they name. `proofs/ItemLaws` has that this is the rules' `read_fields`. Assumes nothing.
 --
 -- In order: primary octets; the fields of parts; subfields; an item; its shape; its fields in an output; room for them.
-use Rattle.std.specs.Prelude.{ℕ, zero, suc, ◌+◌, ◌-◌, ◌*◌, ◌/◌, ◌%◌, ◌^◌, ◌<◌, ◌≤◌, ◌≡◌, Bool, true, false, cond, ◌&&◌, List, [], ◌∷◌, ◌++◌, leb, ltb, eqb, ℤ, pos, length, drop, replicate}
+use Rattle.std.specs.Prelude.{ℕ, zero, suc, ◌+◌, ◌-◌, ◌*◌, ◌/◌, ◌%◌, ◌^◌, ◌<◌, ◌≤◌, ◌≡◌, Result, Bool, true, false, cond, ◌&&◌, List, [], ◌∷◌, ◌++◌, leb, ltb, eqb, ℤ, pos, length, drop, replicate}
 use Rattle.std.specs.Int.Bits.{bit_and}
 use Rattle.std.proofs.lemmas.List.Edits.{sets}
 use Rattle.rules.specs.Answer.{Answer, ok, refused, ◌>>=◌, need◌or◌then◌, when◌then◌else◌}
@@ -10,21 +10,26 @@ use Rattle.rules.specs.Chain.{flatten}
 use Rattle.rules.specs.Presence.{flags}
 use Rattle.rules.specs.Layout.{at_start}
 use Rattle.rules.specs.FieldList.{absent_field}
+use Rattle.rules.specs.Told.{begun_as}
+use Rattle.rules.specs.declared.faults.Fault.{Fault}
+use Rattle.tables.specs.declared.tables.Kind.{Kind}
+use Rattle.tables.specs.declared.tables.Kind.TheVariants.{Compound}
 use Rattle.tables.specs.declared.tables.LayoutRow.{LayoutRow}
-use Rattle.tables.specs.Tables.{primary_count, primary_at, subfield_at, layout_at}
+use Rattle.tables.specs.Tables.{same_kind, primary_count, primary_at, subfield_at, layout_at}
 use Rattle.layouts.specs.Read.{Shaped, holds, part_values, head_of, step_of, whole_of}
 use Rattle.compounds.specs.declared.fields.Stored.{Stored}
-use Rattle.compounds.specs.declared.primary.Primary.{Primary}
-use Rattle.compounds.specs.declared.primary.Primary.TheVariants.{Octets, Refused}
+use Rattle.compounds.specs.declared.primary.PrimaryOctets.{PrimaryOctets}
 
 -- ---- primary octets: the bits that they set, seven to each printed octet, the first octet's highest; and how many octets there are
 
 abbrev pub Bits : Type 0
 Bits = ℕ × ℕ
 
-abbrev pub primary_is : Primary → Answer Bits
-primary_is (Octets b k) = ok (b, k)
-primary_is (Refused n) = refused n 0
+abbrev pub bits_is : PrimaryOctets → Bits
+bits_is p = (p.bits, p.count)
+
+abbrev pub primary_is : Result PrimaryOctets Fault → Answer Bits
+primary_is r = begun_as bits_is r
 
 -- every bit of an octet, FX apart, has a subfield
 abbrev pub known : ℕ → ℕ → Bool
@@ -61,7 +66,7 @@ abbrev pub Told : Type 0
 Told = List ℤ × ℕ
 
 -- a subfield that has a count or length octet is listed with the number of its parts before them
-abbrev pub count_of : Bool → ℕ → ℕ → List ℤ
+abbrev pub count_of : Bool → Kind → ℕ → List ℤ
 count_of sub kind c = cond (sub && eqb (head_of kind) 1) (pos c ∷ []) []
 
 -- the parts' values, and one `absent_field` for each printed part that is not there
@@ -104,7 +109,7 @@ compound_read l bs = do
   ok (vs, k + n)
 
 unfoldable pub item_read : LayoutRow → List ℕ → Answer Told
-item_read l bs = when eqb l.kind 5 then compound_read l bs else plain_read false l bs
+item_read l bs = when same_kind l.kind Compound then compound_read l bs else plain_read false l bs
 
 -- how many octets
 unfoldable pub item_size : LayoutRow → List ℕ → Answer ℕ
@@ -117,8 +122,12 @@ abbrev pub size_from : ℕ → Answer Told → Answer Shaped
 size_from k (ok x) = ok (0, k + x.1)
 size_from k (refused n p) = refused n 0
 
+-- what the code has of them: the octets, or why not
+abbrev pub octets_is : Result ℕ Fault → Answer Shaped
+octets_is r = begun_as (λ n. (0, n)) r
+
 unfoldable pub shaped : LayoutRow → List ℕ → Answer Shaped
-shaped l bs = when eqb l.kind 5 then size_from 0 (compound_read l bs) else whole_of l bs
+shaped l bs = when same_kind l.kind Compound then size_from 0 (compound_read l bs) else whole_of l bs
 
 -- so many parts were read
 abbrev pub Fits : LayoutRow → List ℕ → ℕ → Type 0
@@ -152,6 +161,6 @@ most_in i (suc n) = most_fields (layout_at (subfield_at i)) + most_in (i + 1) n
 -- a row that the code can work with: the primary octets of a compound item are in the table, and there is room for what is listed
 unfoldable pub item_sound : LayoutRow → Bool
 item_sound l =
-    cond (eqb l.kind 5)
+    cond (same_kind l.kind Compound)
     (leb l.first l.end && leb l.end primary_count && leb (printed l) 2 && leb (most_in (7 * l.first) (7 * printed l)) 8_192)
     (leb (most_fields l) 8_192)

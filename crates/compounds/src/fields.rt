@@ -9,26 +9,26 @@ ghost use Rattle.tables.specs.Tables.{subfield_count, subfield_at, layout_at};
 ghost use Rattle.layouts.specs.Read.{row_sound, head_of};
 ghost use Rattle.compounds.specs.Compound.{count_of, part_fields, place_read, subfields_read, item_read, shaped, most_fields, most_in, Fits, Checked, Kept, KeptAll, item_sound};
 
-use super::primary::{Primary, primary_of};
-use layouts::{Shape, item_store, whole_of};
+use super::primary::primary_of;
+use layouts::{item_store, whole_of};
 use numbers::up;
-use tables::{COMPOUND, EXTENDED, LED, LayoutRow, REPEATED, layout_at, pow2, subfield_at};
+use tables::{Kind, LayoutRow, layout_at, pow2, subfield_at};
 
 // Whether a count or length octet comes before the parts.
-fn is_counted(kind: u8) -> bool
+fn is_counted(kind: Kind) -> bool
     ensures { result ≡ eqb (head_of kind) 1 }
 {
-    if kind == REPEATED {
-        return true;
+    match kind {
+        Kind::Repeated | Kind::Led => true,
+        _ => false,
     }
-    kind == LED
 }
 
 // The number that no field holds: where a part or a subfield would begin, it says that it is absent.
 pub const ABSENT: i64 = -9_223_372_036_854_775_808;
 
 // The number of a subfield's parts, where it has a count or length octet, at a place of the output; the place after it.
-fn count_store(sub: bool, kind: u8, parts: usize, out: &mut [i64; 8192], start: usize) -> usize
+fn count_store(sub: bool, kind: Kind, parts: usize, out: &mut [i64; 8192], start: usize) -> usize
     requires { (start < 8_192) × (parts < 2 ^ 63) }
     ensures { (result ≡ start + length (count_of sub kind parts)) × (out.new ≡ sets out.old start (count_of sub kind parts)) }
 {
@@ -47,14 +47,11 @@ fn absent_store(n: usize, out: &mut [i64; 8192], start: usize) -> usize
     requires { start + n ≤ 8_192 }
     ensures { (result ≡ start + n) × (out.new ≡ sets out.old start (replicate n absent_field)) }
 {
-    let mut left = n;
-    let mut at = start;
-    while 0 < left {
+    let end = start + n;
+    for at in start..end {
         out[at] = ABSENT;
-        at = at + 1;
-        left = left - 1;
     }
-    at
+    end
 }
 
 // The fields of parts that were read, from a place of the output on; the place after them. `sub` says that they are a subfield's.
@@ -71,14 +68,14 @@ fn parts_fields(
 {
     let at = count_store(sub, l.kind, parts, out, start);
     let end = item_store(l, s, parts, out, at);
-    if l.kind == EXTENDED {
-        return absent_store(l.most - parts, out, end);
+    match l.kind {
+        Kind::Extended => absent_store(l.most - parts, out, end),
+        _ => end,
     }
-    end
 }
 
 // How many octets a subfield takes, and the place after what was stored of it.
-#[derive(Drop)]
+#[derive(Clone, Copy)]
 pub struct Stored {
     pub octets: usize,
     pub next: usize,
@@ -86,7 +83,7 @@ pub struct Stored {
 
 // What the bit at a place of the table lists: the fields of its subfield; where it is not there one number; none where the bit has no subfield.
 fn place_fields(place: usize, there: bool, s: &[u8], out: &mut [i64; 8192], start: usize) -> Stored
-    requires { (place < subfield_count) × (start + most_fields (layout_at (subfield_at place)) ≤ 8_192) }
+    requires { (place < subfield_count) × (start + most_fields (layout_at (subfield_at place)) ≤ 8_192) × Passes (place_read place there s.now) }
     ensures { Kept (place_read place there s.now) start result out.old out.new }
 {
     let row = subfield_at(place);
@@ -103,18 +100,12 @@ fn place_fields(place: usize, there: bool, s: &[u8], out: &mut [i64; 8192], star
         };
     }
     let l = layout_at(row);
-    match whole_of(l, s) {
-        Shape::Parts { count, long } => Stored {
-            octets: long,
-            next: parts_fields(true, l, s, count, out, start),
-        },
-        Shape::Refused {
-            number: _,
-            place: _,
-        } => Stored {
-            octets: 0,
-            next: start,
-        },
+    let Ok(parts) = whole_of(l, s) else {
+        unreachable!()
+    };
+    Stored {
+        octets: parts.long,
+        next: parts_fields(true, l, s, parts.count, out, start),
     }
 }
 
@@ -131,21 +122,18 @@ fn subfields_fields(
     requires passes { Passes (subfields_read first (flags places bits) s.now) }
     ensures { KeptAll (subfields_read first (flags places bits) s.now) result out.old out.new }
 {
-    let mut i = first;
-    let mut more = places;
     let mut left = bits;
     let mut at: usize = 0;
-    let mut q: usize = 0;
-    while 0 < more {
-        more = more - 1;
-        let weight = pow2(more as u64);
-        let r = place_fields(i, weight <= left, &s[at..], out, q);
-        left = left % weight;
-        at = at + r.octets;
-        q = r.next;
-        i = i + 1;
+    let mut next: usize = 0;
+    let end = first + places;
+    for i in first..end {
+        let weight = pow2((end - i - 1) as u64);
+        let stored = place_fields(i, weight <= left, &s[at..], out, next);
+        left %= weight;
+        at += stored.octets;
+        next = stored.next;
     }
-    q
+    next
 }
 
 // The fields of an item that was checked, at the start of the output; how many they are. Of a compound item `parts` is not looked at.
@@ -153,13 +141,16 @@ pub fn item_fields(l: LayoutRow, s: &[u8], parts: usize, out: &mut [i64; 8192]) 
     requires { (row_sound l ≡ true) × (item_sound l ≡ true) × Checked l s.now parts }
     ensures { KeptAll (item_read l s.now) result out.old out.new }
 {
-    if l.kind != COMPOUND {
-        return parts_fields(false, l, s, parts, out, 0);
+    match l.kind {
+        Kind::Compound => {
+            let first = l.first;
+            let octets = l.end - first;
+            let Ok(primary) = primary_of(first, octets, s) else {
+                unreachable!()
+            };
+            let subfields = &s[primary.count..];
+            subfields_fields(7 * first, 7 * octets, primary.bits, subfields, out)
+        }
+        _ => parts_fields(false, l, s, parts, out, 0),
     }
-    let first = l.first;
-    let octets = l.end - first;
-    let Primary::Octets { bits, count } = primary_of(first, octets, s) else {
-        return 0;
-    };
-    subfields_fields(7 * first, 7 * octets, bits, &s[count..], out)
 }

@@ -1,18 +1,19 @@
 // The primary octets of a compound item: an octet whose FX bit is set is followed by another.
 ghost use Rattle.std.specs.Prelude.{◌≡◌, ◌+◌, ◌*◌, ◌/◌, ◌^◌, ◌≤◌, ◌<◌};
+ghost use Rattle.rules.specs.Answer.{ok};
 ghost use Rattle.tables.specs.Tables.{primary_count};
-ghost use Rattle.compounds.specs.Compound.{Small, known, last_of, before_of, primary, primary_is};
+ghost use Rattle.compounds.specs.Compound.{Small, known, last_of, before_of, primary, bits_is, primary_is};
 
 use numbers::wide;
+use rules::Fault;
 use tables::{pow2, primary_at};
 
-// What the primary octets at the start of a part say.
-#[derive(Drop)]
-pub enum Primary {
-    // The bits that they set, seven to each printed octet, the first octet's highest; and how many octets there are.
-    Octets { bits: u64, count: usize },
-    // 9, 6, 7 or 8.
-    Refused { number: u8 },
+// What the primary octets at the start of a part say: the bits that they set, seven to each printed octet, the first octet's highest; and how many octets
+// there are.
+#[derive(Clone, Copy)]
+pub struct PrimaryOctets {
+    pub bits: u64,
+    pub count: usize,
 }
 
 // Whether every bit of an octet, FX apart, has a subfield.
@@ -33,54 +34,52 @@ fn raised(x: u8, left: usize) -> u64
 }
 
 // The last primary octet, before so many printed ones that are not there.
-fn last_of(row: usize, left: usize, x: u8) -> Primary
+fn last_of(row: usize, left: usize, x: u8) -> Result<PrimaryOctets, Fault>
     requires { (row < primary_count) × (left ≤ 7) }
     ensures { primary_is result ≡ last_of row left x }
 {
     if x / 2 == 0 {
-        return Primary::Refused { number: 7 };
+        return Err(Fault::NothingNamed);
     }
     if !is_known(row, x) {
-        return Primary::Refused { number: 8 };
+        return Err(Fault::NotUsable);
     }
-    Primary::Octets {
+    Ok(PrimaryOctets {
         bits: raised(x, left),
         count: 1,
-    }
+    })
 }
 
-// One that is not the last: what those after it say, its own bits before theirs.
-fn before(row: usize, left: usize, x: u8, after: Primary) -> Primary
-    requires { (row < primary_count) × (left ≤ 7) × Small left (primary_is after) }
-    ensures { primary_is result ≡ before_of row left x (primary_is after) }
+// One that is not the last: its own bits before those of the octets after it.
+fn before(row: usize, left: usize, x: u8, after: PrimaryOctets) -> Result<PrimaryOctets, Fault>
+    requires { (row < primary_count) × (left ≤ 7) × Small left (ok (bits_is after)) }
+    ensures { primary_is result ≡ before_of row left x (ok (bits_is after)) }
 {
-    let Primary::Octets { bits, count } = after else {
-        return after;
-    };
     if !is_known(row, x) {
-        return Primary::Refused { number: 8 };
+        return Err(Fault::NotUsable);
     }
-    Primary::Octets {
-        bits: raised(x, left) + bits,
-        count: count + 1,
-    }
+    Ok(PrimaryOctets {
+        bits: raised(x, left) + after.bits,
+        count: after.count + 1,
+    })
 }
 
 // The primary octets at the start of a part, from a row of the table on, so many printed ones left: 9 where one is not there, 6 where FX asks for more than
-// are printed; then 7 where the last is 00, 8 where a bit is set that has no subfield.
-pub fn primary_of(row: usize, left: usize, s: &[u8]) -> Primary
+// are printed; then 7 where the last is 00, 8 where a bit is set that has no subfield. (Recursive, as docs/DECISIONS.md has it.)
+pub fn primary_of(row: usize, left: usize, s: &[u8]) -> Result<PrimaryOctets, Fault>
     requires { (row + left ≤ primary_count) × (left ≤ 7) }
     ensures { primary_is result ≡ primary row left s.now }
 {
     if left == 0 {
-        return Primary::Refused { number: 6 };
+        return Err(Fault::FxPastEnd);
     }
     if s.len() == 0 {
-        return Primary::Refused { number: 9 };
+        return Err(Fault::ItemCut);
     }
     let x = s[0];
     if x % 2 == 0 {
         return last_of(row, left - 1, x);
     }
-    before(row, left - 1, x, primary_of(row + 1, left - 1, &s[1..]))
+    let after = primary_of(row + 1, left - 1, &s[1..])?;
+    before(row, left - 1, x, after)
 }

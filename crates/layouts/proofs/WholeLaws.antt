@@ -76,7 +76,7 @@ free_parts g (suc c) bs o s h f =
 -- ---- shapes with legal fields
 
 -- parts that have no FX bit share one group
-one_group : (k : Kind) → ¬ (k ≡ Extended) → step_of k ≡ 0
+pub one_group : (k : Kind) → ¬ (k ≡ Extended) → step_of k ≡ 0
 one_group NoItem h = refl
 one_group Fixed h = refl
 one_group Repeated h = refl

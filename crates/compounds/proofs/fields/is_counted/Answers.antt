@@ -1,9 +1,9 @@
 -- `compounds::fields::is_counted` meets its contract. Assumes nothing.
-use Rattle.compounds.proofs.FieldLaws.{counted_list, counted_led}
+use Rattle.compounds.proofs.FieldLaws.{one_octet, other_octet}
 use Rattle.compounds.proofs.fields.is_counted.Goals as goal
 
-pub returns-then-kind-eq-REPEATED : goal.returns-then-kind-eq-REPEATED
-returns-then-kind-eq-REPEATED c = counted_list _ c.if-kind-eq-REPEATED.true
+pub returns-in-Repeated : goal.returns-in-Repeated
+returns-in-Repeated c = one_octet _ c.in-Repeated.is
 
-pub returns : goal.returns
-returns c = counted_led _ c.if-kind-eq-REPEATED.false
+pub returns-in_default : goal.returns-in_default
+returns-in_default c = other_octet _ c.in_default.not-Repeated c.in_default.not-Led

@@ -28,13 +28,13 @@ overflow_sub-l c =
 
 pub absent_store-requires : goal.absent_store-requires
 absent_store-requires c =
-    let e : step_of c.args.l.kind * (c.args.l.most - c.args.parts) ≡ c.args.l.most - c.args.parts = ap (λ k. step_of k * (c.args.l.most - c.args.parts)) c.if-l-eq-EXTENDED.true ∙ one-mul _ in
+    let e : step_of c.args.l.kind * (c.args.l.most - c.args.parts) ≡ c.args.l.most - c.args.parts = ap (λ k. step_of k * (c.args.l.most - c.args.parts)) c.in-Extended.is ∙ one-mul _ in
     omega (arith, fields_few c.args.l _ _ (octets_at_lem (goal.at.absent_store-requires c).After-shared_slice_known-1) c.requires.0 c.requires.1 c.args.start _ c.requires.2 (count_short c.args.sub c.args.l.kind c.args.parts), c.count_store-at.ensures.0, c.item_store-end.ensures.0)
 
-pub returns-then-l-eq-EXTENDED : goal.returns-then-l-eq-EXTENDED
-returns-then-l-eq-EXTENDED c =
-    stored_extended c.args.sub c.args.l c.args.s.now c.args.parts _ _ _ _ _ _ c.count_store-at.ensures c.item_store-end.ensures c.if-l-eq-EXTENDED.true _ _ c.absent_store.ensures
+pub returns-in-Extended : goal.returns-in-Extended
+returns-in-Extended c =
+    stored_extended c.args.sub c.args.l c.args.s.now c.args.parts _ _ _ _ _ _ c.count_store-at.ensures c.item_store-end.ensures c.in-Extended.is _ _ c.absent_store.ensures
 
-pub returns : goal.returns
-returns c =
-    stored_plain c.args.sub c.args.l c.args.s.now c.args.parts _ _ _ _ _ _ c.count_store-at.ensures c.item_store-end.ensures c.if-l-eq-EXTENDED.false
+pub returns-in_default : goal.returns-in_default
+returns-in_default c =
+    stored_plain c.args.sub c.args.l c.args.s.now c.args.parts _ _ _ _ _ _ c.count_store-at.ensures c.item_store-end.ensures c.in_default.not-Extended

@@ -1,9 +1,7 @@
--- What the loop keeps, and how much is left.
+-- What the loop keeps.
+use Prim.Native.Nat.{◌+◌, ◌-◌}
 use Rattle.compounds.proofs.SubfieldLaws.{Walking}
 use Rattle.compounds.proofs.subfields.subfields_of.Given as goal
 
-abbrev pub invariant-loop-more : goal.invariant-loop-more
-invariant-loop-more l = Walking l.first l.places l.bits l.s l.i l.more l.left l.at
-
-abbrev pub decreases-loop-more : goal.decreases-loop-more
-decreases-loop-more l = l.more
+abbrev pub invariant-loop-i : goal.invariant-loop-i
+invariant-loop-i l = Walking l.first l.places l.bits l.s l.i (l.first + l.places - l.i) l.left l.at
