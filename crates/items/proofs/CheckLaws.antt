@@ -33,6 +33,7 @@ use Rattle.compounds.specs.Compound.{Told, item_size, item_sound}
 use Rattle.compounds.proofs.ItemLaws.{item_told, no_row, row_item}
 use Rattle.compounds.proofs.SizeLaws.{whole_item, no_whole}
 use Rattle.items.specs.Answers.{size_of, check_at}
+pub use Rattle.items.specs.Answers.{Single, Free}
 
 -- ---- how many octets an item takes
 
@@ -56,16 +57,6 @@ check_is r profile frn bs h k o = go (layout_is (layout_at r.layout)) refl
 pub single_is : (i : ℕ) → get_or singles i 0 ≡ single_of (layout_at (place_row_at i).layout)
 unfolding singles place_row_at layout_at
 single_is i = get_or-map (λ r. single_of (layout_at r.layout)) (profile_rows 1 categories) i nowhere
-
-pub record Single (l : LayoutRow) (g : ℕ) : Type 0 where
-  pub kind : l.kind ≡ 1
-  pub group : l.first ≡ g
-
--- a free one, of so many octets
-pub record Free (l : LayoutRow) (n : ℕ) : Type 0 where
-  pub kind : l.kind ≡ 1
-  pub free : (group_at l.first).free ≡ true
-  pub size : (group_at l.first).octets ≡ n
 
 -- the number in the table says which
 pub single_of_lem : (l : LayoutRow) (n : ℕ) → row_sound l ≡ true → n ≡ single_of l → 8 ≤ n → Single l (n - 8)

@@ -1,3 +1,4 @@
+pub mod Tellings
 pub mod PlaceLaws
 pub mod CheckLaws
 pub mod OneLaws

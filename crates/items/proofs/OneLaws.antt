@@ -10,6 +10,7 @@ use native.Mathlib.Omega.{arith}
 use native.Mathlib.Nat.{add-zero}
 use lib.Dec.{eqb, leb}
 use lib.IntN.{ℤ}
+use Rattle.std.specs.Prelude.{Some, None}
 use lib.ListN.{length, length-append}
 use borrow.Author.Tests.{ne_eqb, le-leb, lt-leb}
 use Rattle.rules.specs.Answer.{Answer, ok, refused, ◌>>=◌, need◌or◌then◌, when◌then◌else◌, expect◌or◌, later}
@@ -26,7 +27,6 @@ use Rattle.rules.proofs.LayoutLaws.{item_laws}
 use Rattle.tables.specs.declared.tables.LayoutRow.{LayoutRow}
 use Rattle.tables.specs.declared.tables.PlaceRow.{PlaceRow}
 use Rattle.tables.specs.Tables.{layout_count, layout_is, layout_at, with, place_is}
-use Rattle.tables.proofs.TableLaws.{layout_none}
 use Rattle.tables.specs.Places.{frn_as}
 use Rattle.tables.specs.Profiles.{profile_in}
 use Rattle.layouts.proofs.SoundLaws.{layout_sound}
@@ -75,16 +75,22 @@ module _ (cat ref p : ℕ) (ep : p ≡ profile_in cat categories) where
       let l : layout_is (layout_at r.layout) ≡ some d.place.layout = with_some r.reference (layout_is (layout_at r.layout)) d.place (h ∙ found_place ref f (profile_at categories p) d) in
       rw l (sym (by_profile ∙ rw d.layout))
 
-  pub layout_missed : none ≡ frn_as ref 1 (flatten (profile_at categories p)) → (expect layout_is (layout_at 0) or 21) ≡ layout_of categories cat ref
+  pub layout_missed : none ≡ frn_as ref 1 (flatten (profile_at categories p)) → refused 21 0 ≡ layout_of categories cat ref
   unfolding expect◌or◌
-  layout_missed e = rw layout_none (sym (by_profile ∙ rw (missed ref 1 (flatten (profile_at categories p)) (sym e)).layout))
+  layout_missed e = sym (by_profile ∙ rw (missed ref 1 (flatten (profile_at categories p)) (sym e)).layout)
 
   -- the row that they name
-  pub row_found_lem : (f : ℕ) (r : PlaceRow) → some f ≡ frn_as ref 1 (flatten (profile_at categories p)) → r ≡ place_row p f → r.layout ≡ row_named cat ref
-  row_found_lem f r e h = ap (λ (x : PlaceRow). x.layout) h ∙ ap (row_found p) e ∙ ap (λ q. row_found q (frn_as ref 1 (flatten (profile_at categories q)))) ep
+  pub row_found_lem : (f : ℕ) (r : PlaceRow) → some f ≡ frn_as ref 1 (flatten (profile_at categories p)) → r ≡ place_row p f → Some r.layout ≡ row_named cat ref
+  row_found_lem f r e h = ap (λ (x : PlaceRow). Some x.layout) h ∙ ap (row_found p) e ∙ ap (λ q. row_found q (frn_as ref 1 (flatten (profile_at categories q)))) ep
 
-  pub row_missed : none ≡ frn_as ref 1 (flatten (profile_at categories p)) → 0 ≡ row_named cat ref
+  pub row_missed : none ≡ frn_as ref 1 (flatten (profile_at categories p)) → None ≡ row_named cat ref
   row_missed e = ap (row_found p) e ∙ ap (λ q. row_found q (frn_as ref 1 (flatten (profile_at categories q)))) ep
+
+  -- what was found is there
+  pub place_found : {A : Type 0} (f : ℕ) → some f ≡ frn_as ref 1 (flatten (profile_at categories p)) → none ≡ place_at (profile_at categories p) f → A
+  place_found f e h =
+      let d : Found ref 1 f (flatten (profile_at categories p)) = found ref 1 f (flatten (profile_at categories p)) (sym e) in
+      none_some (h ∙ found_place ref f (profile_at categories p) d)
 
 -- ---- an item that is all of the octets
 
@@ -125,6 +131,10 @@ one_is cat ref j bs h k o = go (layout_is (layout_at j)) refl
 pub record Answered (cat ref : ℕ) (bs : List ℕ) (m : Answer ℕ) (old new : List ℤ) : Type 0 where
   pub answer : m ≡ count_of (read_one categories cat ref bs)
   pub left : new ≡ leaves (read_one categories cat ref bs) old
+
+pub one_none : (cat ref : ℕ) (bs : List ℕ) (old : List ℤ) → refused 21 0 ≡ layout_of categories cat ref → Answered cat ref bs (refused 21 0) old old
+unfolding read_one count_of ◌>>=◌
+one_none cat ref bs old h = record { answer = rw (← h); left = rw (← h) }
 
 module _ (cat ref j : ℕ) (bs : List ℕ) (h : (expect layout_is (layout_at j) or 21) ≡ layout_of categories cat ref) (k : j < layout_count) (o : Octets bs) (old : List ℤ) {l : LayoutRow} (el : l ≡ layout_at j) where
   refused_with : (n p : ℕ) → read_one categories cat ref bs ≡ refused n p → Answered cat ref bs (refused n p) old old

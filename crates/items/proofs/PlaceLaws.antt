@@ -3,7 +3,7 @@
 -- In order: the item of a place's row; the search for a reference; the search and the rules' own. Assumes nothing.
 use Prim.Native.Nat.{ℕ, zero, suc, ◌+◌, ◌-◌, ◌≤◌, ◌<◌}
 use mathlib.Core.Path.{◌≡◌, refl, sym, ap, ◌∙◌}
-use mathlib.Core.Bool.{Bool, true, false, ◌&&◌, not, false≢true}
+use mathlib.Core.Bool.{Bool, true, false, not, false≢true}
 use mathlib.Core.Logic.{⊎_elim}
 use mathlib.Core.Option.{Option, none, some}
 use mathlib.Core.List.{List, [], ◌∷◌}
@@ -12,6 +12,7 @@ use native.Mathlib.Nat.{not-suc-le-zero}
 use lib.Dec.{eqb, lit≤}
 use lib.ListN.{length, get_or, drop, drop_of_length-le}
 use borrow.Author.Tests.{ne_eqb}
+use Rattle.std.specs.Prelude.{Some}
 use Rattle.rules.specs.Answer.{when◌then◌else◌}
 use Rattle.rules.specs.Chain.{flatten}
 use Rattle.rules.specs.Layout.{Layout}
@@ -32,22 +33,18 @@ present_layout : (j : ℕ) → j < layout_count → present (layout_is (layout_a
 present_layout zero h = ap present layout_none
 present_layout (suc j) h = layout_some j h ∙ ap not (sym (ne_eqb (suc j) 0 (λ e. absurd (omega arith))))
 
-named_with : (ref n : ℕ) (x : Option Layout) → is_named ref (with n x) ≡ (present x && eqb ref n)
-named_with ref n none = refl
-named_with ref n (some l) = refl
+reference_with : (n : ℕ) (x : Option Layout) → present x ≡ true → Some n ≡ reference_in (with n x)
+reference_with n none e = absurd (false≢true e)
+reference_with n (some l) e = refl
 
-pub place_named : (ref : ℕ) (r : PlaceRow) → r.layout < layout_count → is_named ref (place_is r) ≡ (not (eqb r.layout 0) && eqb ref r.reference)
+pub place_reference : (r : PlaceRow) → 0 < r.layout → r.layout < layout_count → Some r.reference ≡ reference_in (place_is r)
 unfolding place_is
-place_named ref r h = named_with ref r.reference (layout_is (layout_at r.layout)) ∙ ap (λ t. t && eqb ref r.reference) (present_layout r.layout h)
+place_reference r k h = reference_with r.reference (layout_is (layout_at r.layout)) (present_layout r.layout h ∙ ap not (ne_eqb r.layout 0 (λ e. absurd (omega arith))))
 
-reference_with : (n : ℕ) (x : Option Layout) → reference_in (with n x) ≡ (when present x then n else 0)
-unfolding when◌then◌else◌
-reference_with n none = refl
-reference_with n (some l) = refl
-
-pub place_reference : (r : PlaceRow) → r.layout < layout_count → reference_in (place_is r) ≡ (when not (eqb r.layout 0) then r.reference else 0)
+-- a place without a layout has no item
+pub no_item : (r : PlaceRow) → r.layout ≡ 0 → place_is r ≡ none
 unfolding place_is
-place_reference r h = reference_with r.reference (layout_is (layout_at r.layout)) ∙ ap (λ t. when t then r.reference else 0) (present_layout r.layout h)
+no_item r e = rw (e, layout_none)
 
 -- ---- the search for a reference
 

@@ -1,10 +1,12 @@
 -- `items::check_single` meets its contract. Assumes nothing.
+use mathlib.Core.Path.{◌∙◌}
 use lib.Dec.{lit≤}
+use Rattle.items.proofs.Tellings.{refused_as}
 use Rattle.items.proofs.CheckLaws.{single_cut, single_legal, single_barred, single_walk}
 use Rattle.items.proofs.check_single.Goals as goal
 
 pub returns-then-part-size : goal.returns-then-part-size
-returns-then-part-size c = single_cut _ _ c.size_at-size.ensures c.if-part-size.true
+returns-then-part-size c = refused_as _ _ _ c.at.ensures.is c.at.ensures.place ∙ single_cut _ _ c.size_at-size.ensures c.if-part-size.true
 
 pub returns-then-part_legal : goal.returns-then-part_legal
 returns-then-part_legal c = single_legal _ _ c.size_at-size.ensures c.if-part-size.false c.part_legal.ensures c.if-part_legal.true
@@ -15,4 +17,4 @@ fault_at-requires c =
     (lit≤ tt, w.0, w.1)
 
 pub returns : goal.returns
-returns c = single_barred _ _ c.size_at-size.ensures c.if-part-size.false c.part_legal.ensures c.if-part_legal.false c.fault_at.ensures
+returns c = refused_as _ _ _ c.at-2.ensures.is c.at-2.ensures.place ∙ single_barred _ _ c.size_at-size.ensures c.if-part-size.false c.part_legal.ensures c.if-part_legal.false c.fault_at.ensures
