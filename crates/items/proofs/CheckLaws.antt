@@ -9,19 +9,21 @@ use mathlib.Core.Option.{Option, none, some}
 use mathlib.Core.List.{List, []}
 use native.Mathlib.Omega.{arith}
 use native.Mathlib.Nat.{add-zero}
-use lib.Dec.{eqb, lit<}
+use lib.Dec.{lit<}
 use lib.ListN.{length, get_or, drop, get_or-map}
-use borrow.Author.Tests.{le-leb, lt-leb, lt-ltb, eqb-true}
+use borrow.Author.Tests.{le-leb, lt-leb, lt-ltb}
 use Rattle.rules.specs.Answer.{ok, refused, ◌>>=◌, need◌or◌then◌, expect◌or◌}
 use Rattle.rules.specs.Layout.{Layout, read_item}
 use Rattle.rules.specs.Presence.{place_at}
 use Rattle.rules.specs.Catalogue.{categories}
 use Rattle.rules.specs.Entry.{profile_at}
 use Rattle.rules.proofs.AnswerLaws.{Octets, bind_in, bind_assoc, bind_cong}
+use Rattle.tables.specs.declared.tables.Kind.TheVariants.{Fixed, Compound}
 use Rattle.tables.specs.declared.tables.LayoutRow.{LayoutRow}
 use Rattle.tables.specs.declared.tables.PlaceRow.{PlaceRow}
-use Rattle.tables.specs.Tables.{group_count, layout_count, profile_count, frn_count, group_at, layout_is, layout_at, nowhere, profile_rows, place_row_at, place_is}
+use Rattle.tables.specs.Tables.{kind_digit, same_kind, group_count, layout_count, profile_count, frn_count, group_at, layout_is, layout_at, nowhere, profile_rows, place_row_at, place_is}
 use Rattle.tables.specs.FieldRules.{single_of, singles}
+use Rattle.tables.proofs.KindLaws.{kind_true}
 use Rattle.tables.proofs.TableLaws.{place_is_lem, place_row_lem, place_none}
 use Rattle.layouts.specs.Read.{rows_at, part_at, legal, span, part_sound, parts_sound, parts_legal, fault_at, need◌or◌further◌then◌, Shaped, step_of, shape_by, shape_of, whole_of, whole_size, row_sound, single_size}
 use Rattle.layouts.proofs.PartLaws.{First, first_part}
@@ -60,20 +62,20 @@ single_is i = get_or-map (λ r. single_of (layout_at r.layout)) (profile_rows 1 
 
 -- the number in the table says which
 pub single_of_lem : (l : LayoutRow) (n : ℕ) → row_sound l ≡ true → n ≡ single_of l → 8 ≤ n → Single l (n - 8)
-single_of_lem l n s e h = go (eqb l.kind 1) refl (group_at l.first).free e
+single_of_lem l n s e h = go (same_kind l.kind Fixed) refl (group_at l.first).free e
   where
-    go : (t : Bool) → eqb l.kind 1 ≡ t → (u : Bool) → n ≡ cond t (cond u (group_at l.first).octets (8 + l.first)) 0 → Single l (n - 8)
+    go : (t : Bool) → same_kind l.kind Fixed ≡ t → (u : Bool) → n ≡ cond t (cond u (group_at l.first).octets (8 + l.first)) 0 → Single l (n - 8)
     go true q true r =
-        let k : l.kind ≡ 1 = eqb-true l.kind 1 q in
+        let k : l.kind ≡ Fixed = kind_true l.kind Fixed q in
         absurd (omega (arith, fixed_short l (rowed l s) k))
-    go true q false r = record { kind = eqb-true l.kind 1 q; group = omega arith }
+    go true q false r = record { kind = kind_true l.kind Fixed q; group = omega arith }
     go false q u r = absurd (omega arith)
 
 pub free_of : (l : LayoutRow) (n : ℕ) → n ≡ single_of l → 0 < n → n < 8 → Free l n
-free_of l n e h k = go (eqb l.kind 1) refl (group_at l.first).free refl e
+free_of l n e h k = go (same_kind l.kind Fixed) refl (group_at l.first).free refl e
   where
-    go : (t : Bool) → eqb l.kind 1 ≡ t → (u : Bool) → (group_at l.first).free ≡ u → n ≡ cond t (cond u (group_at l.first).octets (8 + l.first)) 0 → Free l n
-    go true q true f r = record { kind = eqb-true l.kind 1 q; free = f; size = sym r }
+    go : (t : Bool) → same_kind l.kind Fixed ≡ t → (u : Bool) → (group_at l.first).free ≡ u → n ≡ cond t (cond u (group_at l.first).octets (8 + l.first)) 0 → Free l n
+    go true q true f r = record { kind = kind_true l.kind Fixed q; free = f; size = sym r }
     go true q false f r = absurd (omega arith)
     go false q u f r = absurd (omega arith)
 
@@ -83,8 +85,8 @@ unfolding whole_size ◌>>=◌
 check_whole l bs c long e = rw (← e)
 
 -- an item with one part is not compound
-pub one_part : (l : LayoutRow) (bs : List ℕ) → l.kind ≡ 1 → whole_size l bs ≡ item_size l bs
-one_part l bs h = whole_item l bs (λ e. absurd (omega (arith, h, e)))
+pub one_part : (l : LayoutRow) (bs : List ℕ) → l.kind ≡ Fixed → whole_size l bs ≡ item_size l bs
+one_part l bs h = whole_item l bs (λ e. absurd (omega (arith, ap kind_digit h, ap kind_digit e)))
 
 -- it needs no look
 module _ (l : LayoutRow) (n : ℕ) (bs : List ℕ) (s : row_sound l ≡ true) (o : Octets bs) (f : Free l n) where
@@ -95,7 +97,7 @@ module _ (l : LayoutRow) (n : ℕ) (bs : List ℕ) (s : row_sound l ≡ true) (o
   pub free_there : n ≤ length bs → ok n ≡ whole_size l bs
   free_there h =
       check_whole l bs 1 n
-      (equal_free l bs 1 n (sym (fixed_there l bs f.kind (sym f.size) h)) s o (λ e. absurd (omega (arith, f.kind, e))) (sym f.free) refl)
+      (equal_free l bs 1 n (sym (fixed_there l bs f.kind (sym f.size) h)) s o (λ e. absurd (omega (arith, ap kind_digit f.kind, ap kind_digit e))) (sym f.free) refl)
 
 one_part_size : (u : Bool) (p n : ℕ) → (need u or 11 further p then ok n) ≡ (◌>>=◌ {A = Shaped} (need (u && true) or 11 further p then ok (1, n)) (λ s. ok s.1))
 unfolding need◌or◌further◌then◌ ◌>>=◌
@@ -147,7 +149,7 @@ whole_check profile frn bs n h k o e =
     let l : LayoutRow = layout_at (place_row_at (profile * frn_count + frn)).layout in
     sym (check_place profile frn bs h k o) ∙ sym (whole_item l bs (no_whole l bs n e)) ∙ e
 
-pub plain_check : (profile frn : ℕ) (bs : List ℕ) → profile < profile_count → frn < frn_count → Octets bs → ¬ ((layout_at (place_row_at (profile * frn_count + frn)).layout).kind ≡ 5)
+pub plain_check : (profile frn : ℕ) (bs : List ℕ) → profile < profile_count → frn < frn_count → Octets bs → ¬ ((layout_at (place_row_at (profile * frn_count + frn)).layout).kind ≡ Compound)
     → whole_size (layout_at (place_row_at (profile * frn_count + frn)).layout) bs ≡ check_at profile frn bs
 plain_check profile frn bs h k o z = whole_item (layout_at (place_row_at (profile * frn_count + frn)).layout) bs z ∙ check_place profile frn bs h k o
 

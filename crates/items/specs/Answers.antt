@@ -11,6 +11,7 @@ use Rattle.rules.specs.Record.{Place}
 use Rattle.rules.specs.Catalogue.{categories}
 use Rattle.rules.specs.Entry.{profile_at}
 unfoldable pub use Rattle.tables.specs.Profiles.{profile_in}
+use Rattle.tables.specs.declared.tables.Kind.TheVariants.{Fixed}
 use Rattle.tables.specs.declared.tables.LayoutRow.{LayoutRow}
 use Rattle.tables.specs.declared.tables.PlaceRow.{PlaceRow}
 use Rattle.tables.specs.Tables.{profile_count, frn_count, layout_count, nowhere, group_at, layout_is, layout_at, place_row_at, place_is}
@@ -64,12 +65,12 @@ checked_of = told
 
 -- an item with one part, by its group
 pub record Single (l : LayoutRow) (g : ℕ) : Type 0 where
-  pub kind : l.kind ≡ 1
+  pub kind : l.kind ≡ Fixed
   pub group : l.first ≡ g
 
 -- a free one, of so many octets
 pub record Free (l : LayoutRow) (n : ℕ) : Type 0 where
-  pub kind : l.kind ≡ 1
+  pub kind : l.kind ≡ Fixed
   pub free : (group_at l.first).free ≡ true
   pub size : (group_at l.first).octets ≡ n
 

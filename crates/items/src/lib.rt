@@ -13,7 +13,7 @@ ghost use Rattle.compounds.specs.Compound.{item_size};
 ghost use Rattle.items.specs.Answers.{place_of, HasItem, reference_in, frn_of, IsPart, layout_named, row_named, checked_of, check_at, read_of, count_of};
 
 use compounds::{item_fields, item_of};
-use layouts::{Parts, fault_at, part_legal};
+use layouts::{Parts, Run};
 use rules::{Fault, Refusal};
 use tables::{
     FRNS, PROFILES, PlaceRow, layout_at, layout_row, place_at, profile_of, single_at, size_at,
@@ -71,10 +71,16 @@ fn check_single(group: usize, part: &[u8]) -> Result<usize, Refusal>
     if part.len() < size {
         return Err(Fault::ItemCut.at(0));
     }
-    if part_legal(part, 0, group, 0) {
+    let run = Run {
+        at: 0,
+        count: 1,
+        group,
+        step: 0,
+    };
+    if run.first_legal(part) {
         return Ok(size);
     }
-    Err(Fault::FieldBarred.at(fault_at(part, 0, 1, group, 0)))
+    Err(Fault::FieldBarred.at(run.fault_at(part)))
 }
 
 // The one part of an item.
