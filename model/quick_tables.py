@@ -19,10 +19,10 @@ from rows import PROFILES
 
 CRATES = pathlib.Path(__file__).resolve().parents[1] / "crates"
 
-# ---- rules and words, `steps` of crates/quick_items/src/lib.rt
+# ---- rules and words, `WORDS` of crates/quick_items/src/lib.rt
 
 RULES = 16  # as many as a digit of a word can name
-RULED, COUNTED, EXTENDED, TWICE, SIZED = 1, 2, 3, 4, 5
+RULED, COUNTED, EXTENDED, TWICE, SIZED = 1, 2, 3, 4, 5  # as `kind_of` there reads them
 ANY_BITS = (0x00_000000, 0x28_FFFFFF)
 
 
@@ -132,7 +132,7 @@ def step(place, rules):
 def steps():
     rules = Rules()
     out = [(step(place, rules), rows.at_frn(place)) for place in rows.places()]
-    return aligned(out + rules.rows(0) + rules.rows(1), 8)
+    return aligned(out + rules.rows(0) + rules.rows(1), 4)
 
 
 # ---- message types and their sets, crates/quick_records/src/lent.rt

@@ -1,7 +1,8 @@
 -- What a word of the table tells of an item is what the exact check answers.
 --
--- In order: what is told; the words of the table; a free item; the item of a profile at an FRN; the first three octets of a part; a rule; one part with a rule; a list or a led item;
+-- In order: the words of the table; a free item; the item of a profile at an FRN; the first three octets of a part; a rule; one part with a rule; a list or a led item;
 -- an extended item; the octets of an item that is legal. Assumes nothing.
+use Rattle.std.specs.Prelude.{Option, Some, None}
 use Prim.Native.Nat.{ℕ, zero, suc, ◌+◌, ◌-◌, ◌*◌, ◌/◌, ◌%◌, ◌<◌, ◌≤◌, ◌^◌}
 use mathlib.Core.Path.{◌≡◌, refl, sym, ap, ap₂, ◌∙◌, subst}
 use mathlib.Core.Bool.{Bool, true, false, cond, ◌&&◌, ◌||◌, false≢true}
@@ -9,12 +10,13 @@ use mathlib.Core.List.{List, [], ◌∷◌}
 use mathlib.Core.Logic.{⊎_elim}
 use native.Mathlib.Omega.{arith}
 use native.Mathlib.Nat.{le_of_suc-le-suc, not-suc-le-zero, mul-le-mul_left, mul-zero}
+use Rattle.std.proofs.lemmas.Option.{none-some}
 use lib.Dec.{leb, ltb, eqb, lit<, eqb-suc-zero}
 use lib.ListN.{length, get_or, take, drop, length-drop, get_or-eq_default}
 use lib.Seq.{slice, take_all}
 use lib.Pow.{shr_le, shr-shr, shl-shr, high, field}
 use borrow.Author.Tests.{leb-true, ltb-true, eqb-true, eq-eqb, ne_eqb, lt-ltb, le-ltb}
-use Rattle.rules.specs.Answer.{Answer, ok, when◌then◌else◌}
+use Rattle.rules.specs.Answer.{ok, when◌then◌else◌}
 use Rattle.rules.specs.Catalogue.{categories}
 use Rattle.rules.specs.Chain.{joined}
 use Rattle.rules.proofs.AnswerLaws.{if_true, if_false, Octets, both_left, both_right, octets_drop}
@@ -23,7 +25,9 @@ use Rattle.tables.specs.declared.tables.PlaceRow.{PlaceRow}
 use Rattle.items.specs.Answers.{check_at}
 use Rattle.tables.specs.Tests.{all_below}
 use Rattle.tables.specs.FieldRules.{Rule, obeys, all_obeyed, rules, first_rule, single_of, singles}
-use Rattle.quick_items.specs.Item.{Plainly, rule_in, next_in, first_three, down_of, added_of, up_of, limit_of, asks, same_rule, same_rules, sound_rule, low_at, high_at, asked, sound_row, sound_free, sound_single, sound_counted, sound_extended, same_pair, sound_twice, sound_by, sound_word, sound_words, sound_steps, row_octets, row_tells, word_octets, exact_word, exact_steps, is_place, word_for, row_of, size_or0, octets_at}
+use Rattle.quick_items.specs.declared.Kind.{Kind}
+use Rattle.quick_items.specs.declared.Kind.TheVariants as kind
+use Rattle.quick_items.specs.Item.{Plainly, kind_by, place_for, rule_in, next_in, first_three, down_of, added_of, up_of, limit_of, asks, same_rule, same_rules, sound_rule, low_at, high_at, asked, sound_row, sound_free, sound_single, sound_counted, sound_extended, same_pair, sound_twice, sound_by, sound_word, sound_words, sound_steps, row_octets, row_tells, word_octets, exact_word, exact_steps, is_place, word_for, row_of, size_or0, octets_at}
 use Rattle.layouts.specs.Read.{rows_at, part_at, legal, part_sound, parts_legal, chain, list_shape, shape_of, whole_size, row_sound}
 use Rattle.tables.specs.Tables.{profile_count, frn_count, place_count, group_count, group_at, layout_at, nowhere, profile_rows, place_row_at}
 use Rattle.items.proofs.CheckLaws.{Single, single_is, single_size_lem, single_sound, single_legal, free_of, free_there, check_whole, whole_check}
@@ -39,16 +43,6 @@ pub other : (a b : Bool) → a || b ≡ true → (a ≡ true → ⊥) → b ≡ 
 other true b h n = absurd (n refl)
 other false b h n = h
 
--- ---- what is told is what the exact check answers
-
-pub told : (n : ℕ) (a : Answer ℕ) → Plainly n a → (n ≡ 0 → ⊥) → a ≡ ok n
-told zero a h z = absurd (z refl)
-told (suc n) a h z = h
-
-pub plainly : (n : ℕ) {a : Answer ℕ} → ok n ≡ a → Plainly n a
-plainly zero e = tt
-plainly (suc n) e = sym e
-
 -- ---- the words of the table
 
 words_each : (t ws : List ℕ) (ps : List PlaceRow) (i : ℕ) → sound_words t ws ps ≡ true → i < length ps → sound_word t (get_or ws i 0) (layout_at (get_or ps i nowhere).layout) ≡ true
@@ -57,6 +51,26 @@ words_each t [] ps i h k = refl
 words_each t (w ∷ ws) [] i h k = absurd (not-suc-le-zero k)
 words_each t (w ∷ ws) (p ∷ ps) zero h k = both_left (sound_word t w (layout_at p.layout)) (sound_words t ws ps) h
 words_each t (w ∷ ws) (p ∷ ps) (suc i) h k = words_each t ws ps i (both_right (sound_word t w (layout_at p.layout)) (sound_words t ws ps) h) (le_of_suc-le-suc k)
+
+abbrev pub number_of : Kind → ℕ
+number_of kind.Free = 0
+number_of kind.Ruled = 1
+number_of kind.Counted = 2
+number_of kind.Extended = 3
+number_of kind.Twice = 4
+number_of kind.Sized = 5
+
+-- the digit that says how the parts lie
+pub kind_digit : (k : Kind) {d : ℕ} → k ≡ kind_by d → number_of k < 5 → d ≡ number_of k
+kind_digit k {d = d} e l = go d (subst (λ x. number_of x < 5) e l) ∙ ap number_of (sym e)
+  where
+    go : (d : ℕ) → number_of (kind_by d) < 5 → d ≡ number_of (kind_by d)
+    go zero h = refl
+    go (suc zero) h = refl
+    go (suc (suc zero)) h = refl
+    go (suc (suc (suc zero))) h = refl
+    go (suc (suc (suc (suc zero)))) h = refl
+    go (suc (suc (suc (suc (suc n))))) h = absurd (omega arith)
 
 places_long : length (profile_rows 1 categories) ≡ place_count
 unfolding categories
@@ -71,11 +85,11 @@ word_sound t i k s h e d =
 
 -- ---- a free item
 
-pub free_told : (l : LayoutRow) (w : ℕ) (bs : List ℕ) → row_sound l ≡ true → Octets bs → sound_free w l ≡ true → w < 8 → w ≤ length bs → Plainly w (whole_size l bs)
-free_told l zero bs r o s h k = tt
-free_told l (suc n) bs r o s h k =
+pub free_told : (l : LayoutRow) (w : ℕ) (bs : List ℕ) → row_sound l ≡ true → Octets bs → sound_free w l ≡ true → (w ≡ 0 → ⊥) → w < 8 → w ≤ length bs → whole_size l bs ≡ ok w
+free_told l zero bs r o s z h k = absurd (z refl)
+free_told l (suc n) bs r o s z h k =
     let e : suc n ≡ single_of l = eqb-true (suc n) (single_of l) (subst (λ b. cond b true (eqb (suc n) (single_of l)) ≡ true) (eqb-suc-zero n) s) in
-    plainly (suc n) (free_there l (suc n) bs r o (free_of l (suc n) e (omega arith) h) k)
+    sym (free_there l (suc n) bs r o (free_of l (suc n) e (omega arith) h) k)
 
 pub free_check : (profile frn n : ℕ) (bs : List ℕ) → profile < profile_count → frn < frn_count → Octets bs → get_or singles (profile * frn_count + frn) 0 ≡ n → 0 < n → n < 8 → n ≤ length bs
     → check_at profile frn bs ≡ ok n
@@ -86,11 +100,35 @@ free_check profile frn n bs h k o e a b l =
 
 -- ---- the item of a profile at an FRN
 
+-- a place of the tables is an item's
+pub place_there : (i f : ℕ) {p : ℕ} → Some p ≡ place_for i f → (i < profile_count) × (f < frn_count) × (p ≡ i * frn_count + f)
+unfolding place_for when◌then◌else◌
+place_there i f {p = p} e = go (is_place i f) refl e
+  where
+    go : (b : Bool) → is_place i f ≡ b → Some p ≡ (when b then Some (i * frn_count + f) else None) → (i < profile_count) × (f < frn_count) × (p ≡ i * frn_count + f)
+    go true h q =
+        (ltb-true i profile_count (both_left (ltb i profile_count) (ltb f frn_count) h), ltb-true f frn_count (both_right (ltb i profile_count) (ltb f frn_count) h), cc)
+    go false h q = absurd (none-some _ (sym q))
+
+module _ (i f : ℕ) where
+  pub place_past : profile_count ≤ i → None ≡ place_for i f
+  unfolding place_for
+  place_past h = sym (if_false _ (ap (λ b. b && ltb f frn_count) (le-ltb i profile_count h)) refl)
+
+  pub place_beyond : i < profile_count → frn_count ≤ f → None ≡ place_for i f
+  unfolding place_for
+  place_beyond h k = sym (if_false _ (ap₂ ◌&&◌ (lt-ltb i profile_count h) (le-ltb f frn_count k)) refl)
+
+  pub place_is : i < profile_count → f < frn_count → Some (i * frn_count + f) ≡ place_for i f
+  unfolding place_for
+  place_is h k = sym (if_true _ (ap₂ ◌&&◌ (lt-ltb i profile_count h) (lt-ltb f frn_count k)) refl)
+
 -- what is told at a place is told of the item there, by a slice's octets
-pub at_place : (profile frn n : ℕ) (bs : List ℕ) → profile < profile_count → frn < frn_count → ((i : ℕ) → get_or bs i 0 < 256) → Plainly n (whole_size (layout_at (place_row_at (profile * frn_count + frn)).layout) bs)
-    → Plainly n (check_at profile frn bs)
-at_place profile frn zero bs h k o p = tt
-at_place profile frn (suc n) bs h k o p = whole_check profile frn bs (suc n) h k (octets_known bs o) p
+pub at_place : (profile frn : ℕ) {p : ℕ} (r : Option ℕ) (bs : List ℕ) → Some p ≡ place_for profile frn → ((i : ℕ) → get_or bs i 0 < 256) → Plainly r (whole_size (layout_at (place_row_at p).layout) bs) → Plainly r (check_at profile frn bs)
+at_place profile frn None bs e o h = tt
+at_place profile frn (Some n) bs e o h =
+    let t = place_there profile frn e in
+    whole_check profile frn bs n t.0 t.1 (octets_known bs o) (subst (λ k. whole_size (layout_at (place_row_at k).layout) bs ≡ ok n) t.2 h)
 
 -- ---- the first three octets of a part
 
@@ -231,7 +269,7 @@ asked_legal low high step g bs o h p l s e = obeyed_legal step g bs o h p l (ask
 module _ (l : LayoutRow) (w : ℕ) (bs : List ℕ) (r : row_sound l ≡ true) (o : Octets bs) (h : w % 16 ≤ length bs) where
   -- it obeys its rules
   single_told : (c : Bool) → eqb l.kind 1 && eqb (group_at l.first).octets (w % 16) && c ≡ true
-      → (l.first < group_count → part_sound 0 (group_at l.first) ≡ true → (group_at l.first).octets ≤ length bs → c ≡ true → legal (rows_at l.first) (part_at 0 l.first bs) ≡ true) → Plainly (w % 16) (whole_size l bs)
+      → (l.first < group_count → part_sound 0 (group_at l.first) ≡ true → (group_at l.first).octets ≤ length bs → c ≡ true → legal (rows_at l.first) (part_at 0 l.first bs) ≡ true) → whole_size l bs ≡ ok (w % 16)
   single_told c s f =
       let a = eqb l.kind 1 in
       let b = eqb (group_at l.first).octets (w % 16) in
@@ -239,14 +277,14 @@ module _ (l : LayoutRow) (w : ℕ) (bs : List ℕ) (r : row_sound l ≡ true) (o
       let m : w % 16 ≡ (group_at l.first).octets = sym (eqb-true _ _ (both_right a b u)) in
       let g : Single l l.first = record { kind = eqb-true l.kind 1 (both_left a b u); group = refl } in
       let p = single_sound l l.first r g in
-      plainly (w % 16) (single_legal l.first bs m h (sym (f p.0 p.1 (omega arith) (both_right (a && b) c s))) refl ∙ single_size_lem l l.first bs g)
+      sym (single_legal l.first bs m h (sym (f p.0 p.1 (omega arith) (both_right (a && b) c s))) refl ∙ single_size_lem l l.first bs g)
 
-  pub ruled_told : (low high : ℕ) → sound_single low high w l ≡ true → asks low high (first_three bs) ≡ true → Plainly (w % 16) (whole_size l bs)
+  pub ruled_told : (low high : ℕ) → sound_single low high w l ≡ true → asks low high (first_three bs) ≡ true → whole_size l bs ≡ ok (w % 16)
   unfolding sound_single
   ruled_told low high s e = single_told (sound_rule low high 0 l.first) s (λ p q k d. asked_legal low high 0 l.first bs o p q k d e)
 
   pub twice_told : (t : List ℕ) → sound_twice t w l ≡ true → asked t (rule_in w) (first_three bs) ≡ true → asked t (next_in w) (first_three bs) ≡ true
-      → Plainly (w % 16) (whole_size l bs)
+      → whole_size l bs ≡ ok (w % 16)
   unfolding sound_twice
   twice_told t s e f =
       let rs = slice (first_rule l.first) (first_rule (l.first + 1)) rules in
@@ -261,9 +299,9 @@ module _ (l : LayoutRow) (w : ℕ) (bs : List ℕ) (r : row_sound l ≡ true) (o
   unfolding sound_counted
   counted_whole c long k e q m = check_whole l bs c long (equal_free l bs c long (sym e) r o (λ z. absurd (omega (arith, q, z))) refl (both_left (group_at l.first).free _ s))
 
-  pub counted_told : w / 4_096 % 16 ≤ n → w % 16 + n * (w / 16 % 16) ≤ length bs → Plainly (w % 16 + n * (w / 16 % 16)) (whole_size l bs)
+  pub counted_told : w / 4_096 % 16 ≤ n → w % 16 + n * (w / 16 % 16) ≤ length bs → whole_size l bs ≡ ok (w % 16 + n * (w / 16 % 16))
   unfolding sound_counted
-  counted_told least there = plainly (w % 16 + n * (w / 16 % 16)) (go (eqb l.kind 2) refl (both_right (group_at l.first).free _ s))
+  counted_told least there = sym (go (eqb l.kind 2) refl (both_right (group_at l.first).free _ s))
     where
       lists : Bool
       lists = eqb (w % 16) 1 && eqb (w / 16 % 16) (group_at l.first).octets && leb l.least (w / 4_096 % 16) && leb 255 l.most
@@ -392,17 +430,19 @@ small_octets w x h =
     sym (if_false _ (ap (λ y. eqb y 3) k) (ap (λ y. w % 16 + x * y) p ∙ ap (λ y. w % 16 + y) (mul-zero x) ∙ omega arith))
 
 module _ (t : List ℕ) (i f : ℕ) where
-  pub word_there : i < profile_count → f < frn_count → get_or t (i * frn_count + f) 0 ≡ word_for t i f
+  pub word_some : {p : ℕ} → Some p ≡ place_for i f → get_or t p 0 ≡ word_for t i f
   unfolding word_for
-  word_there h k = sym (if_true _ (ap₂ ◌&&◌ (lt-ltb i profile_count h) (lt-ltb f frn_count k)) refl)
+  word_some e =
+      let h = place_there i f e in
+      ap (λ k. get_or t k 0) h.2 ∙ sym (if_true _ (ap₂ ◌&&◌ (lt-ltb i profile_count h.0) (lt-ltb f frn_count h.1)) refl)
 
-  pub word_past : profile_count ≤ i → 0 ≡ word_for t i f
-  unfolding word_for
-  word_past h = sym (if_false _ (ap (λ b. b && ltb f frn_count) (le-ltb i profile_count h)) refl)
-
-  pub word_beyond : i < profile_count → frn_count ≤ f → 0 ≡ word_for t i f
-  unfolding word_for
-  word_beyond h k = sym (if_false _ (ap₂ ◌&&◌ (lt-ltb i profile_count h) (le-ltb f frn_count k)) refl)
+  pub word_none : None ≡ place_for i f → 0 ≡ word_for t i f
+  unfolding place_for word_for when◌then◌else◌
+  word_none e = go (is_place i f) e
+    where
+      go : (b : Bool) → None ≡ (when b then Some (i * frn_count + f) else None) → 0 ≡ (when b then get_or t (i * frn_count + f) 0 else 0)
+      go true q = absurd (none-some (i * frn_count + f) q)
+      go false q = refl
 
   -- a word of a table that is exact says what the item at its place has, and 0 that its first octet does not tell
   exact_word_lem : exact_steps t ≡ true → is_place i f ≡ true → exact_word (get_or t (i * frn_count + f) 0) (row_of i f) ≡ true

@@ -1,6 +1,6 @@
 -- What tells, with few looks, that an item is plainly legal: a table with a word for each place of the profiles, and rows with a rule. A word says
 -- nothing that the layout of the item at its place does not have; it may say less. Assumes nothing.
-use Rattle.std.specs.Prelude.{ℕ, zero, suc, ◌+◌, ◌-◌, ◌*◌, ◌/◌, ◌%◌, ◌^◌, ◌≡◌, Bool, true, false, cond, ◌&&◌, List, [], ◌∷◌, leb, ltb, eqb, get_or}
+use Rattle.std.specs.Prelude.{ℕ, zero, suc, ◌+◌, ◌-◌, ◌*◌, ◌/◌, ◌%◌, ◌^◌, ◌≡◌, Bool, true, false, cond, ◌&&◌, List, [], ◌∷◌, Option, Some, None, leb, ltb, eqb, get_or}
 use Rattle.std.proofs.Math.Seq.{slice}
 use Rattle.rules.specs.Answer.{Answer, ok, refused, when◌then◌else◌}
 use Rattle.rules.specs.Catalogue.{categories}
@@ -10,11 +10,13 @@ use Rattle.tables.specs.Tests.{all_below}
 use Rattle.tables.specs.Tables.{profile_count, frn_count, place_count, group_at, layout_at, profile_rows, place_row_at}
 use Rattle.tables.specs.FieldRules.{Rule, rules, first_rule, single_of}
 use Rattle.items.specs.Answers.{check_at}
+use Rattle.quick_items.specs.declared.Kind.{Kind}
+use Rattle.quick_items.specs.declared.Kind.TheVariants.{Free, Ruled, Counted, Extended, Twice, Sized}
 
--- 0 tells nothing of an answer, and any other number that the answer is that number
-abbrev pub Plainly : ℕ → Answer ℕ → Type 0
-Plainly zero a = Unit {0}
-Plainly (suc n) a = a ≡ ok (suc n)
+-- a number, where there is one, is the answer
+abbrev pub Plainly : Option ℕ → Answer ℕ → Type 0
+Plainly None a = Unit {0}
+Plainly (Some n) a = a ≡ ok n
 
 -- ---- rules, which ask the first three octets of a part as one number, those that are missing as zeros
 
@@ -118,7 +120,16 @@ sound_twice t w l =
     eqb l.kind 1 && eqb (group_at l.first).octets (w % 16)
     && same_pair t (rule_in w) (next_in w) (group_at l.first).octets (slice (first_rule l.first) (first_rule (l.first + 1)) rules)
 
--- by the second digit
+-- how the parts lie, by the second digit
+abbrev pub kind_by : ℕ → Kind
+kind_by zero = Free
+kind_by (suc zero) = Ruled
+kind_by (suc (suc zero)) = Counted
+kind_by (suc (suc (suc zero))) = Extended
+kind_by (suc (suc (suc (suc zero)))) = Twice
+kind_by (suc (suc (suc (suc (suc k))))) = Sized
+
+-- a word is sound, by the same
 abbrev pub sound_by : ℕ → List ℕ → ℕ → LayoutRow → Bool
 sound_by zero t w l = sound_free w l
 sound_by (suc zero) t w l = sound_ruled t w l
@@ -179,6 +190,9 @@ exact_steps t = all_below place_count (λ k. exact_word (get_or t k 0) (layout_a
 -- the place of a profile's item at an FRN, and what stands there in a table; outside of the tables nothing
 abbrev pub is_place : ℕ → ℕ → Bool
 is_place i f = ltb i profile_count && ltb f frn_count
+
+unfoldable pub place_for : ℕ → ℕ → Option ℕ
+place_for i f = when is_place i f then Some (i * frn_count + f) else None
 
 unfoldable pub word_for : List ℕ → ℕ → ℕ → ℕ
 word_for t i f = when is_place i f then get_or t (i * frn_count + f) 0 else 0

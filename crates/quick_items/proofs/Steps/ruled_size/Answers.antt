@@ -1,10 +1,10 @@
--- `quick_items::ruled_size` meets its contract. Assumes nothing.
+-- `quick_items::Steps::ruled_size` meets its contract. Assumes nothing.
 use native.Mathlib.Omega.{arith}
 use Rattle.layouts.proofs.OctetLaws.{octets_known}
 use Rattle.quick_items.proofs.ItemLaws.{asked_first, ruled_told}
 use Rattle.layouts.proofs.SoundLaws.{layout_sound}
 use Rattle.tables.proofs.TableLaws.{place_row_lem}
-use Rattle.quick_items.proofs.ruled_size.Goals as goal
+use Rattle.quick_items.proofs.Steps.ruled_size.Goals as goal
 
 pub returns-then-is_asked : goal.returns-then-is_asked
 returns-then-is_asked c =

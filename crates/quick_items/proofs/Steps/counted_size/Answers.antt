@@ -1,10 +1,10 @@
--- `quick_items::counted_size` meets its contract. Assumes nothing.
+-- `quick_items::Steps::counted_size` meets its contract. Assumes nothing.
 use native.Mathlib.Omega.{arith}
 use Rattle.layouts.proofs.OctetLaws.{octets_known}
 use Rattle.quick_items.proofs.ItemLaws.{counted_told, product_fits}
 use Rattle.layouts.proofs.SoundLaws.{layout_sound}
 use Rattle.tables.proofs.TableLaws.{place_row_lem}
-use Rattle.quick_items.proofs.counted_size.Goals as goal
+use Rattle.quick_items.proofs.Steps.counted_size.Goals as goal
 
 pub overflow_mul-size : goal.overflow_mul-size
 overflow_mul-size c = record { fits = omega (arith, product_fits c.octet-n.result c.word_at-w.result c.octet-n.ensures.1) }
