@@ -20,6 +20,11 @@ use Rattle.rules.specs.Answer.{ok, when◌then◌else◌}
 use Rattle.rules.specs.Catalogue.{categories}
 use Rattle.rules.specs.Chain.{joined}
 use Rattle.rules.proofs.AnswerLaws.{if_true, if_false, Octets, both_left, both_right, octets_drop}
+use Rattle.tables.specs.declared.tables.Kind as lie
+use Rattle.tables.specs.declared.tables.Kind.TheVariants as parts
+use Rattle.tables.specs.Tables.{same_kind}
+use Rattle.tables.specs.Tables.{kind_digit as layout_digit}
+use Rattle.tables.proofs.KindLaws.{kind_true}
 use Rattle.tables.specs.declared.tables.LayoutRow.{LayoutRow}
 use Rattle.tables.specs.declared.tables.PlaceRow.{PlaceRow}
 use Rattle.items.specs.Answers.{check_at}
@@ -268,14 +273,14 @@ asked_legal low high step g bs o h p l s e = obeyed_legal step g bs o h p l (ask
 
 module _ (l : LayoutRow) (w : ℕ) (bs : List ℕ) (r : row_sound l ≡ true) (o : Octets bs) (h : w % 16 ≤ length bs) where
   -- it obeys its rules
-  single_told : (c : Bool) → eqb l.kind 1 && eqb (group_at l.first).octets (w % 16) && c ≡ true
+  single_told : (c : Bool) → same_kind l.kind parts.Fixed && eqb (group_at l.first).octets (w % 16) && c ≡ true
       → (l.first < group_count → part_sound 0 (group_at l.first) ≡ true → (group_at l.first).octets ≤ length bs → c ≡ true → legal (rows_at l.first) (part_at 0 l.first bs) ≡ true) → whole_size l bs ≡ ok (w % 16)
   single_told c s f =
-      let a = eqb l.kind 1 in
+      let a = same_kind l.kind parts.Fixed in
       let b = eqb (group_at l.first).octets (w % 16) in
       let u : a && b ≡ true = both_left (a && b) c s in
       let m : w % 16 ≡ (group_at l.first).octets = sym (eqb-true _ _ (both_right a b u)) in
-      let g : Single l l.first = record { kind = eqb-true l.kind 1 (both_left a b u); group = refl } in
+      let g : Single l l.first = record { kind = kind_true l.kind parts.Fixed (both_left a b u); group = refl } in
       let p = single_sound l l.first r g in
       sym (single_legal l.first bs m h (sym (f p.0 p.1 (omega arith) (both_right (a && b) c s))) refl ∙ single_size_lem l l.first bs g)
 
@@ -293,23 +298,29 @@ module _ (l : LayoutRow) (w : ℕ) (bs : List ℕ) (r : row_sound l ≡ true) (o
 
 -- ---- a list or a led item
 
+repeated_other : parts.Repeated ≡ parts.Extended → ⊥
+repeated_other e = let z : ◌≡◌ {A = ℕ} 2 4 = ap layout_digit e in absurd (omega arith)
+
+led_other : parts.Led ≡ parts.Extended → ⊥
+led_other e = let z : ◌≡◌ {A = ℕ} 3 4 = ap layout_digit e in absurd (omega arith)
+
 module _ (l : LayoutRow) (w : ℕ) (bs : List ℕ) (r : row_sound l ≡ true) (o : Octets bs) (h : 1 ≤ length bs) (s : sound_counted w l ≡ true) {n : ℕ} (en : n ≡ get_or bs 0 0) (b : n < 256) where
   -- any parts will do
-  counted_whole : (c long k : ℕ) → ok (c, long) ≡ shape_of l bs → l.kind ≡ k → k < 4 → ok long ≡ whole_size l bs
+  counted_whole : (c long : ℕ) (k : lie.Kind) → ok (c, long) ≡ shape_of l bs → l.kind ≡ k → (k ≡ parts.Extended → ⊥) → ok long ≡ whole_size l bs
   unfolding sound_counted
-  counted_whole c long k e q m = check_whole l bs c long (equal_free l bs c long (sym e) r o (λ z. absurd (omega (arith, q, z))) refl (both_left (group_at l.first).free _ s))
+  counted_whole c long k e q m = check_whole l bs c long (equal_free l bs c long (sym e) r o (λ z. absurd (m (sym q ∙ z))) refl (both_left (group_at l.first).free _ s))
 
   pub counted_told : w / 4_096 % 16 ≤ n → w % 16 + n * (w / 16 % 16) ≤ length bs → whole_size l bs ≡ ok (w % 16 + n * (w / 16 % 16))
   unfolding sound_counted
-  counted_told least there = sym (go (eqb l.kind 2) refl (both_right (group_at l.first).free _ s))
+  counted_told least there = sym (go (same_kind l.kind parts.Repeated) refl (both_right (group_at l.first).free _ s))
     where
       lists : Bool
       lists = eqb (w % 16) 1 && eqb (w / 16 % 16) (group_at l.first).octets && leb l.least (w / 4_096 % 16) && leb 255 l.most
 
       leds : Bool
-      leds = eqb l.kind 3 && eqb (w % 16) 0 && eqb (w / 16 % 16) 1 && ltb l.least (w / 4_096 % 16)
+      leds = same_kind l.kind parts.Led && eqb (w % 16) 0 && eqb (w / 16 % 16) 1 && ltb l.least (w / 4_096 % 16)
 
-      go : (t : Bool) → eqb l.kind 2 ≡ t → cond t lists leds ≡ true → ok (w % 16 + n * (w / 16 % 16)) ≡ whole_size l bs
+      go : (t : Bool) → same_kind l.kind parts.Repeated ≡ t → cond t lists leds ≡ true → ok (w % 16 + n * (w / 16 % 16)) ≡ whole_size l bs
       go true k u =
           let a = eqb (w % 16) 1 in
           let c = eqb (w / 16 % 16) (group_at l.first).octets in
@@ -317,30 +328,30 @@ module _ (l : LayoutRow) (w : ℕ) (bs : List ℕ) (r : row_sound l ≡ true) (o
           let f = leb 255 l.most in
           let v : a && c && d ≡ true = both_left (a && c && d) f u in
           let x : a && c ≡ true = both_left (a && c) d v in
-          let q : l.kind ≡ 2 = eqb-true l.kind 2 k in
+          let q : l.kind ≡ parts.Repeated = kind_true l.kind parts.Repeated k in
           let i : w % 16 ≡ 1 = eqb-true (w % 16) 1 (both_left a c x) in
           let j : w / 16 % 16 ≡ (group_at l.first).octets = eqb-true _ _ (both_right a c x) in
           let y : l.least ≤ n = omega (arith, leb-true l.least (w / 4_096 % 16) (both_right (a && c) d v)) in
           let z : n ≤ l.most = omega (arith, leb-true 255 l.most (both_right (a && c && d) f u)) in
           subst (λ m. ok (m + n * (w / 16 % 16)) ≡ whole_size l bs) (sym i)
-          (counted_whole n (1 + n * (w / 16 % 16)) 2
+          (counted_whole n (1 + n * (w / 16 % 16)) parts.Repeated
           (list_there l.least l.most (group_at l.first).octets n (length bs) j (subst (λ m. m + n * (w / 16 % 16) ≤ length bs) i there) y z
           ∙ ap (λ m. list_shape l.least l.most (group_at l.first).octets m (length bs)) en ∙ list_shape_lem l bs q h)
-          q (lit< tt))
+          q repeated_other)
       go false k u =
-          let a = eqb l.kind 3 in
+          let a = same_kind l.kind parts.Led in
           let c = eqb (w % 16) 0 in
           let d = eqb (w / 16 % 16) 1 in
           let f = ltb l.least (w / 4_096 % 16) in
           let v : a && c && d ≡ true = both_left (a && c && d) f u in
           let x : a && c ≡ true = both_left (a && c) d v in
-          let q : l.kind ≡ 3 = eqb-true l.kind 3 (both_left a c x) in
+          let q : l.kind ≡ parts.Led = kind_true l.kind parts.Led (both_left a c x) in
           let i : w % 16 ≡ 0 = eqb-true (w % 16) 0 (both_right a c x) in
           let j : w / 16 % 16 ≡ 1 = eqb-true (w / 16 % 16) 1 (both_right (a && c) d v) in
           let y : l.least < n = omega (arith, ltb-true l.least (w / 4_096 % 16) (both_right (a && c && d) f u)) in
           let m : w % 16 + n * (w / 16 % 16) ≡ n = rw (i, j) (omega arith) in
           subst (λ g. ok g ≡ whole_size l bs) (sym m)
-          (counted_whole (n - 1) n 3 (led_there l bs q h en y (omega arith)) q (lit< tt))
+          (counted_whole (n - 1) n parts.Led (led_there l bs q h en y (omega arith)) q led_other)
 
 -- the size fits
 pub product_fits : (n w : ℕ) → n < 256 → n * (w / 16 % 16) < 4_096
@@ -351,7 +362,7 @@ product_fits n w h =
 -- ---- an extended item
 
 pub record Extended (t : List ℕ) (w : ℕ) (l : LayoutRow) : Type 0 where
-  pub kind : l.kind ≡ 4
+  pub kind : l.kind ≡ parts.Extended
   pub ends : l.first + 2 ≡ l.end
   pub one : 1 ≡ (group_at l.first).octets
   pub two : 1 ≡ (group_at (l.first + 1)).octets
@@ -361,7 +372,7 @@ pub record Extended (t : List ℕ) (w : ℕ) (l : LayoutRow) : Type 0 where
 extended_of : (t : List ℕ) (w : ℕ) (l : LayoutRow) → sound_extended t w l ≡ true → Extended t w l
 unfolding sound_extended
 extended_of t w l s =
-    let a = eqb l.kind 4 in
+    let a = same_kind l.kind parts.Extended in
     let b = eqb (l.first + 2) l.end in
     let c = eqb (group_at l.first).octets 1 in
     let d = eqb (group_at (l.first + 1)).octets 1 in
@@ -372,7 +383,7 @@ extended_of t w l s =
     let x : a && b && c ≡ true = both_left (a && b && c) d v in
     let y : a && b ≡ true = both_left (a && b) c x in
     record {
-      kind = eqb-true _ _ (both_left a b y);
+      kind = kind_true l.kind parts.Extended (both_left a b y);
       ends = eqb-true _ _ (both_right a b y);
       one = sym (eqb-true _ _ (both_right (a && b) c x));
       two = sym (eqb-true _ _ (both_right (a && b && c) d v));

@@ -4,10 +4,12 @@ use Rattle.std.specs.Prelude.{ℕ, zero, suc, ◌+◌, ◌-◌, ◌*◌, ◌/◌
 use Rattle.std.proofs.Math.Seq.{slice}
 use Rattle.rules.specs.Answer.{Answer, ok, refused, when◌then◌else◌}
 use Rattle.rules.specs.Catalogue.{categories}
+use Rattle.tables.specs.declared.tables.Kind as lie
+use Rattle.tables.specs.declared.tables.Kind.TheVariants as parts
 use Rattle.tables.specs.declared.tables.LayoutRow.{LayoutRow}
 use Rattle.tables.specs.declared.tables.PlaceRow.{PlaceRow}
 use Rattle.tables.specs.Tests.{all_below}
-use Rattle.tables.specs.Tables.{profile_count, frn_count, place_count, group_at, layout_at, profile_rows, place_row_at}
+use Rattle.tables.specs.Tables.{same_kind, profile_count, frn_count, place_count, group_at, layout_at, profile_rows, place_row_at}
 use Rattle.tables.specs.FieldRules.{Rule, rules, first_rule, single_of}
 use Rattle.items.specs.Answers.{check_at}
 use Rattle.quick_items.specs.declared.Kind.{Kind}
@@ -88,7 +90,7 @@ sound_free w l = cond (eqb w 0) true (eqb w (single_of l))
 
 -- one part with a rule: the rule's row, 1, 0, its octets
 unfoldable pub sound_single : ℕ → ℕ → ℕ → LayoutRow → Bool
-sound_single low high w l = eqb l.kind 1 && eqb (group_at l.first).octets (w % 16) && sound_rule low high 0 l.first
+sound_single low high w l = same_kind l.kind parts.Fixed && eqb (group_at l.first).octets (w % 16) && sound_rule low high 0 l.first
 
 abbrev pub sound_ruled : List ℕ → ℕ → LayoutRow → Bool
 sound_ruled t w l = sound_single (low_at t (rule_in w)) (high_at t (rule_in w)) w l
@@ -97,14 +99,14 @@ sound_ruled t w l = sound_single (low_at t (rule_in w)) (high_at t (rule_in w)) 
 unfoldable pub sound_counted : ℕ → LayoutRow → Bool
 sound_counted w l =
     (group_at l.first).free
-    && cond (eqb l.kind 2)
+    && cond (same_kind l.kind parts.Repeated)
     (eqb (w % 16) 1 && eqb (w / 16 % 16) (group_at l.first).octets && leb l.least (w / 4_096 % 16) && leb 255 l.most)
-    (eqb l.kind 3 && eqb (w % 16) 0 && eqb (w / 16 % 16) 1 && ltb l.least (w / 4_096 % 16))
+    (same_kind l.kind parts.Led && eqb (w % 16) 0 && eqb (w / 16 % 16) 1 && ltb l.least (w / 4_096 % 16))
 
 -- an extended item of at most two parts, an octet each: the row of the first part's rule, which that of the second follows, 3, 0, 0
 unfoldable pub sound_extended : List ℕ → ℕ → LayoutRow → Bool
 sound_extended t w l =
-    eqb l.kind 4 && eqb (l.first + 2) l.end && eqb (group_at l.first).octets 1 && eqb (group_at (l.first + 1)).octets 1
+    same_kind l.kind parts.Extended && eqb (l.first + 2) l.end && eqb (group_at l.first).octets 1 && eqb (group_at (l.first + 1)).octets 1
     && sound_row t (rule_in w) 1 l.first && sound_row t (next_in w) 1 (l.first + 1)
 
 -- two rows ask all that a group of so many octets does, which has two rules
@@ -117,7 +119,7 @@ same_pair t i j size (r ∷ (q ∷ (p ∷ rs))) = false
 -- one part with two rules: the row of the first rule, which that of the second follows, 4, 0, its octets
 unfoldable pub sound_twice : List ℕ → ℕ → LayoutRow → Bool
 sound_twice t w l =
-    eqb l.kind 1 && eqb (group_at l.first).octets (w % 16)
+    same_kind l.kind parts.Fixed && eqb (group_at l.first).octets (w % 16)
     && same_pair t (rule_in w) (next_in w) (group_at l.first).octets (slice (first_rule l.first) (first_rule (l.first + 1)) rules)
 
 -- how the parts lie, by the second digit
@@ -152,24 +154,25 @@ sound_steps t = sound_words t t (profile_rows 1 categories)
 -- ---- octets: how many an item has that is legal, by its first octet where that tells
 
 -- by how its parts lie and the octets of a part: one part; a count and so many parts; a length that counts itself; parts by FX
-abbrev pub octets_by : ℕ → ℕ → ℕ → ℕ
-octets_by zero n x = 0
-octets_by (suc zero) n x = n
-octets_by (suc (suc zero)) n x = 1 + x * n
-octets_by (suc (suc (suc zero))) n x = x
-octets_by (suc (suc (suc (suc k)))) n x = 1 + x % 2
+abbrev pub octets_by : lie.Kind → ℕ → ℕ → ℕ
+octets_by parts.NoItem n x = 0
+octets_by parts.Fixed n x = n
+octets_by parts.Repeated n x = 1 + x * n
+octets_by parts.Led n x = x
+octets_by parts.Extended n x = 1 + x % 2
+octets_by parts.Compound n x = 1 + x % 2
 
 -- of parts by FX it tells where they are two at most, of an octet each; of a compound item it does not
 abbrev pub is_short : ℕ → ℕ → Bool
 is_short a e = eqb (a + 2) e && (eqb (group_at a).octets 1 && eqb (group_at (a + 1)).octets 1)
 
-abbrev pub first_tells : ℕ → ℕ → ℕ → Bool
-first_tells zero a e = false
-first_tells (suc zero) a e = true
-first_tells (suc (suc zero)) a e = true
-first_tells (suc (suc (suc zero))) a e = true
-first_tells (suc (suc (suc (suc zero)))) a e = is_short a e
-first_tells (suc (suc (suc (suc (suc k))))) a e = false
+abbrev pub first_tells : lie.Kind → ℕ → ℕ → Bool
+first_tells parts.NoItem a e = false
+first_tells parts.Fixed a e = true
+first_tells parts.Repeated a e = true
+first_tells parts.Led a e = true
+first_tells parts.Extended a e = is_short a e
+first_tells parts.Compound a e = false
 
 abbrev pub row_octets : LayoutRow → ℕ → ℕ
 row_octets l x = octets_by l.kind (group_at l.first).octets x
