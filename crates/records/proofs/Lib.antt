@@ -6,4 +6,3 @@ pub mod ItemLaws
 pub mod RecordLaws
 pub mod NewLaws
 pub mod Unique
-pub mod CheckedUnique

@@ -13,6 +13,10 @@ use borrow.Author.Tests.{ltb-true, lt-ltb, eq-eqb, ne_eqb, eqb-true, eqb-false}
 use lib.ListN.{length, get_or, length-append}
 use mir.Syntax.{w8}
 use mir.Val.{Fits}
+use Rattle.std.specs.Prelude.{Result, Ok, Err}
+use Rattle.rules.specs.Told.{number_of}
+use Rattle.rules.specs.declared.faults.Fault.{Fault}
+use Rattle.rules.specs.declared.faults.Refusal.{Refusal}
 use Rattle.rules.specs.Answer.{Answer, ok, refused, ◌>>=◌, need◌or◌then◌, later, octets_of}
 use Rattle.rules.specs.Chain.{flatten}
 use Rattle.rules.specs.Presence.{flags, write_presence, read_rows, all_usable, set_flags}
@@ -21,17 +25,13 @@ use Rattle.rules.specs.Entry.{new_record}
 use Rattle.rules.proofs.AnswerLaws.{ok_inj, bind_elim, need_elim, bind_in, bind_out, need_bind, need_in, need_out, later_in, later_out, T_true, Octets}
 use Rattle.sets.specs.Sets.{category_at, bits_of, frns_of, within, fspec_at}
 use Rattle.sets.specs.Steps.{usable_bits, judge_set, rows_left}
-use Rattle.sets.specs.Answers.{judged_of, judged_number}
-use Rattle.sets.specs.declared.Judgement.{Judgement}
-use Rattle.sets.specs.declared.Judgement.TheVariants as judgement
+use Rattle.sets.specs.Answers.{judged_of}
 use Rattle.sets.proofs.ProfileLaws.{TypePlace, type_place_lem}
 use Rattle.sets.proofs.SetLaws.{octets_all}
 use Rattle.sets.proofs.FspecLaws.{set_within, set_barred, set_some, set_usable, set_rows, set_rows_lem, set_rows_usable, set_rows_bits, no_rows, fspec_counted}
 use Rattle.records.specs.Walk.{Came, walk, start_at, new_by}
-use Rattle.records.specs.Answers.{came_by, came_of, checked_number, checked_place, new_at}
-use Rattle.records.specs.declared.RecordChecked.TheVariants as checked
-use Rattle.records.specs.declared.ItemsWalked.{ItemsWalked}
-use Rattle.records.proofs.RecordLaws.{came_refused, judged_refused}
+use Rattle.records.specs.Answers.{came_of, end_of, new_at}
+use Rattle.records.specs.declared.RecordMap.{RecordMap}
 use Rattle.records.proofs.ItemLaws.{came_to, octets_in, walk_refused, walk_came, items_long, items_end, judged}
 
 -- ---- the items, of a set that is not empty and that the profile has
@@ -174,26 +174,25 @@ module _ (i bits : ℕ) (bs : List ℕ) (known : (j : ℕ) → Fits w8 (get_or b
       unfolding new_by
       from_items a h = sym (need_in _ 7 (T_true (lt-ltb 0 bits (omega arith))) (need_in _ 8 (T_true (set_within i bits is e n)) h)) ∙ law
 
-      module _ (x : ItemsWalked) (g : came_of x ≡ walk i (flags 63 bits) 1 bs (start_at 0)) where
-        pub new_stop : (k p number place : ℕ) → x.checked ≡ checked.Refused k p → number ≡ checked_number x.checked → place ≡ checked_place x.checked
-            → refused number place ≡ new_at i bits bs
-        new_stop k p number place c a q = from_items _ (bind_out _ (sym g ∙ came_refused x (came_of x) k p number place refl c a q))
+      module _ (x : Result ℕ Refusal) (z : RecordMap) (g : came_of x z ≡ walk i (flags 63 bits) 1 bs (start_at 0)) where
+        pub new_stop : (r : Refusal) → x ≡ Err r → end_of (Err r) ≡ new_at i bits bs
+        new_stop r c = from_items _ (bind_out _ (sym g ∙ ap (λ y. came_of y z) c))
 
-        module _ (end : ℕ) (c : x.checked ≡ checked.Ends end) where
-          came_ok : walk i (flags 63 bits) 1 bs (start_at 0) ≡ ok (record { here = end; count = x.count; starts = x.starts; kind = x.kind })
-          came_ok = sym g ∙ ap (λ z. came_by z x) c
+        module _ (kind : ℕ) (c : x ≡ Ok kind) where
+          came_ok : walk i (flags 63 bits) 1 bs (start_at 0) ≡ ok (record { here = z.end; count = z.count; starts = z.starts; kind = kind })
+          came_ok = sym g ∙ ap (λ y. came_of y z) c
 
-          pub new_more : (end ≡ length bs → ⊥) → refused 18 end ≡ new_at i bits bs
-          new_more h = ap (refused 18) (sym (add-zero end)) ∙ from_items _ (bind_in _ came_ok (bind_out _ (later_out _ (need_out 18 _ (ne_eqb end (length bs) h)))))
+          pub new_more : (z.end ≡ length bs → ⊥) → refused 18 z.end ≡ new_at i bits bs
+          new_more h = ap (refused 18) (sym (add-zero z.end)) ∙ from_items _ (bind_in _ came_ok (bind_out _ (later_out _ (need_out 18 _ (ne_eqb z.end (length bs) h)))))
 
-          module _ (z : end ≡ length bs) (y : Judgement) (f : judged_of y ≡ judge_set i bits x.kind) where
-            pub new_judged : (k number : ℕ) → y ≡ judgement.Refused k → number ≡ judged_number y → refused number 0 ≡ new_at i bits bs
-            new_judged k number a q =
+          module _ (all : z.end ≡ length bs) (y : Result (Unit {0}) Fault) (f : judged_of y ≡ judge_set i bits kind) where
+            pub new_judged : (e : Fault) → y ≡ Err e → refused (number_of e) 0 ≡ new_at i bits bs
+            new_judged e a =
                 from_items _
-                (bind_in _ came_ok (bind_in _ (later_in _ (need_in _ 18 (T_true (eq-eqb end (length bs) z)) refl)) (bind_out _ (judged_refused y (judge_set i bits x.kind) k number f a q))))
+                (bind_in _ came_ok (bind_in _ (later_in _ (need_in _ 18 (T_true (eq-eqb z.end (length bs) all)) refl)) (bind_out _ (sym f ∙ ap judged_of a))))
 
-            pub new_whole : (k : ℕ) → y ≡ judgement.Right → k ≡ rows_left 9 0 bits → ok (k + length bs) ≡ new_at i bits bs
-            new_whole k a q =
+            pub new_whole : (u : Unit {0}) (k : ℕ) → y ≡ Ok u → k ≡ rows_left 9 0 bits → ok (k + length bs) ≡ new_at i bits bs
+            new_whole u k a q =
                 from_items _
-                (bind_in _ came_ok (bind_in _ (later_in _ (need_in _ 18 (T_true (eq-eqb end (length bs) z)) refl))
+                (bind_in _ came_ok (bind_in _ (later_in _ (need_in _ 18 (T_true (eq-eqb z.end (length bs) all)) refl))
                 (bind_in _ (sym f ∙ ap judged_of a) (ap (λ l. ok (l + length bs)) (sym q)))))

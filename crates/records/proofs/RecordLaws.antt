@@ -12,6 +12,10 @@ use lib.ListN.{length, take, drop, get_or, replicate, length-append}
 use lib.Seq.{drop_at}
 use mir.Syntax.{w8}
 use mir.Val.{Fits}
+use Rattle.std.specs.Prelude.{Result, Ok, Err, MatchResult, IsErrAnd}
+use Rattle.rules.specs.Told.{number_of, refusal_of}
+use Rattle.rules.specs.declared.faults.Fault.{Fault}
+use Rattle.rules.specs.declared.faults.Refusal.{Refusal}
 use Rattle.rules.specs.Answer.{Answer, ok, refused, octets_of}
 use Rattle.rules.specs.Chain.{flatten, read_chain}
 use Rattle.rules.specs.Presence.{flags, read_presence, read_rows, read_places}
@@ -21,20 +25,14 @@ use Rattle.rules.proofs.AnswerLaws.{refused_ok, ok_inj, bind_in, bind_out, bind_
 use Rattle.rules.proofs.RecordLaws.{record_laws, record_starts}
 use Rattle.sets.specs.Sets.{category_at, bits_of, set_at}
 use Rattle.sets.specs.Steps.{judge_set}
-use Rattle.sets.specs.Answers.{set_of, set_number, judged_of, judged_number}
-use Rattle.sets.specs.declared.ItemSet.{ItemSet}
-use Rattle.sets.specs.declared.SetRead.{SetRead}
-use Rattle.sets.specs.declared.SetRead.TheVariants as set
-use Rattle.sets.specs.declared.Judgement.{Judgement}
-use Rattle.sets.specs.declared.Judgement.TheVariants as judgement
+use Rattle.sets.specs.Answers.{set_of, judged_of}
+use Rattle.sets.specs.declared.Fspec as fspec
 use Rattle.sets.proofs.ProfileLaws.{places_few, TypePlace, type_place_lem}
 use Rattle.sets.proofs.SetLaws.{octets_all}
 use Rattle.sets.proofs.UsableLaws.{Fspec, fspec_read}
 use Rattle.records.specs.Walk.{Came, walk, start_at, record_by}
-use Rattle.records.specs.Answers.{came_by, came_of, checked_number, checked_place, end_of, absent, map_in, Walked, record_at}
-use Rattle.records.specs.declared.RecordChecked.TheVariants as checked
-use Rattle.records.specs.declared.RecordWalked.{RecordWalked}
-use Rattle.records.specs.declared.ItemsWalked.{ItemsWalked}
+use Rattle.records.specs.Answers.{came_of, Walked, record_at}
+use Rattle.records.specs.declared.RecordMap as code
 use Rattle.records.proofs.CameLaws.{comes_count, comes_starts}
 use Rattle.records.proofs.ItemLaws.{came_to, octets_in, walk_refused, walk_came, rows_count, stands, items_long, items_end, judged}
 
@@ -175,63 +173,55 @@ record_read i k bs m o h =
 
 -- ---- the steps of checking a record: what each function answered, in the rules' terms
 
-set_refused : (x : SetRead) (a : Answer (ℕ × ℕ)) (n number : ℕ) → set_of x ≡ a → x ≡ set.Refused n → number ≡ set_number x → a ≡ refused number 0
-set_refused x a n number h e m = sym h ∙ ap set_of e ∙ ap (λ z. refused z 0) (sym (m ∙ ap set_number e))
+-- a refusal by its fault and its place
+pub told_at : {A : Type 0} {r : Refusal} {e : Fault} {p : ℕ} → r.fault ≡ e → r.place ≡ p → refusal_of {A = A} r ≡ refused (number_of e) p
+told_at f p = ap₂ (λ x y. refused (number_of x) y) f p
 
-pub came_refused : (x : ItemsWalked) (a : Answer Came) (n p number place : ℕ) → came_of x ≡ a → x.checked ≡ checked.Refused n p → number ≡ checked_number x.checked → place ≡ checked_place x.checked
-    → a ≡ refused number place
-came_refused x a n p number place h e m q = sym h ∙ ap (λ c. came_by c x) e ∙ ap₂ refused (sym (m ∙ ap checked_number e)) (sym (q ∙ ap checked_place e))
+-- what an answer was whose fault alone was said anew
+pub ok_of : {A E D : Type 0} (Q : E → D → Type 0) (x : Result A E) (y : Result A D) → MatchResult x (λ a. y ≡ Ok a) (λ e. IsErrAnd y (Q e)) → (a : A) → y ≡ Ok a → x ≡ Ok a
+ok_of Q (Ok b) y h a e = cc
+ok_of Q (Err d) (Ok b) h a e = absurd h
+ok_of Q (Err d) (Err r) h a e = cc
 
-pub judged_refused : (x : Judgement) (a : Answer (Unit {0})) (n number : ℕ) → judged_of x ≡ a → x ≡ judgement.Refused n → number ≡ judged_number x → a ≡ refused number 0
-judged_refused x a n number h e m = sym h ∙ ap judged_of e ∙ ap (λ z. refused z 0) (sym (m ∙ ap judged_number e))
+pub err_of : {A E D : Type 0} (Q : E → D → Type 0) (x : Result A E) (y : Result A D) → MatchResult x (λ a. y ≡ Ok a) (λ e. IsErrAnd y (Q e)) → (r : D) → y ≡ Err r
+    → (e : E) × (x ≡ Err e) × Q e r
+err_of Q (Ok b) y h r e = cc
+err_of Q (Err d) (Ok b) h r e = cc
+err_of Q (Err d) (Err s) h r e = let f : s ≡ r = cc in (d, refl, subst (Q d) f h)
 
-walked_refused : (w : RecordWalked) (a : Answer RecordMap) (n p : ℕ) → a ≡ refused n p → (w.checked ≡ checked.Refused n p) × (w.map ≡ absent) → Walked w a
-walked_refused w a n p e c = record { answer = ap end_of c.0 ∙ sym (bind_out _ e); map = c.1 ∙ sym (ap map_in e) }
+refused_at : (i k : ℕ) (bs : List ℕ) (e : Fault) (r : Refusal) → record_by i k bs ≡ refused (number_of e) (k + 0) → r.fault ≡ e → r.place ≡ k → Walked (Err r) (record_by i k bs)
+refused_at i k bs e r h f p = ap₂ (λ x y. refused (number_of x) y) f (p ∙ sym (add-zero k)) ∙ sym (bind_out _ h)
 
 module _ (i k : ℕ) (bs : List ℕ) (known : (j : ℕ) → Fits w8 (get_or bs j 0)) (b : k + length bs < 65_536) where
-  by_rules : (w : RecordWalked) → Walked w (record_by i k bs) → Walked w (record_at i k bs)
-  by_rules w = subst (Walked w) (record_law i k bs (octets_all bs known) b)
+  by_rules : (x : Result code.RecordMap Refusal) → Walked x (record_by i k bs) → Walked x (record_at i k bs)
+  by_rules x = subst (Walked x) (record_law i k bs (octets_all bs known) b)
 
-  pub step_set : (s : SetRead) (n number : ℕ) (w : RecordWalked) → set_of s ≡ set_at i bs → s ≡ set.Refused n → number ≡ set_number s
-      → (w.checked ≡ checked.Refused number k) × (w.map ≡ absent) → Walked w (record_at i k bs)
+  pub step_set : (x : Result fspec.Fspec Fault) (e : Fault) (r : Refusal) → set_of x ≡ set_at i bs → x ≡ Err e → r.fault ≡ e → r.place ≡ k → Walked (Err r) (record_at i k bs)
   unfolding record_by
-  step_set s n number w h e m c =
-      by_rules w
-      (walked_refused w (record_by i k bs) number k
-      (bind_out _ (later_out k (set_refused s (set_at i bs) n number h e m)) ∙ ap (refused number) (add-zero k)) c)
+  step_set x e r h c f p = by_rules (Err r) (refused_at i k bs e r (bind_out _ (later_out k (sym h ∙ ap set_of c))) f p)
 
-  module _ (s : SetRead) (found : ItemSet) (used : ℕ) (h : set_of s ≡ set_at i bs) (e : s ≡ set.Items found used)
-      (x : ItemsWalked) (g : came_of x ≡ walk i (flags 63 found.bits) 1 (take (length bs - used) (drop used bs)) (start_at (k + used))) where
-    set_read : set_at i bs ≡ ok (found.bits, used)
-    set_read = sym h ∙ ap set_of e
+  module _ (x : Result fspec.Fspec Fault) (bits used : ℕ) (h : set_of x ≡ set_at i bs) (c : set_of x ≡ ok (bits, used))
+      (y : Result ℕ Refusal) (m : code.RecordMap) (g : came_of y m ≡ walk i (flags 63 bits) 1 (take (length bs - used) (drop used bs)) (start_at (k + used))) where
+    set_read : set_at i bs ≡ ok (bits, used)
+    set_read = sym h ∙ c
 
-    walk_read : walk i (flags 63 found.bits) 1 (drop used bs) (start_at (k + used)) ≡ came_of x
-    walk_read = ap (λ l. walk i (flags 63 found.bits) 1 l (start_at (k + used))) (sym (to_end bs used)) ∙ sym g
+    walk_read : walk i (flags 63 bits) 1 (drop used bs) (start_at (k + used)) ≡ came_of y m
+    walk_read = ap (λ l. walk i (flags 63 bits) 1 l (start_at (k + used))) (sym (to_end bs used)) ∙ sym g
 
-    pub step_walk : (n p number place : ℕ) (w : RecordWalked) → x.checked ≡ checked.Refused n p → number ≡ checked_number x.checked → place ≡ checked_place x.checked
-        → (w.checked ≡ checked.Refused number place) × (w.map ≡ absent) → Walked w (record_at i k bs)
+    pub step_walk : (r : Refusal) → y ≡ Err r → Walked (Err r) (record_at i k bs)
     unfolding record_by
-    step_walk n p number place w c m q r =
-        by_rules w
-        (walked_refused w (record_by i k bs) number place
-        (bind_in _ (later_in k set_read) (bind_out _ (walk_read ∙ came_refused x (came_of x) n p number place refl c m q))) r)
+    step_walk r d = by_rules (Err r) (sym (bind_out _ (bind_in _ (later_in k set_read) (bind_out _ (walk_read ∙ ap (λ z. came_of z m) d)))))
 
-    module _ (end : ℕ) (c : x.checked ≡ checked.Ends end) (y : Judgement) (f : judged_of y ≡ judge_set i found.bits x.kind) where
-      came_ok : walk i (flags 63 found.bits) 1 (drop used bs) (start_at (k + used)) ≡ ok (record { here = end; count = x.count; starts = x.starts; kind = x.kind })
-      came_ok = walk_read ∙ ap (λ z. came_by z x) c
+    module _ (kind : ℕ) (d : y ≡ Ok kind) (z : Result (Unit {0}) Fault) (f : judged_of z ≡ judge_set i bits kind) where
+      came_ok : walk i (flags 63 bits) 1 (drop used bs) (start_at (k + used)) ≡ ok (record { here = m.end; count = m.count; starts = m.starts; kind = kind })
+      came_ok = walk_read ∙ ap (λ z. came_of z m) d
 
-      pub step_judge : (n number : ℕ) (w : RecordWalked) → y ≡ judgement.Refused n → number ≡ judged_number y
-          → (w.checked ≡ checked.Refused number k) × (w.map ≡ absent) → Walked w (record_at i k bs)
+      pub step_judge : (e : Fault) (r : Refusal) → z ≡ Err e → r.fault ≡ e → r.place ≡ k → Walked (Err r) (record_at i k bs)
       unfolding record_by
-      step_judge n number w a m r =
-          by_rules w
-          (walked_refused w (record_by i k bs) number k
-          (bind_in _ (later_in k set_read) (bind_in _ came_ok (bind_out _ (later_out k (judged_refused y (judge_set i found.bits x.kind) n number f a m)))) ∙ ap (refused number) (add-zero k)) r)
+      step_judge e r a q p =
+          by_rules (Err r) (refused_at i k bs e r (bind_in _ (later_in k set_read) (bind_in _ came_ok (bind_out _ (later_out k (sym f ∙ ap judged_of a))))) q p)
 
-      pub step_whole : (w : RecordWalked) → y ≡ judgement.Right → w.checked ≡ checked.Ends end → w.map ≡ record { starts = x.starts; end = end; count = x.count }
-          → Walked w (record_at i k bs)
+      pub step_whole : (u : Unit {0}) → z ≡ Ok u → Walked (Ok m) (record_at i k bs)
       unfolding record_by
-      step_whole w a d m =
-          let z : record_by i k bs ≡ ok (record { start = k; starts = x.starts; end = end; count = x.count }) =
-          bind_in _ (later_in k set_read) (bind_in _ came_ok (bind_in _ (later_in k (sym f ∙ ap judged_of a)) refl)) in
-          by_rules w (record { answer = ap end_of d ∙ sym (bind_in _ z refl); map = m ∙ sym (ap map_in z) })
+      step_whole u a =
+          by_rules (Ok m) (sym (bind_in _ (bind_in _ (later_in k set_read) (bind_in _ came_ok (bind_in _ (later_in k (sym f ∙ ap judged_of a)) refl))) refl))

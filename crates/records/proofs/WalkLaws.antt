@@ -6,23 +6,20 @@ use mathlib.Core.Path.{◌≡◌, refl, sym, ap, ap₂, ◌∙◌}
 use mathlib.Core.Bool.{true}
 use mathlib.Core.List.{List, ◌∷◌}
 use native.Mathlib.Omega.{arith}
-use native.Mathlib.Nat.{add-zero, zero-add, mod-eq_of_lt, sub-zero}
+use native.Mathlib.Nat.{add-zero, zero-add, mod-eq_of_lt}
 use lib.Count.{count_leading_zeros}
 use lib.Pow.{pow_pos, pow_mono}
 use lib.Dec.{eqb}
 use borrow.Author.Tests.{lt-leb}
 use lib.ListN.{length, take, drop, get_or, set, replicate, length-drop, length-set}
-use Rattle.rules.specs.Answer.{Answer, ok, refused, when◌then◌else◌}
+use Rattle.rules.specs.Answer.{ok, refused, when◌then◌else◌}
 use Rattle.rules.specs.Presence.{flags}
 use Rattle.rules.proofs.AnswerLaws.{bind_in, bind_out, later_in, later_out, to_end}
 use Rattle.rules.specs.Entry.{map_places}
-use Rattle.items.specs.declared.ItemCheck.{ItemCheck}
-use Rattle.items.specs.declared.ItemCheck.TheVariants as item
-use Rattle.items.specs.Answers.{check_at, checked_of}
+use Rattle.items.specs.Answers.{check_at}
 use Rattle.sets.specs.Steps.{type_frn}
 use Rattle.sets.proofs.FlagLaws.{First, first, first_from, first_rest, first_flags}
 use Rattle.records.specs.Walk.{Came, passed, walk, start_at}
-use Rattle.records.specs.Answers.{item_number, item_place}
 use Rattle.records.proofs.PlaceLaws.{check_within}
 
 -- ---- FRNs that are not there
@@ -47,11 +44,6 @@ walk_skip i (suc j) m f left bs w h =
     ∙ ap (λ x. walk i (flags m left) x bs w) g
 
 -- ---- the steps of the loop
-
--- an item that is refused
-pub check_refused : (x : ItemCheck) (a : Answer ℕ) (n p number place : ℕ) → checked_of x ≡ a → x ≡ item.Refused n p → number ≡ item_number x → place ≡ item_place x
-    → a ≡ refused number place
-check_refused x a n p number place h e m q = sym h ∙ ap checked_of e ∙ ap₂ refused (sym (m ∙ ap item_number e)) (sym (q ∙ ap item_place e))
 
 abbrev pub came : ℕ → ℕ → List ℕ → ℕ → Came
 came here count starts kind = record { here = here; count = count; starts = starts; kind = kind }
@@ -102,7 +94,7 @@ module _ (i bits : ℕ) (part : List ℕ) (at left : ℕ) (rest : List ℕ) (her
     stand_stop n p c = sym (bind_out _ (later_out here c)) ∙ reached
 
     pub stand_item : (n of next : ℕ) → check_at i (count_leading_zeros 64 left) rest ≡ ok n → of ≡ type_frn i
-        → next ≡ (when eqb (count_leading_zeros 64 left) of then get_or (take (n - 0) (drop 0 rest)) 0 0 else kind)
+        → next ≡ (when eqb (count_leading_zeros 64 left) of then get_or (take n rest) 0 0 else kind)
         → Standing i bits part at others (take (length rest - n) (drop n rest)) (here + n) (count + 1) (set starts (count_leading_zeros 64 left - 1) (here % 65_536)) next
     unfolding walk
     stand_item n of next c o k =
@@ -122,7 +114,7 @@ module _ (i bits : ℕ) (part : List ℕ) (at left : ℕ) (rest : List ℕ) (her
           same =
               ap (λ x. walk i (flags x others) (f + 1) (take (length rest - n) (drop n rest)) (came (here + n) (count + 1) (set starts (f - 1) (here % 65_536)) next)) e
               ∙ ap₂ (λ xs y. walk i (flags (63 - f) others) (f + 1) xs (came (here + n) (count + 1) (set starts (f - 1) (here % 65_536)) y)) (to_end rest n)
-              (k ∙ ap₂ (λ a b. when eqb f a then get_or (take b rest) 0 0 else kind) o (sub-zero n))
+              (k ∙ ap (λ a. when eqb f a then get_or (take n rest) 0 0 else kind) o)
               ∙ sym (bind_in (λ n. walk i (flags (63 - f) others) (f + 1) (drop n rest) (passed i f n (take n rest) (came here count starts kind))) (later_in here c) refl)
               ∙ reached;
         }

@@ -1,64 +1,45 @@
 -- What each function of this crate answers, in the words of the rules. Assumes nothing.
-use Rattle.std.specs.Prelude.{ℕ, ◌≡◌, List, length, replicate}
+use Rattle.std.specs.Prelude.{ℕ, ◌≡◌, List, length, replicate, Result}
 use Rattle.rules.specs.Answer.{Answer, ok, refused, ◌>>=◌, later}
 use Rattle.rules.specs.Record.{read_record}
 use Rattle.rules.specs.Entry.{map_places, map_of, new_record}
 use Rattle.rules.specs.Entry as entry
-use Rattle.items.specs.declared.ItemCheck.{ItemCheck}
-use Rattle.items.specs.declared.ItemCheck.TheVariants as item
+use Rattle.rules.specs.Told.{told, told_as}
+use Rattle.rules.specs.declared.faults.Refusal.{Refusal}
 use Rattle.sets.specs.Sets.{category_at, frns_of}
 use Rattle.records.specs.Walk.{Came}
 use Rattle.records.specs.declared.RecordMap.{RecordMap}
-use Rattle.records.specs.declared.RecordChecked.{RecordChecked}
-use Rattle.records.specs.declared.RecordChecked.TheVariants as checked
-use Rattle.records.specs.declared.RecordWalked.{RecordWalked}
-use Rattle.records.specs.declared.ItemsWalked.{ItemsWalked}
 
 -- ---- the items
 
-abbrev pub item_number : ItemCheck → ℕ
-item_number (item.Whole n) = 0
-item_number (item.Refused n p) = n
+-- the map of no item, whose record's items start at a place; with every place absent
+abbrev pub begun : ℕ → RecordMap
+begun k = record { starts = replicate map_places 0; end = k; count = 0 }
 
-abbrev pub item_place : ItemCheck → ℕ
-item_place (item.Whole n) = 0
-item_place (item.Refused n p) = p
+abbrev pub absent : RecordMap
+absent = begun 0
 
--- how far a walk came, or the refusal that ended it
-abbrev pub came_by : RecordChecked → ItemsWalked → Answer Came
-came_by (checked.Ends e) w = ok (record { here = e; count = w.count; starts = w.starts; kind = w.kind })
-came_by (checked.Refused n p) w = refused n p
-
-abbrev pub came_of : ItemsWalked → Answer Came
-came_of w = came_by w.checked w
+-- how far a walk came, by the map that it left, or the refusal that ended it
+abbrev pub came_of : Result ℕ Refusal → RecordMap → Answer Came
+came_of r m = told_as (λ k. record { here = m.end; count = m.count; starts = m.starts; kind = k }) r
 
 -- ---- a record
 
-abbrev pub checked_number : RecordChecked → ℕ
-checked_number (checked.Ends e) = 0
-checked_number (checked.Refused n p) = n
-
-abbrev pub checked_place : RecordChecked → ℕ
-checked_place (checked.Ends e) = 0
-checked_place (checked.Refused n p) = p
-
 -- where a record ends
-abbrev pub end_of : RecordChecked → Answer ℕ
-end_of (checked.Ends e) = ok e
-end_of (checked.Refused n p) = refused n p
+abbrev pub end_of : Result ℕ Refusal → Answer ℕ
+end_of r = told r
 
--- the map with every place absent, and the map that an answer leaves
-abbrev pub absent : RecordMap
-absent = record { starts = replicate map_places 0; end = 0; count = 0 }
+-- a map as the code has it, and the map that an answer leaves: every place absent on refusal
+abbrev pub map_by : entry.RecordMap → RecordMap
+map_by m = record { starts = m.starts; end = m.end; count = m.count }
 
 abbrev pub map_in : Answer entry.RecordMap → RecordMap
-map_in (ok m) = record { starts = m.starts; end = m.end; count = m.count }
+map_in (ok m) = map_by m
 map_in (refused n p) = absent
 
--- what the code answers is what a rule answers: the record's end and its map; or the refusal, and every place absent
-pub record Walked (w : RecordWalked) (a : Answer entry.RecordMap) : Type 0 where
-  pub answer : end_of w.checked ≡ (a >>= λ m. ok m.end)
-  pub map : w.map ≡ map_in a
+-- what the code answers is what a rule answers: the record's map, which has its end; or the refusal
+abbrev pub Walked : Result RecordMap Refusal → Answer entry.RecordMap → Type 0
+Walked r a = told r ≡ (a >>= λ m. ok (map_by m))
 
 -- the map of the record that starts octets, which stand at a place
 unfoldable pub record_at : ℕ → ℕ → List ℕ → Answer entry.RecordMap
