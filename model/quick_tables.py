@@ -186,7 +186,7 @@ def type_places():
 
 
 def lent_sizes():
-    return ["pub const KINDS: usize = %d;" % KINDS, "", "pub const ROWS: usize = %d;" % ROWS]
+    return ["const KINDS: usize = %d;" % KINDS, "", "const ROWS: usize = %d;" % ROWS]
 
 
 def lent_sizes_spec():
@@ -206,7 +206,7 @@ def filled(table):
 
 
 def types():
-    return ["const TYPES: Types = ["] + filled([*type_rows(), *first_octets(), *type_places()]) + ["];"]
+    return ["static TYPES: [u8; FIRST_PLACE + PROFILES] = ["] + filled([*type_rows(), *first_octets(), *type_places()]) + ["];"]
 
 
 def set_rows(profile):
@@ -221,7 +221,7 @@ def set_rows(profile):
 
 
 def sets():
-    return ["const SETS: Sets = ["] + [line for profile in range(len(PROFILES)) for line in set_rows(profile)] + shape_lines(checked) + ["];"]
+    return ["static SETS: [u64; FIRST_SHAPE + 4 * SLOTS] = ["] + [line for profile in range(len(PROFILES)) for line in set_rows(profile)] + shape_lines(checked) + ["];"]
 
 
 # ---- shapes: FSPECs that are legal for some message type of at most six optional items; each stands where

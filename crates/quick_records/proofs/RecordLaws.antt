@@ -1,6 +1,7 @@
 -- A record that is plainly legal is legal: its tables, its items walked by the highest bit that is left, and what the message type asks for.
 --
 -- In order: the tables; the front; flags that are not set; free items; the first three items; the steps of the loop; the record. Assumes nothing.
+use Rattle.std.specs.Prelude.{Some, Result, Ok, Err}
 use Prim.Native.Nat.{ℕ, zero, suc, ◌+◌, ◌-◌, ◌*◌, ◌/◌, ◌%◌, ◌^◌, ◌≤◌, ◌<◌}
 use mathlib.Core.Path.{◌≡◌, refl, sym, ap, ap₂, ◌∙◌, subst}
 use mathlib.Core.Bool.{Bool, true, false, not, ◌&&◌, false≢true}
@@ -15,14 +16,13 @@ use lib.Seq.{drop-drop, get_or-drop}
 use mir.Syntax.{w8}
 use mir.Val.{Fits}
 use borrow.Author.Tests.{ltb-true, eqb-true, eq-eqb, ne_eqb}
-use Rattle.rules.specs.Answer.{Answer, ok, refused, when◌then◌else◌}
+use Rattle.rules.specs.Answer.{Answer, ok, refused, ◌>>=◌, when◌then◌else◌}
 use Rattle.rules.specs.Presence.{flags}
 use Rattle.rules.specs.Entry.{RecordMap, map_of}
 use Rattle.rules.proofs.AnswerLaws.{ok_inj, bind_in, bind_elim, later_in, both_left, both_right, Octets, octets_drop, to_end}
 use Rattle.rules.proofs.PresenceLaws.{flags_length}
 use Rattle.items.specs.Answers.{check_at}
 use Rattle.tables.specs.Tests.{all_below}
-use Rattle.quick_items.specs.Item.{Plainly}
 use Rattle.tables.specs.Tables.{profile_count, frn_count}
 use Rattle.layouts.proofs.ReadLaws.{le_or_lt}
 use Rattle.tables.proofs.TableLaws.{all_below_lem}
@@ -31,11 +31,13 @@ use Rattle.sets.specs.Sets.{category_at, set_at, within}
 use Rattle.sets.specs.Steps.{type_frn, row_at, judge_set}
 use Rattle.records.specs.Walk.{Came, passed, walk, start_at, record_by}
 use Rattle.sets.specs.Answers.{set_of}
-use Rattle.records.specs.Answers.{record_at}
-use Rattle.quick_records.specs.Record.{kind_count, row_count, way_count, must_at, may_at, is_row, sound_row, free, all_free, free_sum, has_front, front_octets, type_at, sound_sum, row_in, sum_in, place_in, sound_place, sound_profile, sound_types, Content, Goes, Later, Walks, Passed, end_at}
-use Rattle.sets.specs.declared.ItemSet.{ItemSet}
-use Rattle.sets.specs.declared.SetRead.{SetRead}
-use Rattle.sets.specs.declared.SetRead.TheVariants as set
+use Rattle.records.specs.declared.RecordMap as found
+use Rattle.rules.specs.declared.faults.Refusal.{Refusal}
+use Rattle.rules.specs.Told.{told_as}
+use Rattle.records.specs.Answers.{Walked, record_at}
+use Rattle.quick_records.specs.Record.{kind_count, row_count, way_count, must_at, may_at, is_row, sound_row, free, all_free, free_sum, has_front, front_octets, type_at, sound_sum, row_in, sum_in, place_in, sound_place, sound_profile, sound_types, Typed, Content, Goes, Later, Walks, Passed, end_at}
+use Rattle.rules.specs.declared.faults.Fault.{Fault}
+use Rattle.sets.specs.declared.Fspec.{Fspec}
 use Rattle.sets.proofs.FlagLaws.{flags_split, has_bit, First, first_from, first_rest, first_flags}
 use Rattle.sets.proofs.SetLaws.{octets_all}
 use Rattle.records.proofs.PlaceLaws.{check_within}
@@ -82,6 +84,9 @@ module _ (ts : List ℕ) (i : ℕ) (s : sound_types ts ≡ true) (h : i < profil
           ap₂ (λ x y. ok (x, y)) (eqb-true a (must_at i r) (both_left _ _ q)) (eqb-true b (may_at i r) (both_right (eqb a (must_at i r)) _ q))
       go (refused n p) q = absurd (false≢true q)
 
+  pub typed_known : (t r : ℕ) → t < kind_count → r ≡ row_in ts i t → Typed i t r
+  typed_known t r k e = record { few = row_under t r k (sym e); is = row_read t r k (sym e) }
+
   sum_sound : (v m : ℕ) → v < way_count → sum_in ts i v ≡ m → (m ≡ 0 → ⊥) → has_front i && (all_free i 4 (flags 4 v) && eqb m (front_octets i + free_sum i 4 (flags 4 v))) ≡ true
   sum_sound v m k e n = other (eqb m 0) _ (subst (λ x. sound_sum i v x ≡ true) e (all_below_lem way_count sums_of v (both_left sums (sound_place ts i) sound_later) k)) (λ q. n (eqb-true m 0 q))
 
@@ -104,6 +109,9 @@ module _ (ts : List ℕ) (i : ℕ) (s : sound_types ts ≡ true) (h : i < profil
 
     pub place_read_lem : place_in ts i ≡ type_at i
     place_read_lem = eqb-true (place_in ts i) (type_at i) (other (eqb (sum_in ts i 0) 0) _ (both_right sums (sound_place ts i) sound_later) (λ q. n (e ∙ eqb-true (sum_in ts i 0) 0 q)))
+
+pub typed_none : (i t : ℕ) → Typed i t 0
+typed_none i t = record { few = omega arith; is = λ z. absurd (z refl) }
 
 -- ---- the front of a record's items
 
@@ -185,10 +193,6 @@ content i bits kind must may {b = false} h e r g m k = tt
 pub right : (t : Bool) (a : Answer (Unit {0})) → Content t a → not t ≡ false → Content true a
 right true a h n = h
 right false a h n = absurd (false≢true (sym n))
-
-pub tell : (n : ℕ) (a : Answer ℕ) → a ≡ ok n → Plainly n a
-tell zero a h = tt
-tell (suc n) a h = h
 
 -- ---- one item, and items that are free
 
@@ -341,24 +345,18 @@ module _ (i bits : ℕ) (part : List ℕ) where
             };
       }
 
-  pub stand_end : (left n : ℕ) (rest : List ℕ) → Standing i bits part left rest → left ≡ 0 → n ≡ length part - length rest + 1 → Later i bits part n
-  stand_end left zero rest s z e = tt
-  stand_end left (suc n) rest s z e =
-      let m : n ≡ length part - length rest = omega arith in (
-        omega arith,
-        λ w. record {
-          came = (s.onward w).came;
-          walks = (s.onward w).walks ∙ ap (λ x. walk i (flags 60 x) 4 rest (s.onward w).came) z ∙ walk_none i 60 4 rest (s.onward w).came;
-          here = (s.onward w).here ∙ ap (λ x. w.here + x) (sym m);
-          kind = (s.onward w).kind;
-        },
-      )
+  pub stand_end : (left n : ℕ) (rest : List ℕ) → Standing i bits part left rest → left ≡ 0 → n ≡ length part - length rest → Later i bits part (Some n)
+  stand_end left n rest s z e = (
+    omega arith,
+    λ w. record {
+      came = (s.onward w).came;
+      walks = (s.onward w).walks ∙ ap (λ x. walk i (flags 60 x) 4 rest (s.onward w).came) z ∙ walk_none i 60 4 rest (s.onward w).came;
+      here = (s.onward w).here ∙ ap (λ x. w.here + x) (sym e);
+      kind = (s.onward w).kind;
+    },
+  )
 
 -- ---- all items of a set that has FRN 1 to 3
-
-pub later_within : (i bits : ℕ) (bs : List ℕ) (n : ℕ) → Later i bits bs n → (n ≡ 0 → ⊥) → n ≤ length bs + 1
-later_within i bits bs zero l z = absurd (z refl)
-later_within i bits bs (suc n) l z = omega (arith, l.0)
 
 module _ (i bits : ℕ) (part : List ℕ) (h : i < profile_count) (f : has_front i ≡ true) (o : Octets part) (b : bits / 2 ^ 60 ≡ 7) where
   bits_below : bits < 2 ^ (3 + 60)
@@ -369,8 +367,8 @@ module _ (i bits : ℕ) (part : List ℕ) (h : i < profile_count) (f : has_front
   seven = flags_split 3 60 bits bits_below ∙ ap (λ x. flags 3 x ++ flags 60 (bits % 2 ^ 60)) b
 
   -- the first three, and then those from FRN 4 on
-  three_walks : (m n : ℕ) → m ≡ front_octets i → m ≤ length part → Later i (bits % 2 ^ 60) (take (length part - m) (drop m part)) (suc n) → (k : ℕ) → Walks i bits part (m + n) k
-  three_walks m n em l g k =
+  pub pass_three : (m n : ℕ) → m ≡ front_octets i → m ≤ length part → Later i (bits % 2 ^ 60) (take (length part - m) (drop m part)) (Some n) → (k : ℕ) → Walks i bits part (m + n) k
+  pass_three m n em l g k =
       let us : List Bool = flags 60 (bits % 2 ^ 60) in
       let l₁ : front_octets i ≤ length part = omega (arith, em) in
       let u : Came = third i us part k h f o l₁ in
@@ -386,14 +384,6 @@ module _ (i bits : ℕ) (part : List ℕ) (h : i < profile_count) (f : has_front
         kind = q.kind f ∙ third_kind i us part k h f o l₁;
       }
 
-  pub pass_three : (m n : ℕ) → m ≡ front_octets i → m ≤ length part → Later i (bits % 2 ^ 60) (take (length part - m) (drop m part)) n → (n ≡ 0 → ⊥) → Passed i bits part (m + n - 1)
-  pass_three m zero em l g z = absurd (z refl)
-  pass_three zero (suc n) em l g z = absurd (omega (arith, front_some i f, em))
-  pass_three (suc m) (suc n) em l g z =
-      let e : suc (m + n) ≡ suc m + suc n - 1 = omega arith in
-      let d : suc m + n ≡ suc (m + n) = omega arith in
-      subst (Passed i bits part) e (λ k. subst (λ x. Walks i bits part x k) d (three_walks (suc m) n em l g k))
-
   -- the first seven, where those after the third are free
   module _ (v n : ℕ) (ev : v ≡ bits / 2 ^ 56 % 16) (a : all_free i 4 (flags 4 v) ≡ true) (en : n ≡ front_octets i + free_sum i 4 (flags 4 v)) (l : n ≤ length part) where
     low : bits % 2 ^ 60 % 2 ^ 56 ≡ bits % 2 ^ 56
@@ -405,7 +395,7 @@ module _ (i bits : ℕ) (part : List ℕ) (h : i < profile_count) (f : has_front
     four : flags 60 (bits % 2 ^ 60) ≡ flags 4 v ++ flags 56 (bits % 2 ^ 56)
     four = flags_split 4 56 (bits % 2 ^ 60) (mod-lt bits (pow_pos 60)) ∙ ap₂ (λ x y. flags 4 x ++ flags 56 y) high low
 
-    pass_seven : (m : ℕ) → Later i (bits % 2 ^ 56) (take (length part - n) (drop n part)) (suc m) → (k : ℕ) → Walks i bits part (n + m) k
+    pub pass_seven : (m : ℕ) → Later i (bits % 2 ^ 56) (take (length part - n) (drop n part)) (Some m) → (k : ℕ) → Walks i bits part (n + m) k
     pass_seven m g k =
         let m₁ : ℕ = front_octets i in
         let l₁ : m₁ ≤ length part = omega arith in
@@ -428,16 +418,6 @@ module _ (i bits : ℕ) (part : List ℕ) (h : i < profile_count) (f : has_front
           kind = q.kind f ∙ s.kind ∙ third_kind i (flags 60 (bits % 2 ^ 60)) part k h f o l₁;
         }
 
-  pub pass_sum : (ts : List ℕ) (v n m : ℕ) → sound_types ts ≡ true → v ≡ bits / 2 ^ 56 % 16 → n ≡ sum_in ts i v → (n ≡ 0 → ⊥) → n ≤ length part
-      → Later i (bits % 2 ^ 56) (take (length part - n) (drop n part)) m → (m ≡ 0 → ⊥) → Passed i bits part (n + m - 1)
-  pass_sum ts v n zero t ev en z l g y = absurd (y refl)
-  pass_sum ts v zero (suc m) t ev en z l g y = absurd (z refl)
-  pass_sum ts v (suc n) (suc m) t ev en z l g y =
-      let r : (all_free i 4 (flags 4 v) ≡ true) × (suc n ≡ front_octets i + free_sum i 4 (flags 4 v)) = sum_read ts i t h v (suc n) (omega arith) (sym en) z in
-      let e : suc (n + m) ≡ suc n + suc m - 1 = omega arith in
-      let d : suc n + m ≡ suc (n + m) = omega arith in
-      subst (Passed i bits part) e (λ k. subst (λ x. Walks i bits part x k) d (pass_seven v (suc n) ev r.0 r.1 l m g k))
-
 -- ---- the record
 
 module _ (i : ℕ) (bs : List ℕ) (known : (j : ℕ) → Fits w8 (get_or bs j 0)) (b : length bs < 65_536) where
@@ -445,18 +425,18 @@ module _ (i : ℕ) (bs : List ℕ) (known : (j : ℕ) → Fits w8 (get_or bs j 0
   clean = octets_all bs known
 
   -- the set, what the message type asks for and the items told so
-  pub quick_whole : (s : SetRead) (found : ItemSet) (used n : ℕ) → set_of s ≡ set_at i bs → s ≡ set.Items found used
-      → (c x : ℕ) → c ≡ get_or (take (length bs - used) (drop used bs)) x 0 → x ≡ type_at i → Content true (judge_set i found.bits c) → (n ≡ 0 → ⊥) → Passed i found.bits (take (length bs - used) (drop used bs)) n
-      → end_at i 0 bs ≡ ok (used + n)
+  pub quick_whole : (s : Result Fspec Fault) (f : Fspec) (n : ℕ) → set_of s ≡ set_at i bs → s ≡ Ok f
+      → (c x : ℕ) → c ≡ get_or (take (length bs - f.octets) (drop f.octets bs)) x 0 → x ≡ type_at i → Content true (judge_set i f.set.bits c) → Passed i f.set.bits (take (length bs - f.octets) (drop f.octets bs)) (Some n)
+      → end_at i 0 bs ≡ ok (f.octets + n)
   unfolding record_by
-  quick_whole s found used zero h e c x ec ex j z p = absurd (z refl)
-  quick_whole s found used (suc n) h e c x ec ex j z p =
-      let w : Walks i found.bits (take (length bs - used) (drop used bs)) (suc n) (0 + used) = p (0 + used) in
+  quick_whole s f n h e c x ec ex j p =
+      let used : ℕ = f.octets in
+      let w : Walks i f.set.bits (take (length bs - used) (drop used bs)) n (0 + used) = p (0 + used) in
       let r : record_by i 0 bs ≡ ok (record { start = 0; starts = w.came.starts; end = w.came.here; count = w.came.count }) =
       bind_in _ (later_in 0 (sym h ∙ ap set_of e))
-      (bind_in _ (ap (λ l. walk i (flags 63 found.bits) 1 l (start_at (0 + used))) (sym (to_end bs used)) ∙ w.walks)
-      (bind_in _ (later_in 0 (ap (judge_set i found.bits) (w.kind ∙ sym (ec ∙ ap (λ y. get_or (take (length bs - used) (drop used bs)) y 0) ex)) ∙ j)) refl)) in
-      bind_in _ (sym (record_law i 0 bs clean (omega arith)) ∙ r) (ap ok (w.here ∙ ap (λ x. x + suc n) (zero-add used)))
+      (bind_in _ (ap (λ l. walk i (flags 63 f.set.bits) 1 l (start_at (0 + used))) (sym (to_end bs used)) ∙ w.walks)
+      (bind_in _ (later_in 0 (ap (judge_set i f.set.bits) (w.kind ∙ sym (ec ∙ ap (λ y. get_or (take (length bs - used) (drop used bs)) y 0) ex)) ∙ j)) refl)) in
+      bind_in _ (sym (record_law i 0 bs clean (omega arith)) ∙ r) (ap ok (w.here ∙ ap (λ x. x + n) (zero-add used)))
 
   -- wherever it stands
   pub end_anywhere : (k n : ℕ) → end_at i 0 bs ≡ ok n → end_at i k bs ≡ ok (k + n)
@@ -477,3 +457,15 @@ module _ (i : ℕ) (bs : List ℕ) (known : (j : ℕ) → Fits w8 (get_or bs j 0
       bind_elim _ _ h λ m p e.
       let f : m.end ≡ n = ok_inj e in
       omega (arith, (record_read i 0 bs m clean p).ends)
+
+-- the exact check's map ends where the record ends
+end_in : Answer found.RecordMap → Answer ℕ
+end_in (ok m) = ok m.end
+end_in (refused n p) = refused n p
+
+pub walked_end : (r : Result found.RecordMap Refusal) (a : Answer RecordMap) → Walked r a → told_as (λ m. m.end) r ≡ (a >>= λ m. ok m.end)
+unfolding ◌>>=◌ end_in
+walked_end (Ok m) (ok x) w = ap end_in w
+walked_end (Ok m) (refused n p) w = ap end_in w
+walked_end (Err r) (ok x) w = ap end_in w
+walked_end (Err r) (refused n p) w = ap end_in w

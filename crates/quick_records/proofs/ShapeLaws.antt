@@ -1,12 +1,13 @@
 -- A record of a known shape is legal: its FSPEC, its message type, and its items as far as the shape goes.
 --
 -- In order: octets as a number; the FSPEC; the message type; the item that is looked into; runs of free items; the walk; the record. Assumes nothing.
+use Rattle.std.specs.Prelude.{Some, Ok}
 use Prim.Native.Nat.{ℕ, zero, suc, ◌+◌, ◌-◌, ◌*◌, ◌/◌, ◌%◌, ◌^◌, ◌≤◌, ◌<◌}
 use mathlib.Core.Path.{◌≡◌, refl, sym, ap, ap₂, ◌∙◌, subst}
 use mathlib.Core.Bool.{Bool, true, false, cond, not, ◌&&◌, ◌||◌, false≢true}
 use mathlib.Core.List.{List, [], ◌∷◌, ◌++◌}
 use native.Mathlib.Omega.{arith}
-use native.Mathlib.Nat.{add-zero, add_assoc, mul-zero, mul-le-mul_right}
+use native.Mathlib.Nat.{add-zero, add_assoc, mul-zero}
 use lib.Dec.{leb, ltb, eqb}
 use lib.ListN.{length, take, drop, get_or, length-drop, take-append-drop}
 use lib.Seq.{drop-drop, get_or-drop}
@@ -28,15 +29,14 @@ use Rattle.items.proofs.CheckLaws.{whole_check}
 use Rattle.sets.specs.Sets.{category_at, set_at, within}
 use Rattle.records.specs.Walk.{Came, passed, walk, start_at}
 use Rattle.sets.specs.Steps.{row_at, judge_set, ended, set_from}
-use Rattle.sets.specs.declared.SetRead.TheVariants as set
 use Rattle.sets.proofs.SetLaws.{set_law, octets_all}
 use Rattle.records.proofs.WalkLaws.{walk_none, walk_skip}
 use Rattle.tables.specs.Tests.{all_below}
-use Rattle.quick_items.specs.Item.{Plainly, first_three, asks, sound_single, sound_counted}
-use Rattle.quick_records.specs.Record.{kind_count, row_count, type_sets, must_at, may_at, sound_types, free, has_front, front_octets, type_at, Content, Goes, Later, Walks, Passed, end_at}
-use Rattle.quick_records.specs.Shape.{shape_count, set_count, low_number, low_octets, used_of, start_of, tail_of, profile_of, types_of, word_of, place_of, sound_type, sound_mask, is_free, run_sum, run_left, sound_special, sound_first, sound_then, sound_items, sound_front, shape_by, bounded, sound_shape, sound_shape_at, sound_sets, Front, Fronts, Listed, OfType}
-use Rattle.quick_items.proofs.ItemLaws.{octet_at, cut, free_check, ruled_told, counted_told, told, other}
-use Rattle.quick_records.proofs.RecordLaws.{row_under, row_read, front_some, one, none_here, kind_stays, Skipped, third, first_three_lem, third_here, third_kind, seven, content, quick_whole}
+use Rattle.quick_items.specs.Item.{first_three, asks, sound_single, sound_counted}
+use Rattle.quick_records.specs.Record.{row_count, type_sets, must_at, may_at, free, has_front, front_octets, type_at, Typed, Content, Goes, Later, Walks, Passed, end_at}
+use Rattle.quick_records.specs.Shape.{shape_count, set_count, low_number, low_octets, used_of, start_of, tail_of, profile_of, types_of, word_of, place_of, sound_type, sound_mask, is_free, run_sum, run_left, sound_special, sound_first, sound_then, sound_items, sound_front, shape_by, bounded, sound_shape, sound_shape_at, sound_sets, Front, Listed, OfType}
+use Rattle.quick_items.proofs.ItemLaws.{octet_at, cut, free_check, ruled_told, counted_told, other}
+use Rattle.quick_records.proofs.RecordLaws.{one, none_here, kind_stays, Skipped, third, first_three_lem, third_here, third_kind, seven, content, quick_whole}
 
 octet_here : (n : ℕ) (xs bs : List ℕ) → xs ≡ drop n bs → get_or xs 0 0 ≡ get_or bs n 0
 octet_here n xs bs e = ap (λ l. get_or l 0 0) e ∙ get_or-drop n bs 0 0 ∙ ap (λ y. get_or bs y 0) (add-zero n)
@@ -116,23 +116,15 @@ type_told i bits types kind r h e s l t is =
     content i bits kind (must_at i r) (may_at i r) {a = true} {b = true} h e (is some) (sym (both_left a b w)) refl (sym (both_right a b w))
 
 -- by the bit of its row
-pub listed_told : (ts : List ℕ) (i kind types r : ℕ) (t : Bool) → sound_types ts ≡ true → i < profile_count → kind < kind_count → r ≡ get_or ts (i * kind_count + kind) 0 → t ≡ eqb (types / 2 ^ r % 2) 1 → OfType t i types kind
-listed_told ts i kind types r false s h k e q = tt
-listed_told ts i kind types r true s h k e q = record { row = r; few = row_under ts i s h kind r k (sym e); there = eqb-true _ _ (sym q); is = row_read ts i s h kind r k (sym e) }
+pub listed_told : (i kind types r : ℕ) (t : Bool) → Typed i kind r → t ≡ eqb (types / 2 ^ r % 2) 1 → OfType t i types kind
+listed_told i kind types r false k q = tt
+listed_told i kind types r true k q = record { row = r; there = eqb-true _ _ (sym q); typed = k }
 
 pub listed_right : (t : Bool) (i types kind : ℕ) → OfType t i types kind → not t ≡ false → Listed i types kind
 listed_right true i types kind l n = l
 listed_right false i types kind l n = absurd (false≢true (sym n))
 
 -- ---- the item that is looked into
-
-pub fronts_of : (a w rule : ℕ) (bs : List ℕ) (n : ℕ) → Front a w rule bs n → Fronts a w rule bs n
-fronts_of a w rule bs zero f = tt
-fronts_of a w rule bs (suc n) f = f
-
-pub front_of_lem : (a w rule : ℕ) (bs : List ℕ) (n : ℕ) → Fronts a w rule bs n → (n ≡ 0 → ⊥) → Front a w rule bs n
-front_of_lem a w rule bs zero f z = absurd (z refl)
-front_of_lem a w rule bs (suc n) f z = f
 
 three_at : (at : ℕ) (bs : List ℕ) {x y z : ℕ} → x ≡ get_or bs at 0 → y ≡ get_or bs (at + 1) 0 → z ≡ get_or bs (at + 2) 0 → x * 65_536 + y * 256 + z ≡ first_three (drop at bs)
 unfolding first_three
@@ -155,22 +147,19 @@ special_told : (i f w rule n : ℕ) (bs : List ℕ) → i < profile_count → f 
 special_told i f w rule n bs h k o s long b e l least asked =
     let lay : LayoutRow = layout_at (place_row_at (i * frn_count + f)).layout in
     let min : Bool = ltb 0 (w % 16 + w / 4_096 % 16 * (w / 16 % 16)) in
-    let more : w / 4_096 % 16 * (w / 16 % 16) ≤ get_or bs 0 0 * (w / 16 % 16) = mul-le-mul_right (w / 16 % 16) least in
-    let first : 0 < w % 16 + w / 4_096 % 16 * (w / 16 % 16) = ltb-true 0 _ (both_left min _ s) in
-    let some : n ≡ 0 → ⊥ = λ z. omega (arith, first, more) in
     let sound = layout_sound (place_row_at (i * frn_count + f)).layout (place_row_lem (i * frn_count + f)) in
-    whole_check i f bs n h k o (told n (whole_size lay bs) (go sound (eqb (w / 256 % 16) 1) (both_right min _ s)) some)
+    whole_check i f bs n h k o (go sound (eqb (w / 256 % 16) 1) (both_right min _ s))
   where
     go : row_sound (layout_at (place_row_at (i * frn_count + f)).layout) ≡ true → (t : Bool) → cond t (eqb (w / 16 % 16) 0 && sound_single rule (rule / 2 ^ 32) w (layout_at (place_row_at (i * frn_count + f)).layout)) (sound_counted w (layout_at (place_row_at (i * frn_count + f)).layout)) ≡ true
-        → Plainly n (whole_size (layout_at (place_row_at (i * frn_count + f)).layout) bs)
+        → whole_size (layout_at (place_row_at (i * frn_count + f)).layout) bs ≡ ok n
     go sound true q =
         let z : w / 16 % 16 ≡ 0 = eqb-true _ _ (both_left (eqb (w / 16 % 16) 0) _ q) in
         let y : w % 16 + get_or bs 0 0 * 0 ≡ w % 16 = omega arith in
         let m : n ≡ w % 16 = e ∙ ap (λ x. w % 16 + get_or bs 0 0 * x) z ∙ y in
-        subst (λ x. Plainly x (whole_size (layout_at (place_row_at (i * frn_count + f)).layout) bs)) (sym m)
+        subst (λ x. whole_size (layout_at (place_row_at (i * frn_count + f)).layout) bs ≡ ok x) (sym m)
         (ruled_told (layout_at (place_row_at (i * frn_count + f)).layout) w bs sound o (omega (arith, m)) rule (rule / 2 ^ 32) (both_right (eqb (w / 16 % 16) 0) _ q) asked)
     go sound false q =
-        subst (λ x. Plainly x (whole_size (layout_at (place_row_at (i * frn_count + f)).layout) bs)) (sym e)
+        subst (λ x. whole_size (layout_at (place_row_at (i * frn_count + f)).layout) bs ≡ ok x) (sym e)
         (counted_told (layout_at (place_row_at (i * frn_count + f)).layout) w bs sound o long q refl b least (omega (arith, e)))
 
 -- ---- runs of free items
@@ -270,7 +259,7 @@ module _ (i bits : ℕ) (items : List ℕ) (h : i < profile_count) (g : has_fron
       }
 
   -- the items that are left are walked from FRN 4 on
-  reach_end : (us : List Bool) (n k left m : ℕ) → Reached us n k → left ≡ number us → Later i left (drop n items) (suc m) → Walks i bits items (n + m) k
+  reach_end : (us : List Bool) (n k left m : ℕ) → Reached us n k → left ≡ number us → Later i left (drop n items) (Some m) → Walks i bits items (n + m) k
   reach_end us n k left m r e later =
       let q : Goes i left (drop n items) m r.came = later.1 r.came in
       let j : ℕ = 60 - length us in
@@ -288,12 +277,12 @@ module _ (i bits : ℕ) (items : List ℕ) (h : i < profile_count) (g : has_fron
       }
 
 -- no item is left
-pub later_none : (i : ℕ) (bs : List ℕ) → Later i 0 bs 1
+pub later_none : (i : ℕ) (bs : List ℕ) → Later i 0 bs (Some 0)
 later_none i bs = (omega arith, λ w. record { came = w; walks = walk_none i 60 4 bs w; here = sym (add-zero w.here); kind = λ g. refl })
 
 -- ---- the items, by a row of the table
 
-module _ (i a b rule left n m bits : ℕ) (bs : List ℕ) (h : i < profile_count) (fronted : has_front i ≡ true) (o : Octets bs) (top : bits / 2 ^ 60 ≡ 7) (front : Front a (word_of b) rule bs n) (rest : Later i left (drop n bs) (suc m)) where
+module _ (i a b rule left n m bits : ℕ) (bs : List ℕ) (h : i < profile_count) (fronted : has_front i ≡ true) (o : Octets bs) (top : bits / 2 ^ 60 ≡ 7) (front : Front a (word_of b) rule bs n) (rest : Later i left (drop n bs) (Some m)) where
   abbrev items : List ℕ
   items = drop (used_of a) bs
 
@@ -334,7 +323,7 @@ module _ (i a b rule left n m bits : ℕ) (bs : List ℕ) (h : i < profile_count
         λ k.
             let r₁ : Reached i bits items h fronted clean ts ahead k = subst (λ x. Reached i bits items h fronted clean x ahead k) (sym et) (reach_three i bits items h fronted clean k top (omega (arith, front.fits, size, long))) in
             let r₂ : Reached i bits items h fronted clean us (ahead + sum) k = reach_run i bits items h fronted clean ts ahead k 4 f r₁ (omega (arith, front.fits, size, long)) in
-            let g : Later i left (drop (ahead + sum) items) (suc m) = subst (λ x. Later i left x (suc m)) (ap (λ x. drop x bs) size ∙ sym (drop-drop (ahead + sum) (used_of a) bs)) rest in
+            let g : Later i left (drop (ahead + sum) items) (Some m) = subst (λ x. Later i left x (Some m)) (ap (λ x. drop x bs) size ∙ sym (drop-drop (ahead + sum) (used_of a) bs)) rest in
             subst (λ x. Walks i bits items (x + m) k) (sym less) (reach_end i bits items h fronted clean us (ahead + sum) k left m r₂ e₄ g),
       )
 
@@ -373,7 +362,7 @@ module _ (i a b rule left n m bits : ℕ) (bs : List ℕ) (h : i < profile_count
         λ k.
             let r₁ : Reached i bits items h fronted clean vs (ahead + s + x) k = reach_one i bits items h fronted clean vs (ahead + s) x k (reach k (omega (arith, e₄, front.there))) c in
             let r₂ : Reached i bits items h fronted clean (run_left i g vs) (ahead + s + x + run_sum i g vs) k = reach_run i bits items h fronted clean vs (ahead + s + x) k g refl r₁ (omega (arith, front.fits, size, long)) in
-            let z : Later i left (drop (ahead + s + x + run_sum i g vs) items) (suc m) = subst (λ y. Later i left y (suc m)) (ap (λ y. drop y bs) size ∙ sym (drop-drop (ahead + s + x + run_sum i g vs) (used_of a) bs)) rest in
+            let z : Later i left (drop (ahead + s + x + run_sum i g vs) items) (Some m) = subst (λ y. Later i left y (Some m)) (ap (λ y. drop y bs) size ∙ sym (drop-drop (ahead + s + x + run_sum i g vs) (used_of a) bs)) rest in
             subst (λ y. Walks i bits items (y + m) k) (sym less) (reach_end i bits items h fronted clean (run_left i g vs) (ahead + s + x + run_sum i g vs) k left m r₂ e₃ z),
       )
 
@@ -391,10 +380,6 @@ module _ (i a b rule left n m bits : ℕ) (bs : List ℕ) (h : i < profile_count
       either_way false y e g k = k e
 
 -- ---- the record
-
-passed_of : (i bits : ℕ) (bs : List ℕ) (n : ℕ) → ((k : ℕ) → Walks i bits bs n k) → Passed i bits bs n
-passed_of i bits bs zero w = tt
-passed_of i bits bs (suc n) w = w
 
 module _ (a b rule left : ℕ) (s : sound_shape a b rule left ≡ true) where
   abbrev read : Answer (ℕ × ℕ)
@@ -437,7 +422,7 @@ module _ (a b rule left : ℕ) (s : sound_shape a b rule left ≡ true) where
     octets = octets_all bs known
 
     shape_end : (word n m c : ℕ) → 5 ≤ length bs → word ≡ low_number 5 bs → word * 2 ^ (64 - 8 * used_of a) % 2 ^ 64 ≡ a * 2 ^ (64 - 8 * used_of a) % 2 ^ 64
-        → Front a (word_of b) rule bs n → c ≡ get_or bs (place_of b) 0 → Listed (profile_of a) (types_of b) c → Later (profile_of a) left (drop n bs) (suc m) → end_at (profile_of a) 0 bs ≡ ok (n + m)
+        → Front a (word_of b) rule bs n → c ≡ get_or bs (place_of b) 0 → Listed (profile_of a) (types_of b) c → Later (profile_of a) left (drop n bs) (Some m) → end_at (profile_of a) 0 bs ≡ ok (n + m)
     shape_end word n m c long ew ec front eq listed rest = go read refl by_set
       where
         go : (x : Answer (ℕ × ℕ)) → read ≡ x → shape_by (profile_of a) a b rule left x ≡ true → end_at (profile_of a) 0 bs ≡ ok (n + m)
@@ -460,24 +445,22 @@ module _ (a b rule left : ℕ) (s : sound_shape a b rule left ≡ true) where
             let kind : c ≡ get_or (take (length bs - used_of a) (drop (used_of a) bs)) (type_at i) 0 = type_here (used_of a) (type_at i) c bs (eq ∙ ap (λ x. get_or bs x 0) e₂) in
             let n₁ : ℕ = n - used_of a + m in
             let same : used_of a + n₁ ≡ n + m = omega (arith, ends.0) in
-            quick_whole i bs known fits (set.Items (record { bits = bits }) (used_of a)) (record { bits = bits }) (used_of a) n₁ (ap (λ x. ok (bits, x)) (sym e₁) ∙ sym set_is) refl c (type_at i) kind refl
-            (type_told i bits (types_of b) c listed.row fronted top (both_right (p && q) r y₁) listed.few listed.there listed.is)
-            (λ z. omega (arith, z, ends.0, front_some i fronted)) (subst (λ l. Passed i bits l n₁) (sym (to_end bs (used_of a))) (passed_of i bits (drop (used_of a) bs) n₁ ends.1))
+            quick_whole i bs known fits (Ok (record { set = record { bits = bits }; octets = used_of a })) (record { set = record { bits = bits }; octets = used_of a }) n₁ (ap (λ x. ok (bits, x)) (sym e₁) ∙ sym set_is) refl c (type_at i) kind refl
+            (type_told i bits (types_of b) c listed.row fronted top (both_right (p && q) r y₁) listed.typed.few listed.there listed.typed.is)
+            (subst (λ l. Passed i bits l (Some n₁)) (sym (to_end bs (used_of a))) ends.1)
             ∙ ap ok same
 
     -- the record of a profile, with the items that are left
     module _ (i word n c : ℕ) (ep : profile_of a ≡ i) (long : 5 ≤ length bs) (ew : word ≡ low_number 5 bs) (ec : word * 2 ^ (64 - 8 * used_of a) % 2 ^ 64 ≡ a * 2 ^ (64 - 8 * used_of a) % 2 ^ 64) (front : Front a (word_of b) rule bs n) (eq : c ≡ get_or bs (place_of b) 0) (listed : Listed i (types_of b) c) where
-      pub shape_whole : (m : ℕ) → Later i left (take (length bs - n) (drop n bs)) m → (m ≡ 0 → ⊥) → end_at i 0 bs ≡ ok (n + m - 1)
-      shape_whole zero rest z = absurd (z refl)
-      shape_whole (suc m) rest z =
-          let e : n + m ≡ n + suc m - 1 = omega arith in
-          subst (λ j. Listed j (types_of b) c → Later j left (drop n bs) (suc m) → end_at j 0 bs ≡ ok (n + suc m - 1)) ep (λ l r. shape_end word n m c long ew ec front eq l r ∙ ap ok e)
-          listed (subst (λ x. Later i left x (suc m)) (to_end bs n) rest)
+      pub shape_whole : (m : ℕ) → Later i left (take (length bs - n) (drop n bs)) (Some m) → end_at i 0 bs ≡ ok (n + m)
+      shape_whole m rest =
+          subst (λ j. Listed j (types_of b) c → Later j left (drop n bs) (Some m) → end_at j 0 bs ≡ ok (n + m)) ep (λ l r. shape_end word n m c long ew ec front eq l r)
+          listed (subst (λ x. Later i left x (Some m)) (to_end bs n) rest)
 
       pub shape_only : left ≡ 0 → end_at i 0 bs ≡ ok n
       shape_only z =
-          let e : n + 1 - 1 ≡ n = omega arith in
-          shape_whole 1 (subst (λ x. Later i x (take (length bs - n) (drop n bs)) 1) (sym z) (later_none i (take (length bs - n) (drop n bs)))) (λ y. omega (arith, y)) ∙ ap ok e
+          let e : n + 0 ≡ n = omega arith in
+          shape_whole 0 (subst (λ x. Later i x (take (length bs - n) (drop n bs)) (Some 0)) (sym z) (later_none i (take (length bs - n) (drop n bs)))) ∙ ap ok e
 
 -- ---- the table
 

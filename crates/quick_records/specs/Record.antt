@@ -1,5 +1,5 @@
 -- Records that are plainly legal: what the lent tables have, and what the answers tell. Assumes nothing.
-use Rattle.std.specs.Prelude.{ℕ, zero, suc, ◌+◌, ◌-◌, ◌*◌, ◌≤◌, ◌≡◌, Bool, true, false, ◌&&◌, ◌||◌, List, [], ◌∷◌, ◌++◌, map, ltb, eqb, length, get_or, replicate}
+use Rattle.std.specs.Prelude.{ℕ, ◌+◌, ◌-◌, ◌*◌, ◌≤◌, ◌<◌, ◌≡◌, Bool, true, false, ◌&&◌, ◌||◌, List, [], ◌∷◌, ◌++◌, Option, Some, None, map, ltb, eqb, length, get_or, replicate}
 use Rattle.rules.specs.Answer.{Answer, ok, refused, ◌>>=◌}
 use Rattle.rules.specs.Chain.{flatten}
 use Rattle.rules.specs.Presence.{flags}
@@ -118,25 +118,29 @@ abbrev pub Content : Bool → Answer (Unit {0}) → Type 0
 Content false a = Unit {0}
 Content true a = a ≡ ok tt
 
--- a number other than 0 tells, less one, how many octets the items of a set take that has no FRN under 4, however far the walk had come; where the
--- message type is in the front, none of them is it
+-- a row is a message type's; 0 is no type's
+pub record Typed (i kind r : ℕ) : Type 0 where
+  pub few : r < row_count
+  pub is : (r ≡ 0 → ⊥) → row_at i kind ≡ ok (must_at i r, may_at i r)
+
+-- how many octets the items of a set take that has no FRN under 4, however far the walk had come; where the message type is in the front, none of them is it
 pub record Goes (i bits : ℕ) (bs : List ℕ) (n : ℕ) (w : Came) : Type 0 where
   pub came : Came
   pub walks : walk i (flags 60 bits) 4 bs w ≡ ok came
   pub here : came.here ≡ w.here + n
   pub kind : has_front i ≡ true → came.kind ≡ w.kind
 
-abbrev pub Later : ℕ → ℕ → List ℕ → ℕ → Type 0
-Later i bits bs zero = Unit {0}
-Later i bits bs (suc n) = (n ≤ length bs) × ((w : Came) → Goes i bits bs n w)
+abbrev pub Later : ℕ → ℕ → List ℕ → Option ℕ → Type 0
+Later i bits bs None = Unit {0}
+Later i bits bs (Some n) = (n ≤ length bs) × ((w : Came) → Goes i bits bs n w)
 
--- a number other than 0 tells how many octets the items of a set take, wherever they stand, and which octet of them is the message type
+-- how many octets the items of a set take, wherever they stand, and which octet of them is the message type
 pub record Walks (i bits : ℕ) (bs : List ℕ) (n k : ℕ) : Type 0 where
   pub came : Came
   pub walks : walk i (flags 63 bits) 1 bs (start_at k) ≡ ok came
   pub here : came.here ≡ k + n
   pub kind : came.kind ≡ get_or bs (type_at i) 0
 
-abbrev pub Passed : ℕ → ℕ → List ℕ → ℕ → Type 0
-Passed i bits bs zero = Unit {0}
-Passed i bits bs (suc n) = (k : ℕ) → Walks i bits bs (suc n) k
+abbrev pub Passed : ℕ → ℕ → List ℕ → Option ℕ → Type 0
+Passed i bits bs None = Unit {0}
+Passed i bits bs (Some n) = (k : ℕ) → Walks i bits bs n k

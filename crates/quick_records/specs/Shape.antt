@@ -1,15 +1,15 @@
 -- Shapes: FSPECs that legal records mostly have, with what each says of the octets after it. A row of the table says nothing that the rules do not
 -- have. Assumes nothing.
-use Rattle.std.specs.Prelude.{ℕ, zero, suc, ◌+◌, ◌-◌, ◌*◌, ◌/◌, ◌%◌, ◌^◌, ◌≤◌, ◌<◌, ◌≡◌, Bool, true, false, cond, ◌&&◌, ◌||◌, List, [], ◌∷◌, leb, ltb, eqb, length, drop, get_or}
+use Rattle.std.specs.Prelude.{ℕ, zero, suc, ◌+◌, ◌-◌, ◌*◌, ◌/◌, ◌%◌, ◌^◌, ◌≤◌, ◌≡◌, Bool, true, false, cond, ◌&&◌, ◌||◌, List, [], ◌∷◌, Option, Some, None, leb, ltb, eqb, length, drop, get_or}
 use Rattle.rules.specs.Answer.{Answer, ok, refused}
 use Rattle.rules.specs.Presence.{flags, number}
 use Rattle.tables.specs.declared.tables.LayoutRow.{LayoutRow}
 use Rattle.tables.specs.Tables.{profile_count, frn_count, layout_at, place_row_at}
 use Rattle.sets.specs.Sets.{category_at, within}
-use Rattle.sets.specs.Steps.{set_from, row_at}
+use Rattle.sets.specs.Steps.{set_from}
 use Rattle.tables.specs.Tests.{all_below}
 use Rattle.quick_items.specs.Item.{first_three, asks, sound_single, sound_counted}
-use Rattle.quick_records.specs.Record.{row_count, type_sets, must_at, may_at, free, has_front, front_octets, type_at}
+use Rattle.quick_records.specs.Record.{row_count, type_sets, must_at, may_at, free, has_front, front_octets, type_at, Typed}
 
 -- ---- octets as a number, the first one lowest
 
@@ -132,17 +132,15 @@ pub record Front (a w rule : ℕ) (bs : List ℕ) (n : ℕ) : Type 0 where
   pub least : w / 4_096 % 16 ≤ get_or bs (start_of a) 0
   pub kept : asks rule (rule / 2 ^ 32) (first_three (drop (start_of a) bs)) ≡ true
 
--- 0 tells nothing
-abbrev pub Fronts : ℕ → ℕ → ℕ → List ℕ → ℕ → Type 0
-Fronts a w rule bs zero = Unit {0}
-Fronts a w rule bs (suc n) = Front a w rule bs (suc n)
+abbrev pub Fronts : ℕ → ℕ → ℕ → List ℕ → Option ℕ → Type 0
+Fronts a w rule bs None = Unit {0}
+Fronts a w rule bs (Some n) = Front a w rule bs n
 
 -- the row of a message type is among some, given by bits
 pub record Listed (i types kind : ℕ) : Type 0 where
   pub row : ℕ
-  pub few : row < row_count
   pub there : types / 2 ^ row % 2 ≡ 1
-  pub is : (row ≡ 0 → ⊥) → row_at i kind ≡ ok (must_at i row, may_at i row)
+  pub typed : Typed i kind row
 
 abbrev pub OfType : Bool → ℕ → ℕ → ℕ → Type 0
 OfType false i types kind = Unit {0}

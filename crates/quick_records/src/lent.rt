@@ -1,38 +1,39 @@
-// The tables that are lent: message types and what they ask for, the octets of the first items, shapes.
-ghost use Rattle.std.specs.Prelude.{◌≡◌, true};
-ghost use Rattle.quick_records.specs.Record.{sound_types};
-ghost use Rattle.quick_records.specs.Shape.{sound_sets};
+// The tables: message types and what they ask for, the octets of the first items, shapes.
+ghost use Rattle.std.specs.Prelude.{◌≡◌, true, ◌+◌, ◌<◌, IfSome};
+ghost use Rattle.rules.specs.Presence.{flags};
+ghost use Rattle.tables.specs.Tables.{profile_count};
+ghost use Rattle.quick_records.specs.Record.{row_count, way_count, must_at, may_at, all_free, free_sum, has_front, front_octets, type_at, sound_types, Typed};
+ghost use Rattle.quick_records.specs.Shape.{shape_count, sound_shape, sound_sets, OfType};
 
+use numbers::octet;
+use quick_items::Steps;
+use sets::ItemSet;
 use tables::PROFILES;
 
 // How many message types each profile has a place for, by number; how many rows, one for each type after one that is no type's; how many ways FRN 4 to 7
 // can be there or not; how many shapes there are.
 // ---- made by model/make.py: KINDS, ROWS
-pub const KINDS: usize = 112;
+const KINDS: usize = 112;
 
-pub const ROWS: usize = 24;
+const ROWS: usize = 24;
 // ---- end of what is made
 
-pub const WAYS: usize = 16;
+const WAYS: usize = 16;
 
 pub const SLOTS: usize = 64;
 
 // Where the ways and the places of the message type start in the one table, and the shapes in the other.
-pub const FIRST_WAY: usize = PROFILES * KINDS;
+const FIRST_WAY: usize = PROFILES * KINDS;
 
-pub const FIRST_PLACE: usize = FIRST_WAY + PROFILES * WAYS;
+const FIRST_PLACE: usize = FIRST_WAY + PROFILES * WAYS;
 
-pub const FIRST_SHAPE: usize = PROFILES * 2 * ROWS;
-
-pub type Types = [u8; FIRST_PLACE + PROFILES];
-
-pub type Sets = [u64; FIRST_SHAPE + 4 * SLOTS];
+const FIRST_SHAPE: usize = PROFILES * 2 * ROWS;
 
 // Message types, and the octets of the first items. A type's row in its profile, 0 where it is unknown, by profile and type; then, by
 // profile and the presence bits of FRN 4 to 7, the octets of FRN 1 to 7 where FRN 1 to 3 are there, one of them the message type, and all
 // are free and fixed, else 0; then, by profile, how many octets of FRN 1 to 3 are before the message type.
 // ---- made by model/make.py: TYPES
-const TYPES: Types = [
+static TYPES: [u8; FIRST_PLACE + PROFILES] = [
     1, // I017/000  5.2.1  0  Network information
     0, 0, 0, 0, 0, 0, 0, 0, 0, 2, // I017/000  5.2.1  10  Track data
     0, 0, 0, 0, 0, 0, 0, 0, 0, 3, // I017/000  5.2.1  20  Track data request
@@ -150,7 +151,7 @@ const TYPES: Types = [
 // stands that is looked into; how many octets the free items after it take; the profile _ the message types, bit n for row n; the item's word,
 // as in `quick_items::steps`; where in the record the message type stands _ the item's rule, as there _ the items that are left then. Where no item is looked into, the place is that of FRN 1, the word 0, the rule any bits.
 // ---- made by model/make.py: SETS
-const SETS: Sets = [
+static SETS: [u64; FIRST_SHAPE + 4 * SLOTS] = [
     0, // category 017: no message type
     0,
     0x7800_0000_0000_0000, // I017/000 type 0  Network information
@@ -554,14 +555,152 @@ const SETS: Sets = [
 ];
 // ---- end of what is made
 
-pub fn type_table() -> Types
-    ensures { sound_types result ≡ true }
-{
-    TYPES
+// Message types, and the octets of the first items. No entry says what the rules do not have.
+#[derive(Clone, Copy)]
+pub struct Types {
+    octets: &'static [u8; FIRST_PLACE + PROFILES],
+    pub ghost sound: { sound_types octets.now ≡ true },
 }
 
-pub fn set_table() -> Sets
-    ensures { sound_sets result ≡ true }
+// FRN 1 to 3: how many octets they take, and how many of these are before the message type.
+#[derive(Clone, Copy)]
+pub struct FirstItems {
+    pub octets: usize,
+    pub kind: usize,
+}
+
+impl Types {
+    fn new() -> Types {
+        Types { octets: &TYPES }
+    }
+
+    // The row of a message type in its profile; that of no type is a row too, 0, which no set of types has, so that it needs no test.
+    pub fn row_of(&self, profile: usize, kind: u8) -> usize
+        requires { profile < profile_count }
+        ensures { Typed profile kind result }
+    {
+        let number = octet(kind);
+        if KINDS <= number {
+            return 0;
+        }
+        octet(self.octets[profile * KINDS + number])
+    }
+
+    // Whether the row of a message type is among some, given by bits.
+    pub fn is_listed(&self, profile: usize, listed: usize, kind: u8) -> bool
+        requires { profile < profile_count }
+        ensures { OfType result profile listed kind }
+    {
+        (listed >> self.row_of(profile, kind)) % 2 == 1
+    }
+
+    // FRN 1 to 3 of a profile, where they are free and one of them is the message type.
+    pub fn first_items(&self, profile: usize) -> Option<FirstItems>
+        ensures { IfSome result (λ first. (profile < profile_count) × (has_front profile ≡ true) × (first.octets ≡ front_octets profile) × (first.kind ≡ type_at profile)) }
+    {
+        if PROFILES <= profile {
+            return None;
+        }
+        let octets = octet(self.octets[FIRST_WAY + profile * WAYS]);
+        if octets == 0 {
+            return None;
+        }
+        let kind = octet(self.octets[FIRST_PLACE + profile]);
+        Some(FirstItems { octets, kind })
+    }
+
+    // The octets of FRN 1 to 3 and those of FRN 4 to 7 that are there, given by four bits, where all are free.
+    pub fn first_octets(&self, profile: usize, way: usize) -> Option<usize>
+        requires { (profile < profile_count) × (way < way_count) }
+        ensures { IfSome result (λ n. (n < 256) × (all_free profile 4 (flags 4 way) ≡ true) × (n ≡ front_octets profile + free_sum profile 4 (flags 4 way))) }
+    {
+        let octets = octet(self.octets[FIRST_WAY + profile * WAYS + way]);
+        if octets == 0 {
+            return None;
+        }
+        Some(octets)
+    }
+}
+
+// What message types ask for, and shapes. No row says what the rules do not have.
+#[derive(Clone, Copy)]
+pub struct Sets {
+    words: &'static [u64; FIRST_SHAPE + 4 * SLOTS],
+    pub ghost sound: { sound_sets words.now ≡ true },
+}
+
+// What a message type must have; what it must or may have.
+#[derive(Clone, Copy)]
+pub struct Asked {
+    pub must: ItemSet,
+    pub may: ItemSet,
+}
+
+// A shape, by the four words of its row.
+#[derive(Clone, Copy)]
+pub struct Shape {
+    pub fspec: usize,
+    pub item: usize,
+    pub rule: usize,
+    pub left: u64,
+    pub ghost sound: { sound_shape fspec item rule left ≡ true },
+}
+
+impl Sets {
+    fn new() -> Sets {
+        Sets { words: &SETS }
+    }
+
+    // By the row of a message type.
+    pub fn asked(&self, profile: usize, row: usize) -> Asked
+        requires { (profile < profile_count) × (row < row_count) }
+        ensures { (result.must.bits ≡ must_at profile row) × (result.may.bits ≡ may_at profile row) }
+    {
+        let at = 2 * (profile * ROWS + row);
+        Asked {
+            must: ItemSet {
+                bits: self.words[at],
+            },
+            may: ItemSet {
+                bits: self.words[at + 1],
+            },
+        }
+    }
+
+    pub fn shape_at(&self, slot: usize) -> Shape
+        requires { slot < shape_count }
+    {
+        let at = FIRST_SHAPE + 4 * slot;
+        Shape {
+            fspec: long(self.words[at]),
+            item: long(self.words[at + 1]),
+            rule: long(self.words[at + 2]),
+            left: self.words[at + 3],
+        }
+    }
+}
+
+// The tables that are lent. Each points at one that stands in the library, so that none is written out for a call.
+#[derive(Clone, Copy)]
+pub struct Tables {
+    pub steps: Steps,
+    pub types: Types,
+    pub sets: Sets,
+}
+
+impl Tables {
+    pub fn new() -> Tables {
+        Tables {
+            steps: Steps::new(),
+            types: Types::new(),
+            sets: Sets::new(),
+        }
+    }
+}
+
+// A number of a table, as a size.
+pub fn long(x: u64) -> usize
+    ensures { result ≡ x }
 {
-    SETS
+    x as usize
 }

@@ -1,5 +1,5 @@
-// Records that are plainly legal, in few steps: what a recording mostly has. An answer of 0 tells nothing, and then the exact check decides; so no
-// refusal is found here. The tables are lent from the entry point, since a constant array is written out wherever it is read.
+// Records that are plainly legal, in few steps: what a recording mostly has. None tells nothing, and then the exact check decides; so no refusal is found
+// here.
 #![tactic(auto)]
 
 mod end;
@@ -8,5 +8,5 @@ mod record;
 mod shape;
 
 pub use end::record_end;
-pub use lent::{SLOTS, Sets, Types, set_table, type_table};
-pub use shape::{first_five, long, slot_of};
+pub use lent::{SLOTS, Sets, Tables, Types, long};
+pub use shape::{first_five, slot_of};

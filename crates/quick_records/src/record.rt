@@ -1,120 +1,104 @@
 // The record that is plainly legal: its set, what its message type asks for, its items.
 ghost use Rattle.std.specs.Prelude.{◌≡◌, true, ◌/◌, ◌≤◌, ◌<◌, ◌+◌, ◌-◌, ◌^◌, length};
-ghost use Rattle.quick_items.specs.Item.{Plainly, sound_steps};
+ghost use Rattle.quick_items.specs.Item.{Plainly};
 ghost use Rattle.sets.specs.Steps.{judge_set};
-ghost use Rattle.quick_records.specs.Record.{has_front, front_octets, sound_types, Content, Later, Passed, end_at};
-ghost use Rattle.quick_records.specs.Shape.{sound_sets};
+ghost use Rattle.quick_records.specs.Record.{has_front, front_octets, Content, Later, Passed, end_at};
 ghost use Rattle.tables.specs.Tables.{profile_count};
 
-use super::lent::{FIRST_PLACE, FIRST_WAY, KINDS, ROWS, Sets, Types, WAYS};
-use numbers::octet;
-use quick_items::{Steps, quick_item};
-use sets::{ItemSet, SetRead, weight};
-use tables::PROFILES;
+use super::lent::Tables;
+use quick_items::Steps;
+use sets::{ItemSet, weight};
 
 // Whether a record has what its message type asks for: true only where it does.
-fn is_content(types: &Types, sets: &Sets, profile: usize, items: ItemSet, kind: u8) -> bool
-    requires { (sound_types types.now ≡ true) × (sound_sets sets.now ≡ true) × (profile < profile_count) × (has_front profile ≡ true) × (items.bits / 2 ^ 60 ≡ 7) }
+fn is_content(tables: &Tables, profile: usize, items: ItemSet, kind: u8) -> bool
+    requires { (profile < profile_count) × (has_front profile ≡ true) × (items.bits / 2 ^ 60 ≡ 7) }
     ensures { Content result (judge_set profile items.bits kind) }
 {
-    let number = octet(kind);
-    if KINDS <= number {
-        return false;
-    }
-    let row = octet(types[profile * KINDS + number]);
+    let row = tables.types.row_of(profile, kind);
     if row == 0 {
         return false;
     }
-    let at = 2 * (profile * ROWS + row);
-    let must = ItemSet { bits: sets[at] };
-    if !must.is_within(items) {
+    let sets = tables.sets.asked(profile, row);
+    if !sets.must.is_within(items) {
         return false;
     }
-    items.is_within(ItemSet { bits: sets[at + 1] })
+    items.is_within(sets.may)
 }
 
-// One more than the octets of the items of a set that has no FRN under 4.
-pub fn later_items(steps: &Steps, profile: usize, bits: u64, part: &[u8]) -> usize
-    requires { (sound_steps steps.now ≡ true) × (profile < profile_count) × (bits < 2 ^ 60) × (length part.now < 65536) }
+// The octets of the items of a set that has no FRN under 4.
+pub fn later_items(steps: &Steps, profile: usize, bits: u64, part: &[u8]) -> Option<usize>
+    requires { (profile < profile_count) × (bits < 2 ^ 60) × (length part.now < 65536) }
     ensures { Later profile bits part.now result }
 {
     let mut left = bits;
     let mut rest = part;
+    // A turn for each item that is there: a `for` over all FRNs would have 32 turns for each record.
     while left != 0 {
         let frn = u64::leading_zeros(left) as usize;
-        let n = quick_item(steps, profile, frn, rest);
-        if n == 0 {
-            return 0;
-        }
+        let n = steps.quick_item(profile, frn, rest)?;
         rest = &rest[n..];
         left = left - weight(frn);
     }
-    part.len() - rest.len() + 1
+    Some(part.len() - rest.len())
 }
 
 // How many octets the items of a set take that has a front of so many octets: the first three or the first seven at once, then one by one.
 fn quick_items(
-    steps: &Steps,
-    types: &Types,
+    tables: &Tables,
     profile: usize,
     front: usize,
     bits: u64,
     part: &[u8],
-) -> usize
-    requires { (sound_steps steps.now ≡ true) × (sound_types types.now ≡ true) × (profile < profile_count) × (has_front profile ≡ true) × (front ≡ front_octets profile) × (bits / 2 ^ 60 ≡ 7) × (length part.now < 65536) }
+) -> Option<usize>
+    requires { (profile < profile_count) × (has_front profile ≡ true) × (front ≡ front_octets profile) × (bits / 2 ^ 60 ≡ 7) × (length part.now < 65536) }
     ensures { Passed profile bits part.now result }
 {
-    let sum = octet(types[FIRST_WAY + profile * WAYS + ((bits >> 56) % 16) as usize]);
-    if sum == 0 {
+    let Some(octets) = tables
+        .types
+        .first_octets(profile, ((bits >> 56) % 16) as usize)
+    else {
         if part.len() < front {
-            return 0;
+            return None;
         }
-        let n = later_items(steps, profile, bits % 0x1000_0000_0000_0000, &part[front..]);
-        if n == 0 {
-            return 0;
-        }
-        return front + n - 1;
+        let later = later_items(
+            &tables.steps,
+            profile,
+            bits % 0x1000_0000_0000_0000,
+            &part[front..],
+        )?;
+        return Some(front + later);
+    };
+    if part.len() < octets {
+        return None;
     }
-    if part.len() < sum {
-        return 0;
-    }
-    let n = later_items(steps, profile, bits % 0x0100_0000_0000_0000, &part[sum..]);
-    if n == 0 {
-        return 0;
-    }
-    sum + n - 1
+    let later = later_items(
+        &tables.steps,
+        profile,
+        bits % 0x0100_0000_0000_0000,
+        &part[octets..],
+    )?;
+    Some(octets + later)
 }
 
 // How many octets the record takes that starts a part of a block.
-pub fn quick_record(steps: &Steps, types: &Types, sets: &Sets, profile: usize, part: &[u8]) -> usize
-    requires { (sound_steps steps.now ≡ true) × (sound_types types.now ≡ true) × (sound_sets sets.now ≡ true) × (length part.now < 65536) }
+pub fn quick_record(tables: &Tables, profile: usize, part: &[u8]) -> Option<usize>
+    requires { length part.now < 65536 }
     ensures { Plainly result (end_at profile 0 part.now) }
 {
-    if PROFILES <= profile {
-        return 0;
-    }
-    let front = octet(types[FIRST_WAY + profile * WAYS]);
-    if front == 0 {
-        return 0;
-    }
-    let SetRead::Items { set, octets } = ItemSet::from_octets(profile, part) else {
-        return 0;
+    let first = tables.types.first_items(profile)?;
+    let Ok(fspec) = ItemSet::from_octets(profile, part) else {
+        return None;
     };
-    let items = &part[octets..];
-    if items.len() < front {
-        return 0;
+    let items = &part[fspec.octets..];
+    if items.len() < first.octets {
+        return None;
     }
-    let bits = set.bits;
-    if bits >> 60 != 7 {
-        return 0;
+    if fspec.set.bits >> 60 != 7 {
+        return None;
     }
-    let place = octet(types[FIRST_PLACE + profile]);
-    if !is_content(types, sets, profile, set, items[place]) {
-        return 0;
+    if !is_content(tables, profile, fspec.set, items[first.kind]) {
+        return None;
     }
-    let n = quick_items(steps, types, profile, front, bits, items);
-    if n == 0 {
-        return 0;
-    }
-    octets + n
+    let n = quick_items(tables, profile, first.octets, fspec.set.bits, items)?;
+    Some(fspec.octets + n)
 }

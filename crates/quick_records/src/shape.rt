@@ -1,21 +1,13 @@
 // A record whose FSPEC is a known shape: its length and all rules of its items but a few are one row of a table. Most records of a recording have one.
-ghost use Rattle.std.specs.Prelude.{◌≡◌, true, ◌<◌, ◌≤◌, length};
-ghost use Rattle.quick_items.specs.Item.{Plainly, sound_steps};
-ghost use Rattle.quick_records.specs.Record.{sound_types, end_at};
-ghost use Rattle.quick_records.specs.Shape.{shape_count, low_number, sound_shape, sound_sets, Fronts, OfType};
-ghost use Rattle.tables.specs.Tables.{profile_count};
+ghost use Rattle.std.specs.Prelude.{◌≡◌, ◌<◌, ◌≤◌, length};
+ghost use Rattle.quick_items.specs.Item.{Plainly};
+ghost use Rattle.quick_records.specs.Record.{end_at};
+ghost use Rattle.quick_records.specs.Shape.{shape_count, low_number, used_of, profile_of, types_of, word_of, place_of, Fronts};
 
-use super::lent::{FIRST_SHAPE, KINDS, SLOTS, Sets, Types};
+use super::lent::{SLOTS, Shape, Tables};
 use super::record::later_items;
 use numbers::octet;
-use quick_items::{Steps, is_kept};
-
-// A number of a table, as a size.
-pub fn long(x: u64) -> usize
-    ensures { result ≡ x }
-{
-    x as usize
-}
+use quick_items::is_kept;
 
 // The first five octets as one number, the first one lowest.
 pub fn first_five(part: &[u8]) -> usize
@@ -41,116 +33,104 @@ pub fn slot_of(five: usize, profile: usize) -> usize
     ((fspec % 0x100_0000_0000 + profile % 16) * 8302399 >> 23) % SLOTS
 }
 
-// How many octets a record takes as far as its shape goes, from its start: by the item that is looked into, its word and its rule; 0 where it is not
-// plainly legal.
-fn front_size(shape: usize, word: usize, rule: usize, part: &[u8]) -> usize
-    ensures { Fronts shape word rule part.now result }
-{
-    let at = shape / 0x1000_0000_0000 % 256;
-    if part.len() < at + 3 {
-        return 0;
+// The columns of a row are numbers in one another, so that a row is four words: one look at the table.
+impl Shape {
+    fn profile(self) -> usize
+        ensures { result ≡ profile_of self.fspec }
+    {
+        self.fspec / 0x1000_0000_0000_0000
     }
-    let first = octet(part[at]);
-    if first < word / 4096 % 16 {
-        return 0;
+
+    // The octets of the FSPEC.
+    fn used(self) -> usize
+        ensures { result ≡ used_of self.fspec }
+    {
+        self.fspec / 0x100_0000_0000 % 16
     }
-    let size = at + shape / 0x10_0000_0000_0000 % 256 + word % 16 + first * (word / 16 % 16);
-    if part.len() < size {
-        return 0;
+
+    // The message types, by the bits of their rows.
+    fn types(self) -> usize
+        ensures { result ≡ types_of self.item }
+    {
+        self.item % 0x100_0000_0000
     }
-    let three = first * 65536 + octet(part[at + 1]) * 256 + octet(part[at + 2]);
-    if is_kept(rule, rule / 0x1_0000_0000, three) {
-        return size;
+
+    // Where in the record the message type stands.
+    fn kind(self) -> usize
+        ensures { result ≡ place_of self.item }
+    {
+        self.item / 0x100_0000_0000_0000
     }
-    0
+
+    // How many octets a record takes as far as its shape goes, from its start, by the item that is looked into.
+    fn front_size(self, part: &[u8]) -> Option<usize>
+        ensures { Fronts self.fspec (word_of self.item) self.rule part.now result }
+    {
+        let word = self.item / 0x100_0000_0000 % 0x1_0000;
+        let at = self.fspec / 0x1000_0000_0000 % 256;
+        if part.len() < at + 3 {
+            return None;
+        }
+        let first = octet(part[at]);
+        if first < word / 4096 % 16 {
+            return None;
+        }
+        let size = at
+            + self.fspec / 0x10_0000_0000_0000 % 256
+            + word % 16
+            + first * (word / 16 % 16);
+        if part.len() < size {
+            return None;
+        }
+        let three = first * 65536 + octet(part[at + 1]) * 256 + octet(part[at + 2]);
+        if is_kept(self.rule, self.rule / 0x1_0000_0000, three) {
+            return Some(size);
+        }
+        None
+    }
 }
 
-// Whether the row of a message type is among some, given by bits.
-fn is_listed(types: &Types, profile: usize, listed: usize, kind: u8) -> bool
-    requires { (sound_types types.now ≡ true) × (profile < profile_count) }
-    ensures { OfType result profile listed kind }
-{
-    let number = octet(kind);
-    if KINDS <= number {
-        return false;
-    }
-    let row = octet(types[profile * KINDS + number]);
-    (listed >> row) % 2 == 1
-}
-
-// How many octets a record takes that starts with five octets, by a shape: 0 where it has another, or is not plainly legal.
+// How many octets a record takes that starts with five octets, by a shape.
 fn by_shape(
-    steps: &Steps,
-    types: &Types,
+    tables: &Tables,
     profile: usize,
-    shape: usize,
-    item: usize,
-    rule: usize,
-    left: u64,
+    shape: Shape,
     five: usize,
     part: &[u8],
-) -> usize
-    requires { (sound_steps steps.now ≡ true) × (sound_types types.now ≡ true) × (sound_shape shape item rule left ≡ true) × (five ≡ low_number 5 part.now) × (5 ≤ length part.now) × (length part.now < 65536) }
+) -> Option<usize>
+    requires { (five ≡ low_number 5 part.now) × (5 ≤ length part.now) × (length part.now < 65536) }
     ensures { Plainly result (end_at profile 0 part.now) }
 {
-    if shape / 0x1000_0000_0000_0000 != profile {
-        return 0;
+    if shape.profile() != profile {
+        return None;
     }
-    let used = shape / 0x100_0000_0000 % 16;
-    let up = 64 - 8 * used;
-    if five << up != shape << up {
-        return 0;
+    let up = 64 - 8 * shape.used();
+    if five << up != shape.fspec << up {
+        return None;
     }
-    let size = front_size(shape, item / 0x100_0000_0000 % 0x1_0000, rule, part);
-    if size == 0 {
-        return 0;
+    let size = shape.front_size(part)?;
+    if !tables
+        .types
+        .is_listed(profile, shape.types(), part[shape.kind()])
+    {
+        return None;
     }
-    if !is_listed(
-        types,
-        profile,
-        item % 0x100_0000_0000,
-        part[item / 0x100_0000_0000_0000],
-    ) {
-        return 0;
+    if shape.left == 0 {
+        return Some(size);
     }
-    if left == 0 {
-        return size;
-    }
-    let n = later_items(steps, profile, left, &part[size..]);
-    if n == 0 {
-        return 0;
-    }
-    size + n - 1
+    let later = later_items(&tables.steps, profile, shape.left, &part[size..])?;
+    Some(size + later)
 }
 
-// How many octets the record takes that starts a part of a block, where it has a known shape and is plainly legal; 0 tells nothing.
-pub fn shaped_record(
-    steps: &Steps,
-    types: &Types,
-    sets: &Sets,
-    profile: usize,
-    part: &[u8],
-) -> usize
-    requires { (sound_steps steps.now ≡ true) × (sound_types types.now ≡ true) × (sound_sets sets.now ≡ true) × (length part.now < 65536) }
+// How many octets the record takes that starts a part of a block, where it has a known shape and is plainly legal.
+pub fn shaped_record(tables: &Tables, profile: usize, part: &[u8]) -> Option<usize>
+    requires { length part.now < 65536 }
     ensures { Plainly result (end_at profile 0 part.now) }
 {
     if part.len() < 5 {
-        return 0;
+        return None;
     }
     let five = first_five(part);
-    let at = FIRST_SHAPE + 4 * slot_of(five, profile);
-    let shape = long(sets[at]);
-    let item = long(sets[at + 1]);
-    let rule = long(sets[at + 2]);
-    by_shape(
-        steps,
-        types,
-        profile,
-        shape,
-        item,
-        rule,
-        sets[at + 3],
-        five,
-        part,
-    )
+    let shape = tables.sets.shape_at(slot_of(five, profile));
+    by_shape(tables, profile, shape, five, part)
 }

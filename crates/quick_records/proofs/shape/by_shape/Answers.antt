@@ -1,55 +1,57 @@
 -- `quick_records::shape::by_shape` meets its contract. Assumes nothing.
-use Prim.Native.Nat.{◌<◌}
-use mathlib.Core.Path.{refl}
+use Prim.Native.Nat.{◌-◌, ◌*◌, ◌%◌, ◌^◌, ◌<◌}
+use mathlib.Core.Path.{◌≡◌, sym, ap, ◌∙◌, subst}
+use mathlib.Core.Bool.{not}
 use native.Mathlib.Omega.{arith}
 use lib.ListN.{length, get_or}
-use Rattle.quick_records.specs.Shape.{word_of, place_of, types_of, Front, Listed}
-use Rattle.quick_records.proofs.RecordLaws.{tell, later_within}
-use Rattle.quick_records.proofs.ShapeLaws.{front_of_lem, listed_right, shape_known, shape_some, shape_few, shape_left, shape_long, shape_whole, shape_only}
-use mathlib.Core.Bool.{not}
-use mathlib.Core.Path.{ap}
+use Rattle.quick_records.specs.Shape.{profile_of, used_of, types_of, Listed}
+use Rattle.quick_records.proofs.ShapeLaws.{listed_right, shape_known, shape_some, shape_few, shape_left, shape_long, shape_whole, shape_only}
 use Rattle.quick_records.proofs.shape.by_shape.Goals as goal
-use Rattle.quick_records.proofs.shape.by_shape.Goals.{Else-not-is_listed, Else-size-eq0}
+use Rattle.quick_records.proofs.shape.by_shape.Goals.{Else-profile, Else-five-up, In_ok-size, After-kind, Else-not-is_listed}
 
 pub overflow_sub-up : goal.overflow_sub-up
-overflow_sub-up c = omega (arith, shape_few _ _ _ _ c.requires.2)
+overflow_sub-up c = omega (arith, c.used.ensures, shape_few _ _ _ _ c.args.shape.sound)
 
 pub overflow_shl-five : goal.overflow_shl-five
-overflow_shl-five c = omega (arith, shape_some _ _ _ _ c.requires.2, shape_few _ _ _ _ c.requires.2)
+overflow_shl-five c = omega (arith, c.used.ensures, shape_some _ _ _ _ c.args.shape.sound, shape_few _ _ _ _ c.args.shape.sound)
 
 pub overflow_shl-shape : goal.overflow_shl-shape
-overflow_shl-shape c = omega (arith, shape_some _ _ _ _ c.requires.2, shape_few _ _ _ _ c.requires.2)
+overflow_shl-shape c = omega (arith, c.used.ensures, shape_some _ _ _ _ c.args.shape.sound, shape_few _ _ _ _ c.args.shape.sound)
 
--- as far as the shape goes
-front : (c : Else-size-eq0) → Front c.args.shape (word_of c.args.item) c.args.rule c.args.part.now c.front_size-size.result
-front c = front_of_lem _ _ _ _ _ c.front_size-size.ensures c.if-size-eq0.false
+-- the profile is the shape's
+same : (c : Else-profile) → profile_of c.args.shape.fspec ≡ c.args.profile
+same c = sym c.profile.ensures ∙ c.if-profile.false
 
-reaches : (c : Else-size-eq0) → place_of c.args.item < length c.args.part.now
-reaches c = omega (arith, shape_long _ _ _ _ c.requires.2 _ _ (front c), (front c).fits)
+-- so is the FSPEC
+alike : (c : Else-five-up) → c.args.five * 2 ^ (64 - 8 * used_of c.args.shape.fspec) % 2 ^ 64 ≡ c.args.shape.fspec * 2 ^ (64 - 8 * used_of c.args.shape.fspec) % 2 ^ 64
+alike c = subst (λ x. c.args.five * 2 ^ (64 - 8 * x) % 2 ^ 64 ≡ c.args.shape.fspec * 2 ^ (64 - 8 * x) % 2 ^ 64) c.used.ensures c.if-five-up.false
 
-pub bounds-part-item : goal.bounds-part-item
-bounds-part-item c = omega (arith, reaches (goal.at.bounds-part-item c).Else-size-eq0)
+reaches : (c : After-kind) → c.kind.result < length c.args.part.now
+reaches c = omega (arith, c.kind.ensures, shape_long _ _ _ _ c.args.shape.sound _ _ c.in_ok-size.ensures, c.in_ok-size.ensures.fits)
+
+pub bounds-part-kind : goal.bounds-part-kind
+bounds-part-kind c = reaches (goal.at.bounds-part-kind c).After-kind
 
 pub is_listed-requires : goal.is_listed-requires
-is_listed-requires c = (c.requires.1, omega (arith, c.if-shape-profile.false, shape_known _ _ _ _ c.requires.2))
+is_listed-requires c = omega (arith, same (goal.at.is_listed-requires c).Else-profile, shape_known _ _ _ _ c.args.shape.sound)
 
-listed : (c : Else-not-is_listed) → Listed c.args.profile (types_of c.args.item) (get_or c.args.part.now (place_of c.args.item) 0)
-listed c = listed_right c.is_listed.result _ _ _ c.is_listed.ensures (ap not c.if-not-is_listed.false)
+listed : (c : Else-not-is_listed) → Listed c.args.profile (types_of c.args.shape.item) (get_or c.args.part.now c.kind.result 0)
+listed c =
+    subst (λ x. Listed c.args.profile x (get_or c.args.part.now c.kind.result 0)) c.types.ensures
+    (listed_right c.is_listed.result _ _ _ c.is_listed.ensures (ap not c.if-not-is_listed.false))
 
-pub returns-then-left-eq0 : goal.returns-then-left-eq0
-returns-then-left-eq0 c = tell _ _ (shape_only _ _ _ _ c.requires.2 _ c.type_inv.part c.requires.5 _ _ _ _ c.if-shape-profile.false c.requires.4 c.requires.3 c.if-five-up.false (front (goal.at.returns-then-left-eq0 c).Else-size-eq0) refl (listed (goal.at.returns-then-left-eq0 c).Else-not-is_listed) c.if-left-eq0.true)
+pub returns-then-shape-eq0 : goal.returns-then-shape-eq0
+returns-then-shape-eq0 c =
+    let at = goal.at.returns-then-shape-eq0 c in
+    shape_only _ _ _ _ c.args.shape.sound _ c.type_inv.part c.requires.2 _ _ _ _ (same at.Else-profile) c.requires.1 c.requires.0 (alike at.Else-five-up) c.in_ok-size.ensures
+    (ap (λ x. get_or c.args.part.now x 0) c.kind.ensures) (listed at.Else-not-is_listed) c.if-shape-eq0.true
 
-pub slice_bounds-later_items-count : goal.slice_bounds-later_items-count
-slice_bounds-later_items-count c = (front (goal.at.slice_bounds-later_items-count c).Else-size-eq0).fits
-
-pub slice_bounds-later_items-start : goal.slice_bounds-later_items-start
-slice_bounds-later_items-start c = (front (goal.at.slice_bounds-later_items-start c).Else-size-eq0).fits
-
-pub later_items-n-requires : goal.later_items-n-requires
-later_items-n-requires c = (c.requires.0, omega (arith, c.if-shape-profile.false, shape_known _ _ _ _ c.requires.2), shape_left _ _ _ _ c.requires.2, omega (arith, c.requires.5))
-
-pub overflow_add-result : goal.overflow_add-result
-overflow_add-result c = record { fits = omega (arith, later_within _ _ _ _ c.later_items-n.ensures c.if-n-eq0.false, (front (goal.at.overflow_add-result c).Else-size-eq0).fits, c.requires.5) }
+pub later_items-requires : goal.later_items-requires
+later_items-requires c =
+    (omega (arith, same (goal.at.later_items-requires c).Else-profile, shape_known _ _ _ _ c.args.shape.sound), shape_left _ _ _ _ c.args.shape.sound, omega (arith, c.requires.2))
 
 pub returns : goal.returns
-returns c = tell _ _ (shape_whole _ _ _ _ c.requires.2 _ c.type_inv.part c.requires.5 _ _ _ _ c.if-shape-profile.false c.requires.4 c.requires.3 c.if-five-up.false (front (goal.at.returns c).Else-size-eq0) refl (listed (goal.at.returns c).Else-not-is_listed) _ c.later_items-n.ensures c.if-n-eq0.false)
+returns c =
+    let at = goal.at.returns c in
+    shape_whole _ _ _ _ c.args.shape.sound _ c.type_inv.part c.requires.2 _ _ _ _ (same at.Else-profile) c.requires.1 c.requires.0 (alike at.Else-five-up) c.in_ok-size.ensures
+    (ap (λ x. get_or c.args.part.now x 0) c.kind.ensures) (listed at.Else-not-is_listed) _ c.in_ok-later.ensures
