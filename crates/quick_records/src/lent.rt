@@ -575,7 +575,7 @@ impl Types {
     }
 
     // The row of a message type in its profile; that of no type is a row too, 0, which no set of types has, so that it needs no test.
-    pub fn row_of(&self, profile: usize, kind: u8) -> usize
+    pub(crate) fn row_of(&self, profile: usize, kind: u8) -> usize
         requires { profile < profile_count }
         ensures { Typed profile kind result }
     {
@@ -587,7 +587,7 @@ impl Types {
     }
 
     // Whether the row of a message type is among some, given by bits.
-    pub fn is_listed(&self, profile: usize, listed: usize, kind: u8) -> bool
+    pub(crate) fn is_listed(&self, profile: usize, listed: usize, kind: u8) -> bool
         requires { profile < profile_count }
         ensures { OfType result profile listed kind }
     {
@@ -595,7 +595,7 @@ impl Types {
     }
 
     // FRN 1 to 3 of a profile, where they are free and one of them is the message type.
-    pub fn first_items(&self, profile: usize) -> Option<FirstItems>
+    pub(crate) fn first_items(&self, profile: usize) -> Option<FirstItems>
         ensures { IfSome result (λ first. (profile < profile_count) × (has_front profile ≡ true) × (first.octets ≡ front_octets profile) × (first.kind ≡ type_at profile)) }
     {
         if PROFILES <= profile {
@@ -610,7 +610,7 @@ impl Types {
     }
 
     // The octets of FRN 1 to 3 and those of FRN 4 to 7 that are there, given by four bits, where all are free.
-    pub fn first_octets(&self, profile: usize, way: usize) -> Option<usize>
+    pub(crate) fn first_octets(&self, profile: usize, way: usize) -> Option<usize>
         requires { (profile < profile_count) × (way < way_count) }
         ensures { IfSome result (λ n. (n < 256) × (all_free profile 4 (flags 4 way) ≡ true) × (n ≡ front_octets profile + free_sum profile 4 (flags 4 way))) }
     {
@@ -652,7 +652,7 @@ impl Sets {
     }
 
     // By the row of a message type.
-    pub fn asked(&self, profile: usize, row: usize) -> Asked
+    pub(crate) fn asked(&self, profile: usize, row: usize) -> Asked
         requires { (profile < profile_count) × (row < row_count) }
         ensures { (result.must.bits ≡ must_at profile row) × (result.may.bits ≡ may_at profile row) }
     {
@@ -667,7 +667,7 @@ impl Sets {
         }
     }
 
-    pub fn shape_at(&self, slot: usize) -> Shape
+    pub(crate) fn shape_at(&self, slot: usize) -> Shape
         requires { slot < shape_count }
     {
         let at = FIRST_SHAPE + 4 * slot;
@@ -684,8 +684,8 @@ impl Sets {
 #[derive(Clone, Copy)]
 pub struct Tables {
     pub steps: Steps,
-    pub types: Types,
-    pub sets: Sets,
+    pub(crate) types: Types,
+    pub(crate) sets: Sets,
 }
 
 impl Tables {
