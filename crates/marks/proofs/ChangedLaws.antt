@@ -2,7 +2,7 @@
 --
 -- In order: the mark with a number; the list with a mark more or less; where a mark stands; how many are log 0's; two lists one after the other.
 use Prim.Native.Nat.{ℕ, suc, ◌+◌, ◌-◌, ◌*◌, ◌≤◌, ◌<◌}
-use mathlib.Core.Path.{◌≡◌, refl, sym, ap, ap₂, ◌∙◌, subst}
+use mathlib.Core.Path.{◌≡◌, refl, sym, ap, ap₂, ◌∙◌}
 use mathlib.Core.Logic.{⊎_elim}
 use mathlib.Core.Bool.{Bool, true, false, ◌||◌, true≢false}
 use mathlib.Core.List.{List, [], ◌∷◌, ◌++◌}
@@ -20,8 +20,8 @@ use Rattle.rules.proofs.SplitLaws.{of_append}
 use Rattle.rules.proofs.Codec.{decide}
 use Rattle.marks.specs.declared.Lists.{Lists}
 use Rattle.marks.specs.declared.Change.{Change}
-use Rattle.marks.specs.declared.Change.TheVariants.{Keep, Insert, Skip, Clear}
-use Rattle.marks.specs.Lists.{mark_at, span, marks_of, below, has_key, tally, both_tallies, changed, new_count, Sound, no_mark, new_at}
+use Rattle.marks.specs.declared.Change.TheVariants.{Keep, Insert, Skip}
+use Rattle.marks.specs.Lists.{mark_at, span, marks_of, below, has_key, tally, both_tallies, changed, new_at}
 use Rattle.marks.proofs.MarkSteps.{plus_is, or_more}
 use Rattle.marks.proofs.NumberLaws.{span_length, span_append, span_cons, span_same}
 
@@ -35,9 +35,9 @@ module _ (c : Lists) (s : List ℕ) (ch : Change) (j : ℕ) where
   unfolding new_at
   insert_low k m g h = rw (g, lt-ltb j k h)
 
-  pub insert_here : (k : ℕ) (m : Mark) → ch ≡ Insert k m → k ≤ j → j ≡ k → m ≡ new_at ch c s j
+  pub insert_here : (k : ℕ) (m : Mark) → ch ≡ Insert k m → j ≡ k → m ≡ new_at ch c s j
   unfolding new_at
-  insert_here k m g h q = rw (g, le-ltb j k h, eq-eqb j k q)
+  insert_here k m g q = let h : k ≤ j = omega arith in rw (g, le-ltb j k h, eq-eqb j k q)
 
   pub insert_high : (k : ℕ) (m : Mark) → ch ≡ Insert k m → k ≤ j → (j ≡ k → ⊥) → mark_at c s (j - 1) ≡ new_at ch c s j
   unfolding new_at
@@ -50,19 +50,6 @@ module _ (c : Lists) (s : List ℕ) (ch : Change) (j : ℕ) where
   pub skip_high : (k : ℕ) → ch ≡ Skip k → k ≤ j → mark_at c s (j + 1) ≡ new_at ch c s j
   unfolding new_at
   skip_high k g h = rw (g, le-ltb j k h)
-
-  pub clear_at : ch ≡ Clear → no_mark ≡ new_at ch c s j
-  unfolding new_at
-  clear_at g = rw g
-
-pub keep_few : (ch : Change) (c : Lists) → ch ≡ Keep → new_count ch c ≡ c.count
-keep_few ch c g = rw g
-
-pub insert_few : (ch : Change) (c : Lists) (k : ℕ) (m : Mark) → ch ≡ Insert k m → Sound ch c → (new_count ch c ≡ c.count + 1) × (k ≤ c.count)
-insert_few ch c k m g h = (ap (λ x. new_count x c) g, subst (λ x. Sound x c) g h)
-
-pub skip_few : (ch : Change) (c : Lists) (k : ℕ) → ch ≡ Skip k → Sound ch c → (new_count ch c ≡ c.count - 1) × (k < c.count)
-skip_few ch c k g h = (ap (λ x. new_count x c) g, subst (λ x. Sound x c) g h)
 
 -- ---- the list with a mark more or less
 module _ (c : Lists) (s : List ℕ) where
@@ -87,7 +74,7 @@ module _ (c : Lists) (s : List ℕ) where
       let high : span (new_at (Insert k m) c s) (suc (0 + k)) (c.count - k) ≡ span (mark_at c s) (0 + k) (c.count - k) =
       span_same (new_at (Insert k m) c s) (mark_at c s) (suc (0 + k)) (0 + k) (c.count - k)
       (λ i l. let a : suc (0 + k) + i - 1 ≡ 0 + k + i = omega arith in sym (insert_high c s (Insert k m) (suc (0 + k) + i) k m refl (omega arith) (λ q. omega arith)) ∙ ap (mark_at c s) a) in
-      let here : new_at (Insert k m) c s (0 + k) ≡ m = sym (insert_here c s (Insert k m) (0 + k) k m refl (omega arith) (omega arith)) in
+      let here : new_at (Insert k m) c s (0 + k) ≡ m = sym (insert_here c s (Insert k m) (0 + k) k m refl (omega arith)) in
       ap (span (new_at (Insert k m) c s) 0) z ∙ span_append (new_at (Insert k m) c s) 0 k (suc (c.count - k))
       ∙ ap₂ (λ a b. a ++ b) (low ∙ sym (taken k h)) (span_cons (new_at (Insert k m) c s) (0 + k) (c.count - k) ∙ ap₂ (λ a b. a ∷ b) here (high ∙ sym (dropped k h)))
 

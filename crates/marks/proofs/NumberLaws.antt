@@ -3,12 +3,13 @@
 -- In order: where a mark lies; a span of marks; a fresh count; the marks by their numbers are the marks that were read; a mark for any caller.
 use Prim.Native.Nat.{ℕ, zero, suc, ◌+◌, ◌-◌, ◌*◌, ◌≤◌, ◌<◌}
 use mathlib.Core.Path.{◌≡◌, refl, sym, ap, ap₂, ◌∙◌}
-use mathlib.Core.Bool.{Bool, true, false, ◌&&◌}
+use mathlib.Core.Bool.{Bool, true, false}
 use mathlib.Core.List.{List, [], ◌∷◌, ◌++◌, append_assoc}
 use native.Mathlib.Omega.{arith}
-use lib.Dec.{T, leb, ltb, eqb}
-use borrow.Author.Tests.{le-leb, lt-leb, lt-ltb, le-ltb, leb-true}
-use lib.ListN.{length, drop, length-drop, length-append}
+use lib.Dec.{T, ltb, eqb}
+use Rattle.std.specs.Int.{from_bool}
+use borrow.Author.Tests.{lt-ltb, le-ltb}
+use lib.ListN.{length, drop, length-append}
 use lib.Seq.{drop_at, drop-drop}
 use Rattle.rules.specs.declared.Shape.{Shape}
 use Rattle.rules.specs.declared.Shape.TheVariants.{Whole, InLog}
@@ -19,48 +20,11 @@ use Rattle.rules.proofs.SheetSteps.{marks_fields}
 use Rattle.rules.proofs.MarkLaws.{Rises, rises, marks_length, mark_at_lem, mark_length}
 use Rattle.rules.proofs.SplitLaws.{split, pick}
 use Rattle.marks.specs.declared.Lists.{Lists}
-use Rattle.marks.specs.declared.MarkFound.TheVariants.{Found, Nothing}
-use Rattle.marks.specs.Lists.{lists_of, shape_for, place_for, mark_at, end_for, end_of, Held, held_in, span, marks_of, found_mark}
-use Rattle.marks.proofs.MarkSteps.{tail, tail_is, plus_is}
+use Rattle.std.specs.Prelude.{Some, None}
+use Rattle.marks.specs.Lists.{lists_of, shape_for, place_for, mark_at, held_in, span, marks_of, found_mark}
+use Rattle.marks.proofs.MarkSteps.{tail, tail_is, plus_is, plus_bool, bool_few}
 
 -- ---- where a mark lies
-pub shape_whole : (t u : Bool) → t ≡ false → Whole ≡ shape_for t u
-shape_whole t u h = rw h
-
-pub shape_first : (t : Bool) (i n : ℕ) → t ≡ true → i < n → InLog 0 ≡ shape_for t (ltb i n)
-shape_first t i n h l = rw (h, lt-ltb i n l)
-
-pub shape_second : (t : Bool) (i n : ℕ) → t ≡ true → n ≤ i → InLog 1 ≡ shape_for t (ltb i n)
-shape_second t i n h l = rw (h, le-ltb i n l)
-
-pub place_whole : (t u : Bool) (base i : ℕ) → t ≡ false → base + i * 8 ≡ place_for t u base i
-place_whole t u base i h = rw h
-
-pub place_first : (t : Bool) (base i n : ℕ) → t ≡ true → i < n → base + i * 7 ≡ place_for t (ltb i n) base i
-place_first t base i n h l = rw (h, lt-ltb i n l)
-
-pub place_second : (t : Bool) (base i n : ℕ) → t ≡ true → n ≤ i → base + 3 + i * 7 ≡ place_for t (ltb i n) base i
-place_second t base i n h l = rw (h, le-ltb i n l)
-
-pub end_split : (c : Lists) → c.split ≡ true → (c.count ≤ 8191) × (c.base ≤ 14) → (c.base + 3 + c.count * 7 ≡ end_of c) × (c.base + 3 + c.count * 7 < 70000)
-end_split c h (l, b) = (ap (λ t. end_for t c.base c.count) (sym h), omega arith)
-
-pub end_whole : (c : Lists) → c.split ≡ false → (c.count ≤ 8191) × (c.base ≤ 14) → (c.base + c.count * 8 ≡ end_of c) × (c.base + c.count * 8 < 70000)
-end_whole c h (l, b) = (ap (λ t. end_for t c.base c.count) (sym h), omega arith)
-
-pub in_sheet : (t u : Bool) (base n i z : ℕ) → i < n → end_for t base n ≤ z → place_for t u base i + size (shape_for t u) ≤ z
-in_sheet false u base n i z h l = omega arith
-in_sheet true true base n i z h l = omega arith
-in_sheet true false base n i z h l = omega arith
-
-pub at_place : (c : Lists) (s : List ℕ) (i p : ℕ) → i < c.count → Held c s → p ≡ place_for c.split (ltb i c.first) c.base i → p ≤ length s
-at_place c s i p h l g = omega (arith, g, in_sheet c.split (ltb i c.first) c.base c.count i (length s) h l.room)
-
-pub at_size : (c : Lists) (s : List ℕ) (i p : ℕ) (f : Shape) → i < c.count → Held c s → p ≡ place_for c.split (ltb i c.first) c.base i → f ≡ shape_for c.split (ltb i c.first) → size f ≤ length (tail p s)
-at_size c s i p f h l g k =
-    let q : place_for c.split (ltb i c.first) c.base i + size (shape_for c.split (ltb i c.first)) ≤ length s = in_sheet c.split (ltb i c.first) c.base c.count i (length s) h l.room in
-    rw (tail_is p s, k, g) (omega (arith, length-drop (place_for c.split (ltb i c.first) c.base i) s, q))
-
 pub at_mark : (c : Lists) (s : List ℕ) (i p : ℕ) (f : Shape) (m : Mark) → p ≡ place_for c.split (ltb i c.first) c.base i → f ≡ shape_for c.split (ltb i c.first) → m ≡ mark_in f (tail p s) → m ≡ mark_at c s i
 unfolding mark_at
 at_mark c s i p f m g k h = h ∙ rw (tail_is p s, k, g)
@@ -113,22 +77,16 @@ pub record Counting (nth : ℕ → Mark) (n t total j : ℕ) : Type 0 where
   pub small : total ≤ j
   pub left : total + count t (span nth j (n - j)) ≡ count t (span nth 0 n)
 
-pub counting_none : (nth : ℕ → Mark) (n t : ℕ) → Counting nth n t 0 0
-counting_none nth n t =
-    let z : n - 0 ≡ n = omega arith in
-    let q : count t (span nth 0 (n - 0)) ≡ count t (span nth 0 n) = ap (λ n. count t (span nth 0 n)) z in
-    record { within = omega arith; small = omega arith; left = omega (arith, q) }
-
-pub counting_more : (nth : ℕ → Mark) (n t total j r : ℕ) (m : Mark) → Counting nth n t total j → j < n → m ≡ nth j → (r ≡ plus (eqb m.station t) 0) × (r ≤ 1) → Counting nth n t (total + r) (j + 1)
+pub counting_more : (nth : ℕ → Mark) (n t total j r : ℕ) (m : Mark) → Counting nth n t total j → j < n → m ≡ nth j → r ≡ from_bool (eqb m.station t) → Counting nth n t (total + r) (j + 1)
 unfolding count
-counting_more nth n t total j r m k h g (q, l) =
+counting_more nth n t total j r m k h g q =
     let x : count t (span nth j (n - j)) ≡ plus (eqb m.station t) 0 + count t (span nth (j + 1) (n - (j + 1))) =
     ap (count t) (span_step nth j n h) ∙ ap (λ y. plus (eqb y.station t) (count t (span nth (j + 1) (n - (j + 1))))) (sym g) ∙ plus_is (eqb m.station t) (count t (span nth (j + 1) (n - (j + 1)))) in
-    record { within = omega arith; small = omega (arith, k.small); left = omega (arith, k.left) }
+    record { within = omega arith; small = omega (arith, k.small, bool_few (eqb m.station t)); left = omega (arith, k.left, plus_bool (eqb m.station t)) }
 
-pub counting_all : (nth : ℕ → Mark) (n t total j : ℕ) → Counting nth n t total j → n ≤ j → (total ≡ count t (span nth 0 n)) × (total ≤ n)
+pub counting_all : (nth : ℕ → Mark) (n t total j : ℕ) → Counting nth n t total j → n ≤ j → total ≡ count t (span nth 0 n)
 unfolding count span
-counting_all nth n t total j k h = let z : n - j ≡ 0 = omega arith in (omega (arith, rw z at k.left), omega (arith, k.small, k.within))
+counting_all nth n t total j k h = let z : n - j ≡ 0 = omega arith in omega (arith, rw z at k.left)
 
 -- ---- the marks by their numbers are the marks that were read
 pub count_is : (t : Bool) (base : ℕ) (ms : List Mark) → (lists_of t base ms).count ≡ length ms
@@ -186,32 +144,14 @@ marks_are true s ms rest r d =
     ∙ j
 
 -- ---- for any lists and bytes
-pub not_few : (c : Lists) (n : ℕ) → 8191 < c.count → false ≡ held_in c n
-not_few c n h = rw (lt-leb c.count 8191 h)
-
-pub not_low : (c : Lists) (n : ℕ) → c.count ≤ 8191 → 14 < c.base → false ≡ held_in c n
-not_low c n g h = rw (le-leb c.count 8191 g, lt-leb c.base 14 h)
-
-pub held_told : (c : Lists) (n e : ℕ) → c.count ≤ 8191 → c.base ≤ 14 → (e ≡ end_of c) × (e < 70000) → leb e n ≡ held_in c n
-held_told c n e g h (k, l) = rw (le-leb c.count 8191 g, le-leb c.base 14 h) (ap (λ x. leb x n) k)
-
-pub is_held : (c : Lists) (s : List ℕ) → held_in c (length s) ≡ true → Held c s
-is_held c s h = go (leb c.count 8191) (leb c.base 14) (leb (end_of c) (length s)) refl refl refl h
-  where
-    go : (a b d : Bool) → leb c.count 8191 ≡ a → leb c.base 14 ≡ b → leb (end_of c) (length s) ≡ d → (a && (b && d)) ≡ true → Held c s
-    go true true true p q r h = record { few = leb-true _ _ p; low = leb-true _ _ q; room = leb-true _ _ r }
-    go true true false p q r h = absurd (let z : ◌≡◌ {A = ℕ} 0 1 = cc in omega arith)
-    go true false d p q r h = absurd (let z : ◌≡◌ {A = ℕ} 0 1 = cc in omega arith)
-    go false b d p q r h = absurd (let z : ◌≡◌ {A = ℕ} 0 1 = cc in omega arith)
-
-pub found_past : (c : Lists) (s : List ℕ) (i : ℕ) → c.count ≤ i → Nothing ≡ found_mark c s i
+pub found_past : (c : Lists) (s : List ℕ) (i : ℕ) → c.count ≤ i → None ≡ found_mark c s i
 unfolding found_mark
 found_past c s i h = rw (le-ltb i c.count h)
 
-pub found_none : (c : Lists) (s : List ℕ) (i : ℕ) → i < c.count → held_in c (length s) ≡ false → Nothing ≡ found_mark c s i
+pub found_none : (c : Lists) (s : List ℕ) (i : ℕ) → i < c.count → held_in c (length s) ≡ false → None ≡ found_mark c s i
 unfolding found_mark
 found_none c s i h g = rw (lt-ltb i c.count h, g)
 
-pub found_one : (c : Lists) (s : List ℕ) (i : ℕ) (m : Mark) → i < c.count → held_in c (length s) ≡ true → m ≡ mark_at c s i → Found m ≡ found_mark c s i
+pub found_one : (c : Lists) (s : List ℕ) (i : ℕ) (m : Mark) → i < c.count → held_in c (length s) ≡ true → m ≡ mark_at c s i → Some m ≡ found_mark c s i
 unfolding found_mark
-found_one c s i m h g e = rw (lt-ltb i c.count h, g) (ap Found e)
+found_one c s i m h g e = rw (lt-ltb i c.count h, g) (ap Some e)

@@ -5,26 +5,23 @@ use mathlib.Core.Bool.{Bool}
 use mathlib.Core.List.{List}
 use Rattle.rules.specs.declared.Mark.{Mark}
 use Rattle.rules.specs.declared.Shape.{Shape}
-use Rattle.rules.specs.Mark.{key, size, number4, count, plus}
+use Rattle.rules.specs.Mark.{key, size, ok_mark, number4, count}
 use Rattle.marks.specs.declared.Tally.{Tally}
 use Rattle.marks.specs.declared.Lists.{Lists}
 use Rattle.marks.specs.declared.Change.{Change}
-use Rattle.marks.specs.declared.MarkFound.{MarkFound}
-use Rattle.marks.specs.Lists.{passing, tally, both_tallies, mark_at, end_of, span, new_at, found_mark}
+use Rattle.std.specs.Prelude.{Option}
+use Rattle.marks.specs.Lists.{passing, tally, both_tallies, mark_at, end_of, new_count, new_at, new_marks, found_mark}
 
 -- ---- one mark
 
-pub one_one_if : (t : Bool) (a b : ℕ) → (a ≡ plus t 0) × (a ≤ 1) → (b ≡ plus t 0) × (b ≤ 1) → a ≡ b
-one_one_if t a b p q = p.0 ∙ sym q.0
-
-pub one_number_4 : (bs : List ℕ) (a b : ℕ) → (a ≡ number4 bs) × (a < 4294967296) → (b ≡ number4 bs) × (b < 4294967296) → a ≡ b
-one_number_4 bs a b p q = p.0 ∙ sym q.0
+pub one_number_4 : (bs : List ℕ) (a b : ℕ) → a ≡ number4 bs → b ≡ number4 bs → a ≡ b
+one_number_4 bs a b p q = p ∙ sym q
 
 pub one_size_of : (shape : Shape) (a b : ℕ) → (a ≡ size shape) × (a ≤ 8) → (b ≡ size shape) × (b ≤ 8) → a ≡ b
 one_size_of shape a b p q = p.0 ∙ sym q.0
 
-pub one_place_in : (bs : List ℕ) (a b : ℕ) → a ≡ number4 bs → b ≡ number4 bs → a ≡ b
-one_place_in bs a b p q = p ∙ sym q
+pub one_mark_ok : (m : Mark) (a b : Bool) → a ≡ ok_mark m → b ≡ ok_mark m → a ≡ b
+one_mark_ok m a b p q = p ∙ sym q
 
 pub one_key_of : (m : Mark) (a b : ℕ) → (a ≡ key m) × (a < 2 ^ 41) → (b ≡ key m) × (b < 2 ^ 41) → a ≡ b
 one_key_of m a b p q = p.0 ∙ sym q.0
@@ -45,14 +42,18 @@ one_end_of lists a b p q = p.0 ∙ sym q.0
 pub one_mark_at : (s : List ℕ) (lists : Lists) (i : ℕ) (a b : Mark) → a ≡ mark_at lists s i → b ≡ mark_at lists s i → a ≡ b
 one_mark_at s lists i a b p q = p ∙ sym q
 
-pub one_find_mark : (sheet : List ℕ) (lists : Lists) (i : ℕ) (a b : MarkFound) → a ≡ found_mark lists sheet i → b ≡ found_mark lists sheet i → a ≡ b
+pub one_find_mark : (sheet : List ℕ) (lists : Lists) (i : ℕ) (a b : Option Mark) → a ≡ found_mark lists sheet i → b ≡ found_mark lists sheet i → a ≡ b
 one_find_mark sheet lists i a b p q = p ∙ sym q
 
 -- ---- a changed list by its numbers
 
+pub one_count : (lists : Lists) (change : Change) (a b : ℕ)
+    → (a ≡ new_count change lists) × (a ≤ 8192) → (b ≡ new_count change lists) × (b ≤ 8192) → a ≡ b
+one_count lists change a b p q = p.0 ∙ sym q.0
+
 pub one_new_mark : (s : List ℕ) (lists : Lists) (change : Change) (j : ℕ) (a b : Mark) → a ≡ new_at change lists s j → b ≡ new_at change lists s j → a ≡ b
 one_new_mark s lists change j a b p q = p ∙ sym q
 
-pub one_count_new : (s : List ℕ) (lists : Lists) (change : Change) (n station a b : ℕ)
-    → (a ≡ count station (span (new_at change lists s) 0 n)) × (a ≤ n) → (b ≡ count station (span (new_at change lists s) 0 n)) × (b ≤ n) → a ≡ b
-one_count_new s lists change n station a b p q = p.0 ∙ sym q.0
+pub one_count_new : (s : List ℕ) (lists : Lists) (change : Change) (station a b : ℕ)
+    → a ≡ count station (new_marks change lists s) → b ≡ count station (new_marks change lists s) → a ≡ b
+one_count_new s lists change station a b p q = p ∙ sym q

@@ -1,5 +1,7 @@
 -- Marks in lent bytes by their numbers, and what is done to a list of them by numbers: what the code goes by. Assumes nothing.
-use Rattle.std.specs.Prelude.{ℕ, zero, suc, ◌+◌, ◌-◌, ◌*◌, ◌≤◌, ◌<◌, Bool, true, false, cond, ◌&&◌, ◌||◌, List, [], ◌∷◌, ◌++◌, leb, ltb, eqb, length, take, drop}
+use Rattle.std.specs.Prelude.{ℕ, zero, suc, ◌+◌, ◌-◌, ◌*◌, ◌≤◌, ◌<◌, Bool, true, false, cond, ◌&&◌, ◌||◌, List, [], ◌∷◌, ◌++◌, leb, ltb, eqb, length, take, drop, Option, Some, None}
+use Rattle.std.specs.Coded.{×_prop, Unit-prop, le_prop}
+use mathlib.Core.Path.{ap₂}
 use Rattle.rules.specs.declared.Shape.{Shape}
 use Rattle.rules.specs.declared.Shape.TheVariants.{Whole, InLog}
 use Rattle.rules.specs.declared.Mark.{Mark}
@@ -8,8 +10,6 @@ use Rattle.marks.specs.declared.Tally.{Tally}
 use Rattle.marks.specs.declared.Lists.{Lists}
 use Rattle.marks.specs.declared.Change.{Change}
 use Rattle.marks.specs.declared.Change.TheVariants.{Keep, Insert, Skip, Clear}
-use Rattle.marks.specs.declared.MarkFound.{MarkFound}
-use Rattle.marks.specs.declared.MarkFound.TheVariants.{Found, Nothing}
 
 -- ---- a pass over marks
 
@@ -69,6 +69,10 @@ pub record Held (c : Lists) (s : List ℕ) : Type 0 where
   pub low : c.base ≤ 14
   pub room : end_of c ≤ length s
 
+pub held_prop : (c : Lists) (s : List ℕ) → IsProp (Held c s)
+held_prop c s x y =
+    ap₂ (λ (p : (c.count ≤ 8191) × (c.base ≤ 14)) q. record { few = p.0; low = p.1; room = q }) (×_prop le_prop le_prop (x.few, x.low) (y.few, y.low)) (le_prop x.room y.room)
+
 -- the marks from a number on, so many
 unfoldable pub span : (ℕ → Mark) → ℕ → ℕ → List Mark
 span nth i zero = []
@@ -98,6 +102,12 @@ Sound (Insert k m) c = k ≤ c.count
 Sound (Skip k) c = k < c.count
 Sound Clear c = Unit {0}
 
+pub sound_prop : (ch : Change) (c : Lists) → IsProp (Sound ch c)
+sound_prop Keep c = Unit-prop
+sound_prop (Insert k m) c = le_prop
+sound_prop (Skip k) c = le_prop
+sound_prop Clear c = Unit-prop
+
 abbrev pub no_mark : Mark
 no_mark = record { log = 0; place = 0; station = 0; comment = 0 }
 
@@ -107,9 +117,12 @@ new_at (Insert k m) c s j = cond (ltb j k) (mark_at c s j) (cond (eqb j k) m (ma
 new_at (Skip k) c s j = cond (ltb j k) (mark_at c s j) (mark_at c s (j + 1))
 new_at Clear c s j = no_mark
 
+abbrev pub new_marks : Change → Lists → List ℕ → List Mark
+new_marks ch c s = span (new_at ch c s) 0 (new_count ch c)
+
 -- ---- for any lists and bytes
 abbrev pub held_in : Lists → ℕ → Bool
 held_in c n = leb c.count 8191 && (leb c.base 14 && leb (end_of c) n)
 
-unfoldable pub found_mark : Lists → List ℕ → ℕ → MarkFound
-found_mark c s i = cond (ltb i c.count && held_in c (length s)) (Found (mark_at c s i)) Nothing
+unfoldable pub found_mark : Lists → List ℕ → ℕ → Option Mark
+found_mark c s i = cond (ltb i c.count && held_in c (length s)) (Some (mark_at c s i)) None

@@ -2,39 +2,24 @@
 #![tactic(auto)]
 
 ghost use Rattle.std.specs.Prelude.{◌≡◌, ℕ, ◌+◌, ◌*◌, ◌<◌, ◌≤◌, ◌^◌, ◌||◌, ltb, length};
-ghost use Rattle.rules.specs.Mark.{key, size, number4, log_in, mark_in, fits, count, plus};
-ghost use Rattle.marks.specs.Lists.{passing, tally, both_tallies, shape_for, place_for, mark_at, end_of, Held, held_in, span, new_count, new_at, Sound, found_mark};
+ghost use Rattle.rules.specs.Mark.{key, size, ok_mark, number4, log_in, mark_in, fits, count};
+ghost use Rattle.marks.specs.Lists.{passing, tally, both_tallies, shape_for, place_for, mark_at, end_of, Held, held_in, new_count, new_at, new_marks, Sound, found_mark, sound_prop, held_prop};
 
-use numbers::octet;
 use rules::{Mark, Shape};
 
 // ---- one mark
 
 // The last log and the last station that there are (W-203).
-pub const LAST_LOG: u8 = 1;
+const LAST_LOG: u8 = 1;
 
-pub const LAST_STATION: u8 = 5;
-
-// One where the test holds.
-pub fn one_if(t: bool) -> usize
-    ensures { (result ≡ plus t 0) × (result ≤ 1) }
-{
-    if t { 1 } else { 0 }
-}
-
-// Whether one of two tests holds.
-fn either(a: bool, b: bool) -> bool
-    ensures { result ≡ (a || b) }
-{
-    if a { true } else { b }
-}
+const LAST_STATION: u8 = 5;
 
 // The number of four bytes, the highest first.
-pub fn number_4(bs: &[u8]) -> usize
+pub fn number_4(bs: &[u8]) -> u32
     requires { 4 ≤ length bs.now }
-    ensures { (result ≡ number4 bs.now) × (result < 4294967296) }
+    ensures { result ≡ number4 bs.now }
 {
-    ((octet(bs[0]) * 256 + octet(bs[1])) * 256 + octet(bs[2])) * 256 + octet(bs[3])
+    u32::from_be_bytes([bs[0], bs[1], bs[2], bs[3]])
 }
 
 // How many bytes a mark has.
@@ -57,13 +42,6 @@ fn log_in(bs: &[u8], shape: Shape) -> u8
     }
 }
 
-pub fn place_in(bs: &[u8]) -> u32
-    requires { 4 ≤ length bs.now }
-    ensures { result ≡ number4 bs.now }
-{
-    number_4(bs) as u32
-}
-
 // The mark that the first bytes spell.
 fn mark_in(bs: &[u8], shape: Shape) -> Mark
     requires { size shape ≤ length bs.now }
@@ -72,39 +50,38 @@ fn mark_in(bs: &[u8], shape: Shape) -> Mark
     let n = size_of(shape);
     Mark {
         log: log_in(bs, shape),
-        place: place_in(bs),
+        place: number_4(bs),
         station: bs[n - 3],
         comment: bs[n - 2],
     }
 }
 
-// Where a mark stands in the order: by log, then by place.
+// Where a mark stands in the order: by log, then by place. A number, as the rules have it (`key`): the least key that may come next is one more, for which a
+// derived order of the pair has no plain form.
 pub fn key_of(m: Mark) -> usize
     ensures { (result ≡ key m) × (result < 2 ^ 41) }
 {
     (m.log as usize) * 4294967296 + (m.place as usize)
 }
 
+// Whether there are its log and its station.
+pub fn mark_ok(m: Mark) -> bool
+    ensures { result ≡ ok_mark m }
+{
+    m.log <= LAST_LOG && m.station <= LAST_STATION
+}
+
 // Whether a mark is legal, with its last byte zero, and not below the least key.
 fn mark_fits(m: Mark, last: u8, least: usize) -> bool
     ensures { result ≡ fits m last least }
 {
-    if LAST_LOG < m.log {
-        return false;
-    }
-    if LAST_STATION < m.station {
-        return false;
-    }
-    if last != 0 {
-        return false;
-    }
-    least <= key_of(m)
+    mark_ok(m) && last == 0 && least <= key_of(m)
 }
 
 // ---- a pass over marks
 
 // What a pass tells of marks: how many they are, how many of them are log 0's, how many are below a key, and whether one stands at it.
-#[derive(Drop)]
+#[derive(Clone, Copy, Default)]
 pub struct Tally {
     pub count: usize,
     pub first: usize,
@@ -119,37 +96,22 @@ pub fn pass_marks(body: &[u8], n: usize, shape: Shape, key: usize) -> Tally
     ensures { result ≡ tally key (passing shape 0 n body.now) }
 {
     let size = size_of(shape);
-    let mut least: usize = 0;
-    let mut at: usize = 0;
-    let mut first: usize = 0;
-    let mut below: usize = 0;
-    let mut found = false;
-    let mut i: usize = 0;
-    while i < n {
-        let rest = &body[at..];
+    let mut least = 0;
+    let mut tally = Tally::default();
+    for i in 0..n {
+        let rest = &body[i * size..];
         let m = mark_in(rest, shape);
         if !mark_fits(m, rest[size - 1], least) {
-            return Tally {
-                count: i,
-                first,
-                below,
-                found,
-            };
+            return tally;
         }
         let k = key_of(m);
-        first = first + one_if(m.log == 0);
-        below = below + one_if(k < key);
-        found = either(found, k == key);
+        tally.count += 1;
+        tally.first += usize::from(m.log == 0);
+        tally.below += usize::from(k < key);
+        tally.found |= k == key;
         least = k + 1;
-        at = at + size;
-        i = i + 1;
     }
-    Tally {
-        count: i,
-        first,
-        below,
-        found,
-    }
+    tally
 }
 
 // What is told of two lists, one after the other.
@@ -161,7 +123,7 @@ pub fn both_tallies(low: Tally, high: Tally) -> Tally
         count: low.count + high.count,
         first: low.first + high.first,
         below: low.below + high.below,
-        found: either(low.found, high.found),
+        found: low.found | high.found,
     }
 }
 
@@ -180,26 +142,22 @@ pub struct Lists {
 fn shape_at(lists: Lists, i: usize) -> Shape
     ensures { result ≡ shape_for lists.split (ltb i lists.first) }
 {
-    if lists.split {
-        if i < lists.first {
-            return Shape::InLog(0);
-        }
-        return Shape::InLog(1);
+    match (lists.split, i < lists.first) {
+        (false, _) => Shape::Whole,
+        (true, true) => Shape::InLog(0),
+        (true, false) => Shape::InLog(1),
     }
-    Shape::Whole
 }
 
 fn place_at(lists: Lists, i: usize) -> usize
     requires { (i < 8192) × (lists.base ≤ 14) }
     ensures { result ≡ place_for lists.split (ltb i lists.first) lists.base i }
 {
-    if lists.split {
-        if i < lists.first {
-            return lists.base + i * 7;
-        }
-        return lists.base + 3 + i * 7;
+    match (lists.split, i < lists.first) {
+        (false, _) => lists.base + i * 8,
+        (true, true) => lists.base + i * 7,
+        (true, false) => lists.base + 3 + i * 7,
     }
-    lists.base + i * 8
 }
 
 // Where the marks end.
@@ -208,9 +166,10 @@ pub fn end_of(lists: Lists) -> usize
     ensures { (result ≡ end_of lists) × (result < 70000) }
 {
     if lists.split {
-        return lists.base + 3 + lists.count * 7;
+        lists.base + 3 + lists.count * 7
+    } else {
+        lists.base + lists.count * 8
     }
-    lists.base + lists.count * 8
 }
 
 // The mark with a number.
@@ -234,50 +193,59 @@ pub enum Change {
     Clear,
 }
 
-// The mark with a number in the changed list.
-pub fn new_mark(s: &[u8], lists: Lists, change: Change, j: usize) -> Mark
-    requires { (j < new_count change lists) × (Sound change lists × Held lists s.now) }
-    ensures { result ≡ new_at change lists s.now j }
-{
-    match change {
-        Change::Keep => mark_at(s, lists, j),
-        Change::Insert(k, m) => {
-            if j < k {
-                return mark_at(s, lists, j);
-            }
-            if j == k {
-                return m;
-            }
-            mark_at(s, lists, j - 1)
-        }
-        Change::Skip(gone) => {
-            if j < gone {
-                return mark_at(s, lists, j);
-            }
-            mark_at(s, lists, j + 1)
-        }
-        Change::Clear => Mark {
-            log: 0,
-            place: 0,
-            station: 0,
-            comment: 0,
-        },
-    }
+// A list of marks that lies in lent bytes, changed.
+#[derive(Clone, Copy)]
+pub struct NewList<'a> {
+    pub bytes: &'a [u8],
+    pub lists: Lists,
+    pub change: Change,
+    ghost sound: { Sound change lists } by { sound_prop change lists },
+    ghost held: { Held lists bytes.now } by { held_prop lists bytes.now },
 }
 
-// How many marks of the changed list are of a station: a fresh count.
-pub fn count_new(s: &[u8], lists: Lists, change: Change, n: usize, station: u8) -> usize
-    requires { (n ≡ new_count change lists) × (Sound change lists × Held lists s.now) }
-    ensures { (result ≡ count station (span (new_at change lists s.now) 0 n)) × (result ≤ n) }
-{
-    let mut total: usize = 0;
-    let mut j: usize = 0;
-    while j < n {
-        let m = new_mark(s, lists, change, j);
-        total = total + one_if(m.station == station);
-        j = j + 1;
+impl NewList<'_> {
+    // How many marks it has.
+    pub fn count(&self) -> usize
+        ensures { (result ≡ new_count self.now.change self.now.lists) × (result ≤ 8192) }
+    {
+        match self.change {
+            Change::Keep => self.lists.count,
+            Change::Insert(_, _) => self.lists.count + 1,
+            Change::Skip(_) => self.lists.count - 1,
+            Change::Clear => 0,
+        }
     }
-    total
+
+    // The mark with a number.
+    pub fn mark(&self, j: usize) -> Mark
+        requires { j < new_count self.now.change self.now.lists }
+        ensures { result ≡ new_at self.now.change self.now.lists self.now.bytes.now j }
+    {
+        let i = match self.change {
+            Change::Keep => j,
+            Change::Insert(k, m) => {
+                if j == k {
+                    return m;
+                }
+                if j < k { j } else { j - 1 }
+            }
+            Change::Skip(gone) => { if j < gone { j } else { j + 1 } }
+            Change::Clear => unreachable!(),
+        };
+        mark_at(self.bytes, self.lists, i)
+    }
+
+    // How many of its marks are of a station: a fresh count.
+    pub fn count_of(&self, station: u8) -> usize
+        ensures is { result ≡ count station (new_marks self.now.change self.now.lists self.now.bytes.now) }
+        ensures within { result ≤ new_count self.now.change self.now.lists }
+    {
+        let mut total = 0;
+        for j in 0..self.count() {
+            total += usize::from(self.mark(j).station == station);
+        }
+        total
+    }
 }
 
 // ---- for any caller: nothing is asked of the bytes or of the lists
@@ -286,30 +254,16 @@ pub fn count_new(s: &[u8], lists: Lists, change: Change, n: usize, station: u8) 
 fn lists_held(lists: Lists, len: usize) -> bool
     ensures { result ≡ held_in lists len }
 {
-    if 8191 < lists.count {
-        return false;
-    }
-    if 14 < lists.base {
-        return false;
-    }
-    end_of(lists) <= len
-}
-
-#[derive(Drop)]
-pub enum MarkFound {
-    Found(Mark),
-    Nothing,
+    lists.count <= 8191 && lists.base <= 14 && end_of(lists) <= len
 }
 
 // The mark with a number, of a sheet whose lists reading told.
-pub fn find_mark(sheet: &[u8], lists: Lists, i: usize) -> MarkFound
+pub fn find_mark(sheet: &[u8], lists: Lists, i: usize) -> Option<Mark>
     ensures { result ≡ found_mark lists sheet.now i }
 {
-    if lists.count <= i {
-        return MarkFound::Nothing;
+    if i < lists.count && lists_held(lists, sheet.len()) {
+        Some(mark_at(sheet, lists, i))
+    } else {
+        None
     }
-    if !lists_held(lists, sheet.len()) {
-        return MarkFound::Nothing;
-    }
-    MarkFound::Found(mark_at(sheet, lists, i))
 }
