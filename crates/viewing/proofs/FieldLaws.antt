@@ -8,8 +8,12 @@ use mathlib.Core.Bool.{Bool, true, false}
 use mathlib.Core.List.{List, [], ◌∷◌}
 use native.Mathlib.Omega.{arith}
 use lib.Dec.{leb, ltb, eqb, leb→le}
-use borrow.Author.Tests.{le-leb, lt-leb, lt-ltb, le-ltb, eq-eqb, ne_eqb}
+use borrow.Author.Tests.{le-leb, lt-leb, lt-ltb, eq-eqb, ne_eqb, ltb-true, ltb-false}
 use lib.IntN.{ℤ, pos, negsuc}
+use lib.Signed.{lt_z}
+use mir.Val.{to_z}
+use mir.Syntax.{w32}
+use Rattle.std.specs.Int.{w16, from_be_bytes}
 use Rattle.rules.specs.Answer.{Answer, ok, refused, ◌>>=◌, need◌or◌then◌, when◌then◌else◌, later}
 use Rattle.rules.specs.declared.Shape.{Shape}
 use Rattle.rules.specs.declared.Shape.TheVariants.{Whole, InLog}
@@ -27,6 +31,9 @@ use Rattle.marks.proofs.MarkSteps.{fault_in, marks_pass}
 use Rattle.viewing.specs.Read.{fmap, value}
 
 -- ---- the length of a field's body
+pub field_number : (bs : List ℕ) → from_be_bytes w16 (get_or bs 1 0 ∷ get_or bs 2 0 ∷ []) ≡ body_length bs
+field_number bs = omega arith
+
 module _ (t : ℕ) (bs : List ℕ) where
   pub field_none : length bs ≡ 0 → refused 31 0 ≡ field_length t bs
   unfolding field_length need◌or◌then◌
@@ -97,13 +104,14 @@ module _ (es : List Edition) (bs : List ℕ) where
       let g : get_or (take n (drop 3 bs)) 0 0 ≡ get_or bs 3 0 = get_or-take n (drop 3 bs) 0 0 (omega arith) ∙ get_or-drop 3 bs 0 0 in
       rw (field_read 1 bs n _ h, body_length_lem 1 bs n (sym h), eq-eqb n 1 d, g) (drop_rest (edition_of es (get_or bs 3 0)) (drop (3 + n) bs))
 
+-- what stands in no row
+abbrev pub no_edition : Edition
+no_edition = record { byte = 0; split = false; totals = false }
+
 -- the rows, one after another
 pub record Searched (es : List Edition) (n i : ℕ) : Type 0 where
   pub within : i ≤ length es
   pub left : edition_of (drop i es) n ≡ edition_of es n
-
-pub searched_none : (es : List Edition) (n : ℕ) → Searched es n 0
-searched_none es n = record { within = omega arith; left = refl }
 
 module _ (es : List Edition) (n i : ℕ) (e d : Edition) (w : Searched es n i) (l : i < length es) (r : e ≡ get_or es i d) where
   row_step : (when eqb n e.byte then ok e else edition_of (drop (suc i) es) n) ≡ edition_of es n
@@ -142,20 +150,41 @@ module _ (bs : List ℕ) where
   unfolding read_offset fmap need◌or◌then◌
   offset_value n c h d e = rw (field_read 2 bs n _ h, body_length_lem 2 bs n (sym h), eq-eqb n 4 d, d, ← e) (need_rest (in_range (offset_of c)) (offset_of c) (drop (3 + 4) bs))
 
-pub offset_up : (c : ℕ) → c ≤ 46080 → (need in_range (offset_of c) or 33 then ok (offset_of c)) ≡ ok (pos c)
-unfolding need◌or◌then◌
-offset_up c h = rw (lt-ltb c 2147483648 (omega arith), le-leb c 46080 h)
-
-pub offset_down : (c : ℕ) → 4294921216 ≤ c → c < 4294967296 → (need in_range (offset_of c) or 33 then ok (offset_of c)) ≡ ok (negsuc (4294967295 - c))
-unfolding need◌or◌then◌
-offset_down c h l = rw (le-ltb c 2147483648 (omega arith), le-leb (4294967295 - c) 46079 (omega arith))
-
-pub offset_barred : (c : ℕ) → 46080 < c → c < 4294921216 → (need in_range (offset_of c) or 33 then ok (offset_of c)) ≡ refused 33 0
-unfolding need◌or◌then◌
-offset_barred c h l = ⊎_elim
-    (λ (e : ltb c 2147483648 ≡ true). rw (e, lt-leb c 46080 h))
-    (λ (e : ltb c 2147483648 ≡ false). rw (e, lt-leb (4294967295 - c) 46079 (omega arith)))
+-- four bytes of two's complement, as the code has them, are the rule's
+pub offset_signed : (c : ℕ) → c < 4294967296 → to_z w32 c ≡ offset_of c
+offset_signed c h =
+    ⊎_elim
+    (λ (e : ltb c 2147483648 ≡ true). rw e)
+    (λ (e : ltb c 2147483648 ≡ false). let z : 4294967296 - suc c ≡ 4294967295 - c = omega arith in rw e (ap negsuc z))
     (decide (ltb c 2147483648))
+
+abbrev ranged : ℤ → Answer ℤ
+ranged z = need in_range z or 33 then ok z
+
+below : (z : ℤ) → lt_z z (negsuc 46079) ≡ true → ranged z ≡ refused 33 0
+unfolding need◌or◌then◌
+below (pos n) h = absurd (let z : ◌≡◌ {A = ℕ} 0 1 = cc in omega arith)
+below (negsuc n) h = let l : 46079 < n = ltb-true 46079 n h in rw (lt-leb n 46079 l)
+
+above : (z : ℤ) → lt_z (pos 46080) z ≡ true → ranged z ≡ refused 33 0
+unfolding need◌or◌then◌
+above (pos n) h = let l : 46080 < n = ltb-true 46080 n h in rw (lt-leb n 46080 l)
+above (negsuc n) h = absurd (let z : ◌≡◌ {A = ℕ} 0 1 = cc in omega arith)
+
+within : (z : ℤ) → lt_z z (negsuc 46079) ≡ false → lt_z (pos 46080) z ≡ false → ranged z ≡ ok z
+unfolding need◌or◌then◌
+within (pos n) h g = let l : n ≤ 46080 = ltb-false 46080 n g in rw (le-leb n 46080 l)
+within (negsuc n) h g = let l : n ≤ 46079 = ltb-false 46079 n h in rw (le-leb n 46079 l)
+
+module _ (z : ℤ) (c : ℕ) (e : z ≡ offset_of c) where
+  pub offset_below : lt_z z (negsuc 46079) ≡ true → ranged (offset_of c) ≡ refused 33 0
+  offset_below h = ap ranged (sym e) ∙ below z h
+
+  pub offset_above : lt_z (pos 46080) z ≡ true → ranged (offset_of c) ≡ refused 33 0
+  offset_above h = ap ranged (sym e) ∙ above z h
+
+  pub offset_within : lt_z z (negsuc 46079) ≡ false → lt_z (pos 46080) z ≡ false → ranged (offset_of c) ≡ ok z
+  offset_within h g = ap ranged (sym e) ∙ within z h g
 
 -- ---- a field of marks
 body_end : (n : ℕ) → 3 + n - 3 ≡ n

@@ -1,3 +1,4 @@
+pub mod Exits
 pub mod FieldLaws
 pub mod ListLaws
 pub mod TotalLaws

@@ -5,6 +5,8 @@ use mathlib.Core.Logic.{⊎_elim, ◌⊎◌, inl, inr}
 use mathlib.Core.Bool.{Bool, true, false}
 use mathlib.Core.List.{List, [], ◌∷◌, ◌++◌, append-nil}
 use native.Mathlib.Omega.{arith}
+use mir.Val as val
+use mir.Syntax.{w8}
 use Rattle.rules.specs.Answer.{Answer, ok, refused, ◌>>=◌, need◌or◌then◌, later}
 use Rattle.rules.specs.declared.Shape.{Shape}
 use Rattle.rules.specs.declared.Shape.TheVariants.{Whole, InLog}
@@ -31,6 +33,9 @@ use Rattle.viewing.proofs.FieldLaws.{body_length_lem, field_fits_lem, parts_in}
 pub are_bytes : (bs : List ℕ) → ((i : ℕ) → get_or bs i 0 < 256) → Octets bs
 are_bytes [] h = tt
 are_bytes (b ∷ bs) h = (h 0, are_bytes bs (λ i. h (suc i)))
+
+pub are_octets : (bs : List ℕ) → ((i : ℕ) → val.Fits w8 (get_or bs i 0)) → Octets bs
+are_octets bs h = are_bytes bs (λ i. (h i).fits)
 
 -- ---- two lists one after the other
 pub fmap_ok : {A B : Type 0} (f : A → B) (m : Answer A) (b : B) → ok b ≡ fmap f m → (a : A) × (m ≡ ok a) × (b ≡ f a)
@@ -212,9 +217,6 @@ whole_marks limit key bs a h =
 pub whole_refused : (limit key : ℕ) (bs : List ℕ) (k p : ℕ) → refused k p ≡ fmap (λ x. tally key x.0) (read_list 3 Whole limit bs) → refused k p ≡ fmap (λ x. marked_of key false x.0) (read_marks false limit bs)
 unfolding read_marks
 whole_refused limit key bs k p h = sym (fmap_no _ (fmap_refused _ (read_list 3 Whole limit bs) k p h))
-
-pub as_told : (t u : Bool) (limit key : ℕ) (bs : List ℕ) (r : Answer Marked) → t ≡ u → r ≡ fmap (λ x. marked_of key u x.0) (read_marks u limit bs) → r ≡ fmap (λ x. marked_of key t x.0) (read_marks t limit bs)
-as_told t u limit key bs r h k = rw h k
 
 pub length_tail : (at : ℕ) (s : List ℕ) → length (tail at s) ≡ length s - at
 length_tail at s = ap length (tail_is at s) ∙ length-drop at s

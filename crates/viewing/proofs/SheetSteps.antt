@@ -24,7 +24,9 @@ use Rattle.rules.proofs.MarkLaws.{marks_length}
 use Rattle.rules.proofs.SplitLaws.{split}
 use Rattle.rules.proofs.SheetLaws.{list_codec, edition_codec, offset_codec, marks_codec, totals_codec, totals_length}
 use Rattle.marks.specs.declared.Lists.{Lists}
-use Rattle.marks.specs.Lists.{lists_of, end_of, Held, marks_of}
+use Rattle.marks.specs.declared.Change.TheVariants.{Keep}
+use Rattle.marks.specs.Lists.{lists_of, end_of, Held, marks_of, new_marks}
+use Rattle.marks.proofs.ChangedLaws.{kept}
 use Rattle.marks.proofs.MarkSteps.{tail, tail_is}
 use Rattle.marks.proofs.NumberLaws.{count_is, base_is, marks_are}
 use Rattle.viewing.specs.declared.Marked.{Marked}
@@ -188,12 +190,12 @@ module _ (φ : Form) (small : φ.limit ≤ 8191) (s : List ℕ) (b : Octets s) (
     pub reads : read_totals e.totals third.marks (drop (end_of m.lists) s) ≡ ok (tt, drop (end_of m.lists + totals_size e.totals) s)
     pub room : end_of m.lists + totals_size e.totals ≤ length s
 
-  same_part : (e : Edition) (o : ℤ) (m : Marked) (at : ℕ) (w : Passed e o m) → at ≡ end_of m.lists → fmap {B = ℕ} (λ x. 0) (read_totals e.totals (marks_of m.lists s) (tail at s)) ≡ fmap {B = ℕ} (λ x. 0) (read_totals e.totals w.marks (drop (end_of m.lists) s))
-  same_part e o m at w h = ap₂ (λ x y. fmap {B = ℕ} (λ x. 0) (read_totals e.totals x y)) w.are (tail_is at s ∙ ap (λ n. drop n s) h)
+  same_part : (e : Edition) (o : ℤ) (m : Marked) (at : ℕ) (w : Passed e o m) → at ≡ end_of m.lists → value (read_totals e.totals (new_marks Keep m.lists s) (tail at s)) ≡ value (read_totals e.totals w.marks (drop (end_of m.lists) s))
+  same_part e o m at w h = ap₂ (λ x y. value (read_totals e.totals x y)) (kept m.lists s ∙ w.are) (tail_is at s ∙ ap (λ n. drop n s) h)
 
-  pub totals_goes : (e : Edition) (o : ℤ) (m : Marked) (at n : ℕ) → Passed e o m → at ≡ end_of m.lists → ok n ≡ fmap {B = ℕ} (λ x. 0) (read_totals e.totals (marks_of m.lists s) (tail at s)) → Totalled e o m
-  totals_goes e o m at n w g h =
-      let (x, r, q) = fmap_ok (λ (x : Unit × List ℕ). 0) (read_totals e.totals w.marks (drop (end_of m.lists) s)) n (h ∙ same_part e o m at w g) in
+  pub totals_goes : (e : Edition) (o : ℤ) (m : Marked) (at : ℕ) (u : Unit) → Passed e o m → at ≡ end_of m.lists → ok u ≡ value (read_totals e.totals (new_marks Keep m.lists s) (tail at s)) → Totalled e o m
+  totals_goes e o m at u w g h =
+      let (x, r, q) = fmap_ok (λ (x : Unit × List ℕ). x.0) (read_totals e.totals w.marks (drop (end_of m.lists) s)) u (h ∙ same_part e o m at w g) in
       let (d, l) = codec_rest (totals_codec e.totals w.marks) x.0 (drop (end_of m.lists) s) x.1 (bytes_drop (end_of m.lists) s b) r in
       let z : length (totals_fields e.totals w.marks) ≡ totals_size e.totals = totals_field e.totals w.marks in
       record {
@@ -202,7 +204,7 @@ module _ (φ : Form) (small : φ.limit ≤ 8191) (s : List ℕ) (b : Octets s) (
         room = omega (arith, z, l, length-drop (end_of m.lists) s, w.held.room);
       }
 
-  pub totals_stops : (e : Edition) (o : ℤ) (m : Marked) (at k p : ℕ) → Passed e o m → at ≡ end_of m.lists → refused k p ≡ fmap {B = ℕ} (λ x. 0) (read_totals e.totals (marks_of m.lists s) (tail at s)) → Says (refused k (at + p)) × (p ≡ 0)
+  pub totals_stops : (e : Edition) (o : ℤ) (m : Marked) (at k p : ℕ) → Passed e o m → at ≡ end_of m.lists → refused k p ≡ value (read_totals e.totals (new_marks Keep m.lists s) (tail at s)) → Says (refused k (at + p)) × (p ≡ 0)
   unfolding read_steps ◌>>=◌ later
   totals_stops e o m at k p w g h =
       let r : read_totals e.totals w.marks (drop (end_of m.lists) s) ≡ refused k p = fmap_refused _ _ k p (h ∙ same_part e o m at w g) in

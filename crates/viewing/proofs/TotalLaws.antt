@@ -13,20 +13,12 @@ use lib.Seq.{drop-cons}
 use Rattle.rules.specs.Mark.{count, totals_from, totals}
 use Rattle.rules.specs.Sheet.{field_length, same, read_total}
 use Rattle.rules.proofs.SheetSteps.{read_totals}
-use Rattle.marks.specs.declared.Lists.{Lists}
-use Rattle.marks.specs.declared.Change.TheVariants.{Keep}
-use Rattle.marks.specs.Lists.{span, marks_of, new_at}
-use Rattle.marks.proofs.ChangedLaws.{kept}
-use Rattle.viewing.specs.Read.{fmap}
+use Rattle.viewing.specs.Read.{fmap, value}
 use Rattle.viewing.proofs.FieldLaws.{field_refused, field_read, body_length_lem, field_fits_lem}
 
-pub record Agreed (ms : List Mark) (body : List ℕ) (j at : ℕ) : Type 0 where
-  pub within : j ≤ 6
-  pub place : at ≡ j * 2
-  pub left : same (drop at body) (totals_from j (6 - j) ms) ≡ same body (totals ms)
-
-pub agreed_none : (ms : List Mark) (body : List ℕ) → Agreed ms body 0 0
-agreed_none ms body = record { within = omega arith; place = refl; left = refl }
+-- the totals of the stations before j agree
+pub record Agreed (ms : List Mark) (body : List ℕ) (j : ℕ) : Type 0 where
+  pub left : same (drop (j * 2) body) (totals_from j (6 - j) ms) ≡ same body (totals ms)
 
 two_more : (body : List ℕ) (at : ℕ) → at + 1 < length body → drop at body ≡ get_or body at 0 ∷ get_or body (at + 1) 0 ∷ drop (at + 2) body
 two_more body at h =
@@ -45,26 +37,29 @@ same_step : (a b c d : ℕ) (x y : List ℕ) → same (a ∷ b ∷ x) (c ∷ d �
 unfolding same
 same_step a b c d x y = refl
 
-module _ (ms : List Mark) (body : List ℕ) (j at : ℕ) (l : length body ≡ 12) (p : Agreed ms body j at) (h : j < 6) where
-  agreed_step : (eqb (get_or body at 0) (count j ms / 256) && (eqb (get_or body (at + 1) 0) (count j ms % 256) && same (drop (at + 2) body) (totals_from (j + 1) (6 - (j + 1)) ms))) ≡ same body (totals ms)
-  agreed_step = sym (same_step _ _ _ _ _ _) ∙ ap₂ same (sym (two_more body at (omega (arith, p.place)))) (sym (total_step ms j h)) ∙ p.left
+module _ (ms : List Mark) (body : List ℕ) (j : ℕ) (l : length body ≡ 12) (p : Agreed ms body j) (h : j < 6) where
+  agreed_step : (eqb (get_or body (j * 2) 0) (count j ms / 256) && (eqb (get_or body (j * 2 + 1) 0) (count j ms % 256) && same (drop (j * 2 + 2) body) (totals_from (j + 1) (6 - (j + 1)) ms))) ≡ same body (totals ms)
+  agreed_step = sym (same_step _ _ _ _ _ _) ∙ ap₂ same (sym (two_more body (j * 2) (omega arith))) (sym (total_step ms j h)) ∙ p.left
 
-  pub agreed_high : (n w : ℕ) → n ≡ count j ms → (w ≡ get_or body at 0) × (w < 256) → (w ≡ n / 256 → ⊥) → false ≡ same body (totals ms)
-  agreed_high n w e g d =
-      let q : eqb (get_or body at 0) (count j ms / 256) ≡ false = ne_eqb _ _ (λ y. d (g.0 ∙ y ∙ ap (λ x. x / 256) (sym e))) in
+  pub agreed_high : (n i v : ℕ) → n ≡ count j ms → i ≡ j → v ≡ get_or body (i * 2) 0 → (v ≡ n / 256 → ⊥) → false ≡ same body (totals ms)
+  agreed_high n i v e g f d =
+      let q : eqb (get_or body (j * 2) 0) (count j ms / 256) ≡ false = ne_eqb _ _ (λ y. d (f ∙ ap (λ k. get_or body (k * 2) 0) g ∙ y ∙ ap (λ x. x / 256) (sym e))) in
       rw q at agreed_step
 
-  pub agreed_low : (n w v : ℕ) → n ≡ count j ms → (w ≡ get_or body at 0) × (w < 256) → w ≡ n / 256 → (v ≡ get_or body (at + 1) 0) × (v < 256) → (v ≡ n % 256 → ⊥) → false ≡ same body (totals ms)
-  agreed_low n w v e g d f k =
-      let q : eqb (get_or body at 0) (count j ms / 256) ≡ true = eq-eqb _ _ (sym g.0 ∙ d ∙ ap (λ x. x / 256) e) in
-      let r : eqb (get_or body (at + 1) 0) (count j ms % 256) ≡ false = ne_eqb _ _ (λ y. k (f.0 ∙ y ∙ ap (λ x. x % 256) (sym e))) in
-      rw (q, r) at agreed_step
+  module _ (n i v u : ℕ) (e : n ≡ count j ms) (g : i ≡ j) (f : v ≡ get_or body (i * 2) 0) (d : v ≡ n / 256) (k : u ≡ get_or body (i * 2 + 1) 0) where
+    high : eqb (get_or body (j * 2) 0) (count j ms / 256) ≡ true
+    high = eq-eqb _ _ (ap (λ k. get_or body (k * 2) 0) (sym g) ∙ sym f ∙ d ∙ ap (λ x. x / 256) e)
 
-  pub agreed_more : (n w v : ℕ) → n ≡ count j ms → (w ≡ get_or body at 0) × (w < 256) → w ≡ n / 256 → (v ≡ get_or body (at + 1) 0) × (v < 256) → v ≡ n % 256 → Agreed ms body (j + 1) (at + 2)
-  agreed_more n w v e g d f k =
-      let q : eqb (get_or body at 0) (count j ms / 256) ≡ true = eq-eqb _ _ (sym g.0 ∙ d ∙ ap (λ x. x / 256) e) in
-      let r : eqb (get_or body (at + 1) 0) (count j ms % 256) ≡ true = eq-eqb _ _ (sym f.0 ∙ k ∙ ap (λ x. x % 256) e) in
-      record { within = omega arith; place = omega (arith, p.place); left = rw (q, r) at agreed_step }
+    pub agreed_low : (u ≡ n % 256 → ⊥) → false ≡ same body (totals ms)
+    agreed_low h =
+        let r : eqb (get_or body (j * 2 + 1) 0) (count j ms % 256) ≡ false = ne_eqb _ _ (λ y. h (k ∙ ap (λ k. get_or body (k * 2 + 1) 0) g ∙ y ∙ ap (λ x. x % 256) (sym e))) in
+        rw (high, r) at agreed_step
+
+    pub agreed_more : u ≡ n % 256 → Agreed ms body (j + 1)
+    agreed_more h =
+        let r : eqb (get_or body (j * 2 + 1) 0) (count j ms % 256) ≡ true = eq-eqb _ _ (ap (λ k. get_or body (k * 2 + 1) 0) (sym g) ∙ sym k ∙ h ∙ ap (λ x. x % 256) e) in
+        let z : j * 2 + 2 ≡ (j + 1) * 2 = omega arith in
+        record { left = ap (λ i. same (drop i body) (totals_from (j + 1) (6 - (j + 1)) ms)) (sym z) ∙ (rw (high, r) at agreed_step) }
 
 nil_of : (x : List ℕ) → length x ≡ 0 → x ≡ []
 nil_of [] h = refl
@@ -78,17 +73,16 @@ none_left : (ms : List Mark) → totals_from 6 0 ms ≡ []
 unfolding totals_from
 none_left ms = refl
 
-pub agreed_all : (ms : List Mark) (body : List ℕ) (j at : ℕ) → length body ≡ 12 → Agreed ms body j at → 6 ≤ j → true ≡ same body (totals ms)
-agreed_all ms body j at l p h =
-    let e : j ≡ 6 = omega (arith, p.within) in
-    let d : drop at body ≡ [] = nil_of (drop at body) (omega (arith, length-drop at body, p.place)) in
-    let t : totals_from j (6 - j) ms ≡ [] = ap (λ k. totals_from k (6 - k) ms) e ∙ none_left ms in
+pub agreed_all : (ms : List Mark) (body : List ℕ) (j : ℕ) → length body ≡ 12 → Agreed ms body j → 6 ≡ j → true ≡ same body (totals ms)
+agreed_all ms body j l p h =
+    let d : drop (j * 2) body ≡ [] = nil_of (drop (j * 2) body) (omega (arith, length-drop (j * 2) body)) in
+    let t : totals_from j (6 - j) ms ≡ [] = ap (λ k. totals_from k (6 - k) ms) (sym h) ∙ none_left ms in
     same_nil ∙ ap₂ same (sym d) (sym t) ∙ p.left
 
 -- ---- the field
 module _ (ms : List Mark) (bs : List ℕ) where
-  abbrev Says : Answer ℕ → Type 0
-  Says r = r ≡ fmap (λ x. 0) (read_total 4 ms bs)
+  abbrev Says : Answer Unit → Type 0
+  Says r = r ≡ value (read_total 4 ms bs)
 
   pub total_refused : (k p : ℕ) → refused k p ≡ field_length 4 bs → Says (refused k p)
   unfolding read_total fmap
@@ -98,7 +92,7 @@ module _ (ms : List Mark) (bs : List ℕ) where
   unfolding read_total fmap need◌or◌then◌
   total_length n h d = rw (field_read 4 bs n _ h, body_length_lem 4 bs n (sym h), ne_eqb n 12 d)
 
-  pub total_same : (n : ℕ) → ok n ≡ field_length 4 bs → n ≡ 12 → same (take 12 (drop 3 bs)) (totals ms) ≡ true → Says (ok 0)
+  pub total_same : (n : ℕ) → ok n ≡ field_length 4 bs → n ≡ 12 → same (take 12 (drop 3 bs)) (totals ms) ≡ true → Says (ok tt)
   unfolding read_total fmap need◌or◌then◌
   total_same n h d e = rw (field_read 4 bs n _ h, body_length_lem 4 bs n (sym h), eq-eqb n 12 d, d, e)
 
@@ -109,13 +103,10 @@ module _ (ms : List Mark) (bs : List ℕ) where
   pub total_body : (n : ℕ) → ok n ≡ field_length 4 bs → n ≡ 12 → (length (take 12 (drop 3 bs)) ≡ 12) × (15 ≤ length bs)
   total_body n h d = (ap (λ k. length (take k (drop 3 bs))) (sym d) ∙ body_length_lem 4 bs n (sym h) ∙ d, omega (arith, field_fits_lem 4 bs n (sym h)))
 
-pub totals_none : (t : Bool) (ms : List Mark) (bs : List ℕ) → t ≡ false → ◌≡◌ {A = Answer ℕ} (ok 0) (fmap (λ x. 0) (read_totals t ms bs))
+pub totals_none : (t : Bool) (ms : List Mark) (bs : List ℕ) → t ≡ false → ◌≡◌ {A = Answer Unit} (ok tt) (value (read_totals t ms bs))
 unfolding read_totals fmap
 totals_none t ms bs h = rw h
 
-pub totals_some : (t : Bool) (ms : List Mark) (bs : List ℕ) (r : Answer ℕ) → t ≡ true → r ≡ fmap (λ x. 0) (read_total 4 ms bs) → r ≡ fmap (λ x. 0) (read_totals t ms bs)
+pub totals_some : (t : Bool) (ms : List Mark) (bs : List ℕ) (r : Answer Unit) → t ≡ true → r ≡ value (read_total 4 ms bs) → r ≡ value (read_totals t ms bs)
 unfolding read_totals
 totals_some t ms bs r h k = rw h k
-
-pub kept_count : (c : Lists) (s : List ℕ) (j n : ℕ) → (n ≡ count j (span (new_at Keep c s) 0 c.count)) × (n ≤ c.count) → n ≡ count j (marks_of c s)
-kept_count c s j n (h, l) = h ∙ ap (count j) (kept c s)

@@ -2,14 +2,8 @@
 use Rattle.viewing.proofs.TotalLaws.{totals_none, totals_some}
 use Rattle.viewing.proofs.read_totals.Goals as goal
 
-pub read_total-requires : goal.read_total-requires
-read_total-requires c =
-    c.requires
-
 pub returns-then-totals : goal.returns-then-totals
-returns-then-totals c =
-    totals_some _ _ _ _ c.if-totals.true c.read_total.ensures
+returns-then-totals c = totals_some _ _ _ _ c.if-totals.true c.read_total.ensures
 
-pub returns : goal.returns
-returns c =
-    totals_none _ _ _ c.if-totals.false
+pub returns-else-totals : goal.returns-else-totals
+returns-else-totals c = totals_none _ _ _ c.if-totals.false

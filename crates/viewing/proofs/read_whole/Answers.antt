@@ -1,13 +1,11 @@
 -- `viewing::read_whole` meets its contract. Assumes nothing.
-use mathlib.Core.Path.{◌∙◌, ap, sym}
+use mathlib.Core.Path.{◌∙◌}
+use Rattle.viewing.proofs.Exits.{from_same}
 use Rattle.viewing.proofs.ListLaws.{whole_marks, whole_refused}
-use Rattle.viewing.specs.Read.{list_answer}
 use Rattle.viewing.proofs.read_whole.Goals as goal
 
-pub returns-in-Marks : goal.returns-in-Marks
-returns-in-Marks c =
-    whole_marks _ _ _ _ (ap list_answer (sym c.in-Marks.is) ∙ c.read_list.ensures)
+pub returns-in_err-tally : goal.returns-in_err-tally
+returns-in_err-tally c = from_same _ _ c.from_residual.ensures.1 ∙ whole_refused _ c.args.key _ _ _ c.in_err-tally.ensures
 
-pub returns-in-Fault : goal.returns-in-Fault
-returns-in-Fault c =
-    whole_refused _ _ _ _ _ (ap list_answer (sym c.in-Fault.is) ∙ c.read_list.ensures)
+pub returns : goal.returns
+returns c = whole_marks _ c.args.key _ _ c.in_ok-tally.ensures

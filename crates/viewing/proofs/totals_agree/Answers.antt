@@ -1,53 +1,21 @@
 -- `viewing::totals_agree` meets its contract. Assumes nothing.
-use mathlib.Core.Path.{refl}
-use native.Mathlib.Omega.{arith}
-use Rattle.viewing.proofs.TotalLaws.{agreed_all, agreed_high, agreed_low, agreed_more, agreed_none, kept_count}
+use borrow.Author.Rules.{rules}
+use Rattle.viewing.proofs.TotalLaws.{agreed_all, agreed_high, agreed_low, agreed_more}
 use Rattle.viewing.proofs.totals_agree.Goals as goal
+use Rattle.viewing.proofs.totals_agree.Goals.{then-from-n-via-then-from-n, then-from-n-via-else-from-n+then-from-n-2}
 
-pub loop-j-init : goal.loop-j-init
-loop-j-init c =
-    agreed_none _ _
-
-pub count_new-n-requires : goal.count_new-n-requires
-count_new-n-requires c =
-    (refl, (tt, c.requires.1))
-
-pub bounds-body-at : goal.bounds-body-at
-bounds-body-at c =
-    omega (arith, c.loop-j.invariant.place, c.loop-j-test.true, c.requires.0)
-
-pub returns-then-octet-n : goal.returns-then-octet-n
-returns-then-octet-n c =
-    agreed_high _ _ _ _ c.requires.0 c.loop-j.invariant c.loop-j-test.true _ _ (kept_count _ _ _ _ c.count_new-n.ensures) c.octet.ensures c.if-octet-n.true
-
-pub overflow_add-at : goal.overflow_add-at
-overflow_add-at c =
-    omega (arith, c.loop-j.invariant.place, c.loop-j-test.true)
-
-pub bounds-body-at-in-loop-j : goal.bounds-body-at-in-loop-j
-bounds-body-at-in-loop-j c =
-    omega (arith, c.loop-j.invariant.place, c.loop-j-test.true, c.requires.0)
-
-pub returns-then-octet-n-2 : goal.returns-then-octet-n-2
-returns-then-octet-n-2 c =
-    agreed_low _ _ _ _ c.requires.0 c.loop-j.invariant c.loop-j-test.true _ _ _ (kept_count _ _ _ _ c.count_new-n.ensures) c.octet.ensures c.if-octet-n.false c.octet-in-loop-j.ensures c.if-octet-n-2.true
-
-pub overflow_add-at-in-loop-j : goal.overflow_add-at-in-loop-j
-overflow_add-at-in-loop-j c =
-    omega (arith, c.loop-j.invariant.place, c.loop-j-test.true)
-
-pub overflow_add-j : goal.overflow_add-j
-overflow_add-j c =
-    omega (arith, c.loop-j-test.true)
-
-pub loop-j-smaller : goal.loop-j-smaller
-loop-j-smaller c =
-    omega (arith, c.loop-j-test.true)
+pub returns-then-from-n : goal.returns-then-from-n
+returns-then-from-n c =
+    elim c.then-from-n.branch [
+      | then-from-n-via-then-from-n w ↦
+          agreed_high _ _ _ c.requires c.loop-j.invariant c.loop-j-test.true _ _ _ c.count_of-n.ensures.is c.from-at.ensures c.from.ensures w.if-from-n.true
+      | then-from-n-via-else-from-n+then-from-n-2 w ↦
+          agreed_low _ _ _ c.requires c.loop-j.invariant c.loop-j-test.true _ _ _ _ c.count_of-n.ensures.is c.from-at.ensures c.from.ensures w.if-from-n.false w.from-else-from-n.ensures w.if-from-n-2.true
+    ]
 
 pub loop-j-preserved : goal.loop-j-preserved
 loop-j-preserved c =
-    agreed_more _ _ _ _ c.requires.0 c.loop-j.invariant c.loop-j-test.true _ _ _ (kept_count _ _ _ _ c.count_new-n.ensures) c.octet.ensures c.if-octet-n.false c.octet-in-loop-j.ensures c.if-octet-n-2.false
+    agreed_more _ _ _ c.requires c.loop-j.invariant c.loop-j-test.true _ _ _ _ c.count_of-n.ensures.is c.from-at.ensures c.from.ensures c.if-from-n.false c.from-else-from-n.ensures c.if-from-n-2.false
 
 pub returns : goal.returns
-returns c =
-    agreed_all _ _ _ _ c.requires.0 c.loop-j.invariant c.loop-j-test.false
+returns c = agreed_all _ _ _ c.requires c.loop-j.invariant (search rules)
