@@ -1,8 +1,8 @@
 -- What the code meets: a changed sheet, laid whole into the lent output. Assumes nothing.
 --
--- In order: sizes; the lists; the whole sheet, or no room for it; room that is left.
+-- In order: the lists; the whole sheet, or no room for it; the totals, where there are any.
 use Prim.Native.Nat.{ℕ, ◌+◌, ◌-◌, ◌*◌, ◌≤◌, ◌<◌}
-use mathlib.Core.Path.{◌≡◌, refl, sym, ap, ap₂, ◌∙◌, subst}
+use mathlib.Core.Path.{◌≡◌, refl, sym, ap, ap₂, ◌∙◌}
 use mathlib.Core.Bool.{Bool, true, false}
 use mathlib.Core.List.{List, [], ◌∷◌, ◌++◌}
 use native.Mathlib.Omega.{arith}
@@ -27,46 +27,34 @@ use Rattle.marks.specs.Lists.{span}
 use Rattle.marks.proofs.NumberLaws.{span_length}
 use Rattle.viewing.specs.Read.{totals_size}
 use Rattle.viewing.proofs.ListLaws.{field_size}
-use Rattle.laying.specs.declared.Written.TheVariants.{Length, Refused}
+use Rattle.std.specs.Prelude.{Ok, Err}
+use Rattle.rules.specs.declared.faults.Fault.TheVariants.{NoRoom}
+use Rattle.rules.specs.declared.faults.Refusal.{Refusal}
 use Rattle.laying.specs.Lay.{lists_size, lists_bytes, new_bytes, Wrote}
 use Rattle.laying.proofs.PutLaws.{sets_append}
-
-pub size_split : (t : Bool) (n : ℕ) → t ≡ true → n ≤ 8191 → (6 + n * 7 ≡ lists_size t n) × (6 + n * 7 < 70000)
-size_split t n e h = (rw e, omega arith)
-
-pub size_whole : (t : Bool) (n : ℕ) → t ≡ false → n ≤ 8191 → (3 + n * 8 ≡ lists_size t n) × (3 + n * 8 < 70000)
-size_whole t n e h = (rw e, omega arith)
-
-pub lists_split : (t : Bool) (n : ℕ) → t ≡ true → lists_size t n ≡ 6 + n * 7
-lists_split t n e = rw e
-
-pub lists_whole : (t : Bool) (n : ℕ) → t ≡ false → lists_size t n ≡ 3 + n * 8
-lists_whole t n e = rw e
 
 module _ (nth : ℕ → Mark) where
   list_size : (t a n : ℕ) (f : Shape) → length (field_bytes t (marks_bytes f (span nth a n))) ≡ 3 + n * size f
   list_size t a n f = field_size t (marks_bytes f (span nth a n)) ∙ ap (λ k. 3 + k) (marks_length f (span nth a n) ∙ ap (λ k. k * size f) (span_length nth a n))
 
-  pub after_list : (t a n at : ℕ) (f : Shape) (l x : List ℕ) → x ≡ sets l at (field_bytes t (marks_bytes f (span nth a n))) → length x ≡ length l
-  after_list t a n at f l x h = ap length h ∙ length-sets l at (field_bytes t (marks_bytes f (span nth a n)))
-
-  pub split_put : (t : Bool) (n first p r : ℕ) (l x y : List ℕ) → t ≡ true → first ≤ n
+  pub split_put : (t : Bool) (n k first p r : ℕ) (l x y : List ℕ) → t ≡ true → n ≡ k → first ≤ k
       → (p ≡ 11 + 3 + (first - 0) * 7) × (x ≡ sets l 11 (field_bytes 5 (marks_bytes (InLog 0) (span nth 0 (first - 0)))))
       → (r ≡ p + 3 + (n - first) * 7) × (y ≡ sets x p (field_bytes 6 (marks_bytes (InLog 1) (span nth first (n - first)))))
-      → (r ≡ 11 + lists_size t n) × (y ≡ sets l 11 (lists_bytes t nth n first))
+      → (r ≡ 11 + lists_size t k) × (y ≡ sets l 11 (lists_bytes t nth k first))
   unfolding lists_bytes
-  split_put t n first p r l x y g h (a, b) (d, f) =
+  split_put t n k first p r l x y g e h (a, b) (d, f) =
       rw g (
         omega arith,
-        f ∙ ap₂ (λ u k. sets u k (field_bytes 6 (marks_bytes (InLog 1) (span nth first (n - first))))) b (a ∙ (omega (arith, list_size 5 0 (first - 0) (InLog 0))))
-            ∙ sym (sets_append (field_bytes 5 (marks_bytes (InLog 0) (span nth 0 (first - 0)))) (field_bytes 6 (marks_bytes (InLog 1) (span nth first (n - first)))) l 11),
+        f ∙ ap (λ m. sets x p (field_bytes 6 (marks_bytes (InLog 1) (span nth first (m - first))))) e
+            ∙ ap₂ (λ u m. sets u m (field_bytes 6 (marks_bytes (InLog 1) (span nth first (k - first))))) b (a ∙ (omega (arith, list_size 5 0 (first - 0) (InLog 0))))
+            ∙ sym (sets_append (field_bytes 5 (marks_bytes (InLog 0) (span nth 0 (first - 0)))) (field_bytes 6 (marks_bytes (InLog 1) (span nth first (k - first)))) l 11),
       )
 
-  pub whole_put : (t : Bool) (n first r : ℕ) (l y : List ℕ) → t ≡ false
+  pub whole_put : (t : Bool) (n k first r : ℕ) (l y : List ℕ) → t ≡ false → n ≡ k
       → (r ≡ 11 + 3 + (n - 0) * 8) × (y ≡ sets l 11 (field_bytes 3 (marks_bytes Whole (span nth 0 (n - 0)))))
-      → (r ≡ 11 + lists_size t n) × (y ≡ sets l 11 (lists_bytes t nth n first))
+      → (r ≡ 11 + lists_size t k) × (y ≡ sets l 11 (lists_bytes t nth k first))
   unfolding lists_bytes
-  whole_put t n first r l y g (a, b) = rw g (omega arith, b)
+  whole_put t n k first r l y g e (a, b) = rw g (omega arith, b ∙ ap (λ m. sets l 11 (field_bytes 3 (marks_bytes Whole (span nth 0 (m - 0))))) e)
 
   lists_length : (t : Bool) (n first : ℕ) → first ≤ n → length (lists_bytes t nth n first) ≡ lists_size t n
   unfolding lists_bytes
@@ -100,11 +88,12 @@ module _ (nth : ℕ → Mark) where
       )
 
   pub no_room : (e : Edition) (code n first z y : ℕ) (old : List ℕ) → first ≤ n → z ≡ lists_size e.split n → y ≡ totals_size e.totals → length old < 11 + z + y
-      → Wrote (Refused 16 0) (fitted (length old) (ok (new_bytes e code nth n first))) old old
+      → (r : Refusal) → r.fault ≡ NoRoom → r.place ≡ 0
+      → Wrote (Err r) (fitted (length old) (ok (new_bytes e code nth n first))) old old
   unfolding fitted ◌>>=◌ need◌or◌then◌
-  no_room e code n first z y old h g k l =
+  no_room e code n first z y old h g k l r q v =
       let f : leb (length (new_bytes e code nth n first)) (length old) ≡ false = lt-leb (length (new_bytes e code nth n first)) (length old) (omega (arith, new_size e code n first h)) in
-      (rw f, rw f)
+      (rw (f, q, v), rw f)
 
   put_all : (e : Edition) (code n first p : ℕ) (old x y new : List ℕ) → first ≤ n → x ≡ sets old 0 (field_bytes 1 (e.byte ∷ []) ++ field_bytes 2 (bytes4 code))
       → p ≡ 11 + lists_size e.split n → y ≡ sets x 11 (lists_bytes e.split nth n first) → new ≡ sets y p (totals_fields e.totals (span nth 0 n)) → new ≡ sets old 0 (new_bytes e code nth n first)
@@ -121,7 +110,7 @@ module _ (nth : ℕ → Mark) where
       → x ≡ sets old 0 (field_bytes 1 (e.byte ∷ []) ++ field_bytes 2 (bytes4 code))
       → (p ≡ 11 + lists_size e.split n) × (y ≡ sets x 11 (lists_bytes e.split nth n first))
       → new ≡ sets y p (totals_fields e.totals (span nth 0 n))
-      → Wrote (Length (11 + z + w)) (fitted (length old) (ok (new_bytes e code nth n first))) old new
+      → Wrote (Ok (11 + z + w)) (fitted (length old) (ok (new_bytes e code nth n first))) old new
   unfolding fitted ◌>>=◌ need◌or◌then◌
   all_written e code n first z w p old x y new h g k l d (a, b) q =
       let size' : length (new_bytes e code nth n first) ≡ 11 + z + w = new_size e code n first h ∙ ap₂ (λ u v. 11 + u + v) (sym g) (sym k) in
@@ -130,33 +119,15 @@ module _ (nth : ℕ → Mark) where
       let v : 0 + length (new_bytes e code nth n first) ≡ length (new_bytes e code nth n first) = omega arith in
       let o : new ≡ over (new_bytes e code nth n first) old =
       i ∙ sets-eq (new_bytes e code nth n first) old 0 (omega arith) ∙ ap (λ u. new_bytes e code nth n first ++ drop u old) v ∙ sym (over_is (new_bytes e code nth n first) old (omega arith)) in
-      (rw f (ap Length (sym size')), rw f o)
+      (rw f (ap ok (sym size')), rw f o)
 
 pub after_bytes : (l x bs : List ℕ) (at : ℕ) → x ≡ sets l at bs → length x ≡ length l
 after_bytes l x bs at h = ap length h ∙ length-sets l at bs
 
-pub room_after : (l x bs : List ℕ) (at n : ℕ) → x ≡ sets l at bs → n ≤ length l → n ≤ length x
-room_after l x bs at n h r = omega (arith, after_bytes l x bs at h)
-
-pub room_after_2 : (l x y bs cs : List ℕ) (at p n : ℕ) → x ≡ sets l at bs → y ≡ sets x p cs → n ≤ length l → n ≤ length y
-room_after_2 l x y bs cs at p n h g r = omega (arith, after_bytes l x bs at h, after_bytes x y cs p g)
-
-pub room_list : (l x body : List ℕ) (t at n : ℕ) → x ≡ sets l at (field_bytes t body) → n ≤ length l → n ≤ length x
-room_list l x body t at n h r = room_after l x (field_bytes t body) at n h r
-
-pub room_start : (l x : List ℕ) (w code n : ℕ) → x ≡ sets l 0 (field_bytes 1 (w ∷ []) ++ field_bytes 2 (bytes4 code)) → n ≤ length l → n ≤ length x
-room_start l x w code n h r = room_after l x (field_bytes 1 (w ∷ []) ++ field_bytes 2 (bytes4 code)) 0 n h r
-
-pub room_lists : (l x y : List ℕ) (w code n : ℕ) (t : Bool) (nth : ℕ → Mark) (m first : ℕ) → x ≡ sets l 0 (field_bytes 1 (w ∷ []) ++ field_bytes 2 (bytes4 code)) → y ≡ sets x 11 (lists_bytes t nth m first) → n ≤ length l → n ≤ length y
-room_lists l x y w code n t nth m first h g r = room_after x y (lists_bytes t nth m first) 11 n g (room_start l x w code n h r)
-
-pub last_put : (t : Bool) (nth : ℕ → Mark) (n at : ℕ) (l x : List ℕ) → t ≡ true → x ≡ sets l at (field_bytes 4 (totals (span nth 0 n))) → x ≡ sets l at (totals_fields t (span nth 0 n))
+pub last_put : (t : Bool) (ms : List Mark) (at : ℕ) (l x : List ℕ) → t ≡ true → x ≡ sets l at (field_bytes 4 (totals ms)) → x ≡ sets l at (totals_fields t ms)
 unfolding totals_fields
-last_put t nth n at l x h e = rw h e
+last_put t ms at l x h e = rw h e
 
-pub last_none : (t : Bool) (nth : ℕ → Mark) (n at : ℕ) (l : List ℕ) → t ≡ false → l ≡ sets l at (totals_fields t (span nth 0 n))
+pub last_none : (t : Bool) (ms : List Mark) (at : ℕ) (l : List ℕ) → t ≡ false → l ≡ sets l at (totals_fields t ms)
 unfolding totals_fields
-last_none t nth n at l h = rw h
-
-pub last_room : (t : Bool) (n : ℕ) (l : List ℕ) → t ≡ true → n + totals_size t ≤ length l → n + 15 ≤ length l
-last_room t n l h r = subst (λ u. n + totals_size u ≤ length l) h r
+last_none t ms at l h = rw h

@@ -8,11 +8,13 @@ use Rattle.rules.specs.declared.Edition.{Edition}
 use Rattle.rules.specs.SheetChange.{fitted}
 use Rattle.marks.specs.declared.Lists.{Lists}
 use Rattle.marks.specs.declared.Change.{Change}
-use Rattle.marks.specs.Lists.{new_at}
-use Rattle.laying.specs.declared.Written.{Written}
+use Rattle.marks.specs.Lists.{new_count, new_at}
+use Rattle.std.specs.Prelude.{Result}
+use Rattle.rules.specs.declared.faults.Refusal.{Refusal}
+use Rattle.rules.proofs.ToldLaws.{one_told}
 use Rattle.laying.specs.Lay.{new_bytes, Wrote}
 
-pub one_lay_sheet : (s : List ℕ) (lists : Lists) (change : Change) (n first : ℕ) (edition : Edition) (code : ℕ) (out : List ℕ) (a b : Written) (left right : List ℕ)
-    → Wrote a (fitted (length out) (ok (new_bytes edition code (new_at change lists s) n first))) out left
-    → Wrote b (fitted (length out) (ok (new_bytes edition code (new_at change lists s) n first))) out right → (a ≡ b) × (left ≡ right)
-one_lay_sheet s lists change n first edition code out a b left right p q = (p.0 ∙ sym q.0, p.1 ∙ sym q.1)
+pub one_lay_sheet : (s : List ℕ) (lists : Lists) (change : Change) (first : ℕ) (edition : Edition) (code : ℕ) (out : List ℕ) (a b : Result ℕ Refusal) (left right : List ℕ)
+    → Wrote a (fitted (length out) (ok (new_bytes edition code (new_at change lists s) (new_count change lists) first))) out left
+    → Wrote b (fitted (length out) (ok (new_bytes edition code (new_at change lists s) (new_count change lists) first))) out right → (a ≡ b) × (left ≡ right)
+one_lay_sheet s lists change first edition code out a b left right p q = (one_told a b (p.0 ∙ sym q.0), p.1 ∙ sym q.1)

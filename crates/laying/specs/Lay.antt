@@ -1,21 +1,16 @@
 -- What is laid into a lent output, and what the answer then is. Assumes nothing.
-use Rattle.std.specs.Prelude.{ℕ, ◌+◌, ◌-◌, ◌*◌, ◌/◌, ◌%◌, ◌≡◌, Bool, true, false, List, [], ◌∷◌, ◌++◌, length}
+use Rattle.std.specs.Prelude.{ℕ, ◌+◌, ◌-◌, ◌*◌, ◌/◌, ◌%◌, ◌≡◌, Bool, true, false, List, [], ◌∷◌, ◌++◌, length, Result}
 use Rattle.rules.specs.Answer.{Answer, ok, refused}
 use Rattle.rules.specs.Entry.{leaves}
-use Rattle.rules.specs.declared.Shape.{Shape}
 use Rattle.rules.specs.declared.Shape.TheVariants.{Whole, InLog}
+use Rattle.rules.specs.Told.{told}
+use Rattle.rules.specs.declared.faults.Refusal.{Refusal}
 use Rattle.rules.specs.declared.Edition.{Edition}
 use Rattle.rules.specs.declared.Mark.{Mark}
-use Rattle.rules.specs.Mark.{log_bytes, bytes4, marks_bytes}
+use Rattle.rules.specs.Mark.{bytes4, marks_bytes}
 use Rattle.rules.specs.Sheet.{field_bytes}
 use Rattle.rules.proofs.SheetSteps.{totals_fields}
 use Rattle.marks.specs.Lists.{span}
-use Rattle.laying.specs.declared.Written.{Written}
-use Rattle.laying.specs.declared.Written.TheVariants.{Length, Refused}
-
--- the bytes of a mark after its place
-abbrev pub rest_bytes : Shape → Mark → List ℕ
-rest_bytes f m = log_bytes f m ++ (m.station ∷ m.comment ∷ 0 ∷ [])
 
 -- the head of a field
 unfoldable pub head_bytes : ℕ → ℕ → List ℕ
@@ -34,11 +29,11 @@ unfoldable pub new_bytes : Edition → ℕ → (ℕ → Mark) → ℕ → ℕ �
 new_bytes e code nth n first =
     (field_bytes 1 (e.byte ∷ []) ++ field_bytes 2 (bytes4 code)) ++ (lists_bytes e.split nth n first ++ totals_fields e.totals (span nth 0 n))
 
--- ---- the answer
-abbrev pub written_of : Answer (List ℕ) → Written
-written_of (ok bs) = Length (length bs)
-written_of (refused n p) = Refused n p
+-- ---- the answer: how many bytes the sheet has
+abbrev pub written_of : Answer (List ℕ) → Answer ℕ
+written_of (ok bs) = ok (length bs)
+written_of (refused n p) = refused n p
 
 -- … and what the output then holds, of what was to be written
-abbrev pub Wrote : Written → Answer (List ℕ) → List ℕ → List ℕ → Type 0
-Wrote r m old new = (r ≡ written_of m) × (new ≡ leaves m old)
+abbrev pub Wrote : Result ℕ Refusal → Answer (List ℕ) → List ℕ → List ℕ → Type 0
+Wrote r m old new = (told r ≡ written_of m) × (new ≡ leaves m old)

@@ -1,17 +1,9 @@
 -- `laying::put_head` meets its contract. Assumes nothing.
+use mathlib.Core.Path.{◌∙◌, ap}
 use native.Mathlib.Omega.{arith}
-use lib.ListN.{length-set}
-use Rattle.laying.proofs.PutLaws.{head_put}
+use lib.Seq.{sets}
+use Rattle.laying.proofs.PutLaws.{head_is}
 use Rattle.laying.proofs.put_head.Goals as goal
 
-pub bounds-out-at-2 : goal.bounds-out-at-2
-bounds-out-at-2 c =
-    simp length-set (omega (arith, c.requires.1))
-
-pub bounds-out-at-3 : goal.bounds-out-at-3
-bounds-out-at-3 c =
-    simp length-set (omega (arith, c.requires.1))
-
 pub returns : goal.returns
-returns c =
-    head_put _ _ _ _
+returns c = c.put.ensures ∙ ap (sets c.args.out.now c.args.at) (head_is c.args.tag c.args.len c.to_be_bytes.result (omega (arith, c.ranges.len)) c.to_be_bytes.ensures)

@@ -1,17 +1,12 @@
 -- `laying::put_mark` meets its contract. Assumes nothing.
-use native.Mathlib.Omega.{arith}
-use Rattle.laying.proofs.PutLaws.{mark_put, put_room}
-use Rattle.marks.proofs.MarkSteps.{size_least}
+use mathlib.Core.Path.{◌∙◌, ap}
+use borrow.Author.Rules.{rules}
+use lib.Seq.{sets}
+use Rattle.laying.proofs.PutLaws.{mark_own, mark_whole}
 use Rattle.laying.proofs.put_mark.Goals as goal
 
-pub put_four-requires : goal.put_four-requires
-put_four-requires c =
-    omega (arith, c.requires, size_least c.args.shape)
+pub returns-in-Whole : goal.returns-in-Whole
+returns-in-Whole c = c.put.ensures ∙ ap (sets c.args.out.now c.args.at) (mark_whole c.args.shape c.args.m c.to_be_bytes.result c.in-Whole.is (search rules) c.to_be_bytes.ensures)
 
-pub put_rest-requires : goal.put_rest-requires
-put_rest-requires c =
-    put_room c.args.shape c.args.out.now _ _ _ c.requires c.put_four.ensures
-
-pub returns : goal.returns
-returns c =
-    mark_put _ _ _ _ _ _ c.put_four.ensures c.put_rest.ensures
+pub returns-in-InLog : goal.returns-in-InLog
+returns-in-InLog c = c.put-in-InLog.ensures ∙ ap (sets c.args.out.now c.args.at) (mark_own c.args.shape c.args.m c.to_be_bytes.result _ c.in-InLog.is (search rules) c.to_be_bytes.ensures)
