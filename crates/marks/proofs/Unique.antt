@@ -1,11 +1,11 @@
 -- No two distinct results satisfy the statement of a function that another crate can call. Assumes nothing.
-use Prim.Native.Nat.{ℕ, ◌<◌, ◌≤◌, ◌^◌}
+use Prim.Native.Nat.{ℕ, ◌+◌, ◌*◌, ◌<◌, ◌≤◌, ◌^◌}
 use mathlib.Core.Path.{◌≡◌, sym, ◌∙◌}
 use mathlib.Core.Bool.{Bool}
 use mathlib.Core.List.{List}
 use Rattle.rules.specs.declared.Mark.{Mark}
 use Rattle.rules.specs.declared.Shape.{Shape}
-use Rattle.rules.specs.Mark.{key, size, ok_mark, number4, count}
+use Rattle.rules.specs.Mark.{size, ok_mark, number4, count}
 use Rattle.marks.specs.declared.Tally.{Tally}
 use Rattle.marks.specs.declared.Lists.{Lists}
 use Rattle.marks.specs.declared.Change.{Change}
@@ -23,8 +23,8 @@ one_size_of shape a b p q = p.0 ∙ sym q.0
 pub one_mark_ok : (m : Mark) (a b : Bool) → a ≡ ok_mark m → b ≡ ok_mark m → a ≡ b
 one_mark_ok m a b p q = p ∙ sym q
 
-pub one_key_of : (m : Mark) (a b : ℕ) → (a ≡ key m) × (a < 2 ^ 41) → (b ≡ key m) × (b < 2 ^ 41) → a ≡ b
-one_key_of m a b p q = p.0 ∙ sym q.0
+pub one_key_of : (log place a b : ℕ) → (a ≡ log * 4294967296 + place) × (a < 2 ^ 41) → (b ≡ log * 4294967296 + place) × (b < 2 ^ 41) → a ≡ b
+one_key_of log place a b p q = p.0 ∙ sym q.0
 
 -- ---- a pass over marks
 

@@ -2,7 +2,7 @@
 #![tactic(auto)]
 
 ghost use Rattle.std.specs.Prelude.{◌≡◌, ℕ, ◌+◌, ◌*◌, ◌<◌, ◌≤◌, ◌^◌, ◌||◌, ltb, length};
-ghost use Rattle.rules.specs.Mark.{key, size, ok_mark, number4, log_in, mark_in, fits, count};
+ghost use Rattle.rules.specs.Mark.{size, ok_mark, number4, log_in, mark_in, fits, count};
 ghost use Rattle.marks.specs.Lists.{passing, tally, both_tallies, shape_for, place_for, mark_at, end_of, Held, held_in, new_count, new_at, new_marks, Sound, found_mark, sound_prop, held_prop};
 
 use rules::{Mark, Shape};
@@ -56,12 +56,12 @@ fn mark_in(bs: &[u8], shape: Shape) -> Mark
     }
 }
 
-// Where a mark stands in the order: by log, then by place. A number, as the rules have it (`key`): the least key that may come next is one more, for which a
+// Where a mark at a log and place stands in the order: by log, then by place. A number, as the rules have it (`key`): the least key that may come next is one more, for which a
 // derived order of the pair has no plain form.
-pub fn key_of(m: Mark) -> usize
-    ensures { (result ≡ key m) × (result < 2 ^ 41) }
+pub fn key_of(log: u8, place: u32) -> usize
+    ensures { (result ≡ log * 4294967296 + place) × (result < 2 ^ 41) }
 {
-    (m.log as usize) * 4294967296 + (m.place as usize)
+    (log as usize) * 4294967296 + (place as usize)
 }
 
 // Whether there are its log and its station.
@@ -75,7 +75,7 @@ pub fn mark_ok(m: Mark) -> bool
 fn mark_fits(m: Mark, last: u8, least: usize) -> bool
     ensures { result ≡ fits m last least }
 {
-    mark_ok(m) && last == 0 && least <= key_of(m)
+    mark_ok(m) && last == 0 && least <= key_of(m.log, m.place)
 }
 
 // ---- a pass over marks
@@ -104,7 +104,7 @@ pub fn pass_marks(body: &[u8], n: usize, shape: Shape, key: usize) -> Tally
         if !mark_fits(m, rest[size - 1], least) {
             return tally;
         }
-        let k = key_of(m);
+        let k = key_of(m.log, m.place);
         tally.count += 1;
         tally.first += usize::from(m.log == 0);
         tally.below += usize::from(k < key);

@@ -8,9 +8,8 @@ use mathlib.Core.Bool.{Bool, true, false}
 use mathlib.Core.List.{List, [], ◌∷◌}
 use native.Mathlib.Omega.{arith}
 use lib.Dec.{leb, ltb, eqb, leb→le}
-use borrow.Author.Tests.{le-leb, lt-leb, lt-ltb, eq-eqb, ne_eqb, ltb-true, ltb-false}
-use lib.IntN.{ℤ, pos, negsuc}
-use lib.Signed.{lt_z}
+use borrow.Author.Tests.{le-leb, lt-leb, lt-ltb, eq-eqb, ne_eqb}
+use lib.IntN.{ℤ, negsuc}
 use mir.Val.{to_z}
 use mir.Syntax.{w32}
 use Rattle.std.specs.Int.{w16, from_be_bytes}
@@ -158,33 +157,14 @@ offset_signed c h =
     (λ (e : ltb c 2147483648 ≡ false). let z : 4294967296 - suc c ≡ 4294967295 - c = omega arith in rw e (ap negsuc z))
     (decide (ltb c 2147483648))
 
-abbrev ranged : ℤ → Answer ℤ
-ranged z = need in_range z or 33 then ok z
-
-below : (z : ℤ) → lt_z z (negsuc 46079) ≡ true → ranged z ≡ refused 33 0
-unfolding need◌or◌then◌
-below (pos n) h = absurd (let z : ◌≡◌ {A = ℕ} 0 1 = cc in omega arith)
-below (negsuc n) h = let l : 46079 < n = ltb-true 46079 n h in rw (lt-leb n 46079 l)
-
-above : (z : ℤ) → lt_z (pos 46080) z ≡ true → ranged z ≡ refused 33 0
-unfolding need◌or◌then◌
-above (pos n) h = let l : 46080 < n = ltb-true 46080 n h in rw (lt-leb n 46080 l)
-above (negsuc n) h = absurd (let z : ◌≡◌ {A = ℕ} 0 1 = cc in omega arith)
-
-within : (z : ℤ) → lt_z z (negsuc 46079) ≡ false → lt_z (pos 46080) z ≡ false → ranged z ≡ ok z
-unfolding need◌or◌then◌
-within (pos n) h g = let l : n ≤ 46080 = ltb-false 46080 n g in rw (le-leb n 46080 l)
-within (negsuc n) h g = let l : n ≤ 46079 = ltb-false 46079 n h in rw (le-leb n 46079 l)
-
 module _ (z : ℤ) (c : ℕ) (e : z ≡ offset_of c) where
-  pub offset_below : lt_z z (negsuc 46079) ≡ true → ranged (offset_of c) ≡ refused 33 0
-  offset_below h = ap ranged (sym e) ∙ below z h
+  pub offset_not : in_range z ≡ false → (need in_range (offset_of c) or 33 then ok (offset_of c)) ≡ refused 33 0
+  unfolding need◌or◌then◌
+  offset_not h = rw (← e, h)
 
-  pub offset_above : lt_z (pos 46080) z ≡ true → ranged (offset_of c) ≡ refused 33 0
-  offset_above h = ap ranged (sym e) ∙ above z h
-
-  pub offset_within : lt_z z (negsuc 46079) ≡ false → lt_z (pos 46080) z ≡ false → ranged (offset_of c) ≡ ok z
-  offset_within h g = ap ranged (sym e) ∙ within z h g
+  pub offset_is : in_range z ≡ true → (need in_range (offset_of c) or 33 then ok (offset_of c)) ≡ ok z
+  unfolding need◌or◌then◌
+  offset_is h = rw (← e, h)
 
 -- ---- a field of marks
 body_end : (n : ℕ) → 3 + n - 3 ≡ n

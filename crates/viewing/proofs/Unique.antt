@@ -9,6 +9,8 @@ use Rattle.rules.specs.declared.faults.Fault.{Fault}
 use Rattle.rules.specs.declared.faults.Refusal.{Refusal}
 use Rattle.rules.proofs.ToldLaws.{one_fault, one_told}
 use Rattle.rules.proofs.AnswerLaws.{ok_inj, refused_ok}
+use lib.IntN.{ℤ}
+use Rattle.rules.specs.Merge.{in_range}
 use Rattle.rules.specs.SheetForm.{form}
 use Rattle.rules.specs.Sheet.{edition_of, read_sheet}
 use Rattle.viewing.specs.declared.View.{View}
@@ -22,6 +24,9 @@ same_edition (Err e) (Err f) h = ap Err (one_fault e f cc)
 
 pub one_edition_of : (byte : ℕ) (a b : Result Edition Fault) → edition_answer a ≡ edition_of form.editions byte → edition_answer b ≡ edition_of form.editions byte → a ≡ b
 one_edition_of byte a b p q = same_edition a b (p ∙ sym q)
+
+pub one_offset_ok : (offset : ℤ) (a b : Bool) → a ≡ in_range offset → b ≡ in_range offset → a ≡ b
+one_offset_ok offset a b p q = p ∙ sym q
 
 pub one_totals_size : (totals : Bool) (a b : ℕ) → (a ≡ totals_size totals) × (a ≤ 15) → (b ≡ totals_size totals) × (b ≤ 15) → a ≡ b
 one_totals_size totals a b p q = p.0 ∙ sym q.0

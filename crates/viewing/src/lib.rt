@@ -5,6 +5,7 @@
 ghost use Rattle.std.specs.Prelude.{◌≡◌, ℕ, ◌+◌, ◌<◌, ◌≤◌, ◌^◌, true, false, length};
 ghost use Rattle.rules.specs.Mark.{totals};
 ghost use Rattle.rules.specs.SheetForm.{form};
+ghost use Rattle.rules.specs.Merge.{in_range};
 ghost use Rattle.rules.specs.Sheet.{edition_of, field_length, read_edition, read_offset, read_list, same, read_total, read_sheet};
 ghost use Rattle.rules.proofs.SheetSteps.{read_marks, read_totals};
 ghost use Rattle.rules.specs.Answer.{later};
@@ -83,9 +84,15 @@ fn read_edition(bs: &[u8]) -> Result<Edition, Fault>
 }
 
 // The least and the greatest clock offset (W-201).
-const LEAST_OFFSET: i32 = -46080;
+const LEAST_OFFSET: i64 = -46080;
 
-const GREATEST_OFFSET: i32 = 46080;
+const GREATEST_OFFSET: i64 = 46080;
+
+pub fn offset_ok(offset: i64) -> bool
+    ensures { result ≡ in_range offset }
+{
+    LEAST_OFFSET <= offset && offset <= GREATEST_OFFSET
+}
 
 // In two's complement.
 fn read_offset(bs: &[u8]) -> Result<i64, Refusal>
@@ -94,11 +101,11 @@ fn read_offset(bs: &[u8]) -> Result<i64, Refusal>
     if field_length(bs, 2)? != 4 {
         return Err(Fault::BodyLength.at(0));
     }
-    let offset = marks::number_4(&bs[3..7]).cast_signed();
-    if offset < LEAST_OFFSET || GREATEST_OFFSET < offset {
+    let offset = i64::from(marks::number_4(&bs[3..7]).cast_signed());
+    if !offset_ok(offset) {
         return Err(Fault::ValueBarred.at(0));
     }
-    Ok(i64::from(offset))
+    Ok(offset)
 }
 
 // ---- the marks
