@@ -31,17 +31,21 @@ use Rattle.rules.proofs.SheetForms.{small}
 use Rattle.marks.specs.declared.Change.TheVariants.{Insert, Skip, Clear}
 use Rattle.marks.specs.declared.Tally.{Tally}
 use Rattle.marks.specs.Lists.{lists_of, end_of, Held, span, marks_of, below, has_key, tally, changed, new_at}
+use Rattle.std.specs.Int.{from_bool}
+use Rattle.marks.proofs.MarkSteps.{plus_bool, bool_few}
 use Rattle.marks.proofs.NumberLaws.{count_is, base_is, marks_are, span_append, span_length}
 use Rattle.marks.proofs.ChangedLaws.{inserted, skipped, insert_at, has_key_lem, skip_at, less_first, more_first, of_few, below_few}
 use Rattle.viewing.specs.declared.View.{View}
-use Rattle.viewing.specs.Read.{fmap, view_of}
+use Rattle.viewing.specs.Read.{begun, fmap, view_of}
 use Rattle.viewing.proofs.ListLaws.{fmap_ok, fmap_refused}
 use Rattle.viewing.proofs.SheetSteps.{edition_size, offset_size, marks_size}
-use Rattle.laying.specs.declared.Written.{Written}
-use Rattle.laying.specs.declared.Written.TheVariants.{Refused}
+use Rattle.std.specs.Prelude.{Result, Ok, Err}
+use Rattle.std.specs.Result.{result_unwrap_or}
+use Rattle.rules.specs.declared.faults.Fault.{Fault}
+use Rattle.rules.specs.declared.faults.Refusal.{Refusal}
+use Rattle.rules.specs.Told.{number_of, told}
 use Rattle.laying.specs.Lay.{lists_bytes, new_bytes, Wrote}
-use Rattle.sheets.specs.declared.SheetRead.TheVariants.{Accepted}
-use Rattle.sheets.specs.declared.SheetRead.TheVariants as read
+use Rattle.sheets.specs.declared.SheetRead.{SheetRead}
 use Rattle.sheets.specs.Answers.{sheet_read}
 
 -- ---- editions
@@ -50,13 +54,17 @@ pub back_same : (f : Form) (e : Edition) → f.least ≤ e.byte → e ≡ back_o
 unfolding back_of when◌then◌else◌
 back_same f e h = rw (le-leb f.least e.byte h)
 
-pub back_found : (f : Form) (e x : Edition) → e.byte < f.least → ok x ≡ edition_of f.editions f.least → x ≡ back_of f e
+back_found : (f : Form) (e x : Edition) → e.byte < f.least → ok x ≡ edition_of f.editions f.least → x ≡ back_of f e
 unfolding back_of when◌then◌else◌
 back_found f e x h g = rw (lt-leb f.least e.byte h, ← g)
 
-pub back_none : (f : Form) (e : Edition) (k p : ℕ) → e.byte < f.least → refused k p ≡ edition_of f.editions f.least → e ≡ back_of f e
+back_none : (f : Form) (e : Edition) (k p : ℕ) → e.byte < f.least → refused k p ≡ edition_of f.editions f.least → e ≡ back_of f e
 unfolding back_of when◌then◌else◌
 back_none f e k p h g = rw (lt-leb f.least e.byte h, ← g)
+
+pub back_else : (f : Form) (e : Edition) (x : Result Edition Fault) → e.byte < f.least → begun x ≡ edition_of f.editions f.least → result_unwrap_or x e ≡ back_of f e
+back_else f e (Ok r) h g = back_found f e r h g
+back_else f e (Err d) h g = back_none f e (number_of d) 0 h g
 
 -- no byte is refused but by 33 at 0
 only_33 : (es : List Edition) (n : ℕ) → ◌≡◌ {A = Answer Edition} (edition_of es n >>= (λ e. refused 33 0)) (refused 33 0)
@@ -137,19 +145,19 @@ seen s k v b h =
     }
 
 -- a rule that reads the sheet first, and a sheet that is refused
-pub read_stops : (f : Sheet → Answer (List ℕ)) (s old : List ℕ) (j k p : ℕ) → refused k p ≡ fmap (view_of j) (read_sheet form s) → Wrote (Refused k p) (fitted (length old) (read_sheet form s >>= f)) old old
+read_stops : (f : Sheet → Answer (List ℕ)) (s old : List ℕ) (j k p : ℕ) (x : Result ℕ Refusal) → told x ≡ refused k p → refused k p ≡ fmap (view_of j) (read_sheet form s) → Wrote x (fitted (length old) (read_sheet form s >>= f)) old old
 unfolding fitted ◌>>=◌
-read_stops f s old j k p h =
+read_stops f s old j k p x e h =
     let r : read_sheet form s ≡ refused k p = fmap_refused (view_of j) (read_sheet form s) k p h in
-    (rw r, rw r)
+    (rw (r, e), rw r)
 
 -- any refusal
-pub refused_by_lem : (k p : ℕ) (m : Answer (List ℕ)) (old : List ℕ) → m ≡ refused k p → Wrote (Refused k p) (fitted (length old) m) old old
+pub refused_by_lem : (k p : ℕ) (x : Result ℕ Refusal) (m : Answer (List ℕ)) (old : List ℕ) → told x ≡ refused k p → m ≡ refused k p → Wrote x (fitted (length old) m) old old
 unfolding fitted ◌>>=◌
-refused_by_lem k p m old e = (rw e, rw e)
+refused_by_lem k p x m old g e = (rw (e, g), rw e)
 
 -- what was laid is what the rule makes
-pub laid_by_lem : (m : Answer (List ℕ)) (bs old new : List ℕ) (r : Written) → m ≡ ok bs → Wrote r (fitted (length old) (ok bs)) old new → Wrote r (fitted (length old) m) old new
+pub laid_by_lem : (m : Answer (List ℕ)) (bs old new : List ℕ) (r : Result ℕ Refusal) → m ≡ ok bs → Wrote r (fitted (length old) (ok bs)) old new → Wrote r (fitted (length old) m) old new
 laid_by_lem m bs old new r e w = subst (λ x. Wrote r (fitted (length old) x) old new) (sym e) w
 
 -- ---- the bytes of a sheet from marks by their numbers
@@ -191,17 +199,6 @@ none_first : 0 ≡ length (of_log 0 [])
 unfolding of_log
 none_first = refl
 
--- ---- a mark that may be added
-
-pub not_log : (m : Mark) → 1 < m.log → false ≡ ok_mark m
-not_log m h = rw (lt-leb m.log 1 h)
-
-pub not_station : (m : Mark) → m.log ≤ 1 → 5 < m.station → m.place < 4294967296 → false ≡ ok_mark m
-not_station m g h p = rw (le-leb m.log 1 g, lt-ltb m.place 4294967296 p, lt-leb m.station 5 h)
-
-pub is_ok : (m : Mark) → m.log ≤ 1 → m.station ≤ 5 → m.place < 4294967296 → m.comment < 256 → true ≡ ok_mark m
-is_ok m g h p c = rw (le-leb m.log 1 g, lt-ltb m.place 4294967296 p, le-leb m.station 5 h, lt-ltb m.comment 256 c)
-
 -- ---- the changes of a sheet that was read
 
 module _ (s : List ℕ) (j : ℕ) (v : View) (w : Seen s j v) where
@@ -225,7 +222,7 @@ module _ (s : List ℕ) (j : ℕ) (v : View) (w : Seen s j v) where
   there l p h g = has_key_lem l p h 0 w.sheet.marks w.rise ∙ ap (λ x. has_key x w.sheet.marks) (sym g) ∙ sym (ap (λ (x : Tally). x.found) w.tells)
 
   -- emptying
-  pub empty_done : (old new : List ℕ) (r : Written) (e : Edition) (code : ℕ) → e ≡ back_of form v.edition → code ≡ number4 (take 4 (drop 7 s))
+  pub empty_done : (old new : List ℕ) (r : Result ℕ Refusal) (e : Edition) (code : ℕ) → e ≡ back_of form v.edition → code ≡ number4 (take 4 (drop 7 s))
       → Wrote r (fitted (length old) (ok (new_bytes e code (new_at Clear v.lists s) 0 0))) old new → Wrote r (fitted (length old) (sheet_empty form s)) old new
   unfolding sheet_empty ◌>>=◌
   empty_done old new r e code g h q =
@@ -254,11 +251,12 @@ module _ (s : List ℕ) (j : ℕ) (v : View) (w : Seen s j v) where
     unfolding sheet_add ◌>>=◌ need◌or◌then◌
     add_goes o h l = rw (w.reads, o, there_is o ∙ h, lt-ltb (length w.sheet.marks) form.limit (omega (arith, w.many)))
 
-    pub add_done : (old new : List ℕ) (r : Written) (e : Edition) (code o : ℕ) → ok_mark m ≡ true → v.tally.found ≡ false → v.lists.count < form.limit
-        → e ≡ back_of form v.edition → code ≡ number4 (take 4 (drop 7 s)) → (o ≡ plus (eqb m.log 0) 0) × (o ≤ 1)
+    pub add_done : (old new : List ℕ) (r : Result ℕ Refusal) (e : Edition) (code o : ℕ) → ok_mark m ≡ true → v.tally.found ≡ false → v.lists.count < form.limit
+        → e ≡ back_of form v.edition → code ≡ number4 (take 4 (drop 7 s)) → o ≡ from_bool (eqb m.log 0)
         → Wrote r (fitted (length old) (ok (new_bytes e code (new_at (Insert v.tally.below m) v.lists s) (v.lists.count + 1) (v.tally.first + o)))) old new
         → Wrote r (fitted (length old) (sheet_add form m s)) old new
-    add_done old new r e code o oke h l x c (ob, ol) q =
+    add_done old new r e code o oke h l x c b q =
+        let ob : o ≡ plus (eqb m.log 0) 0 = b ∙ plus_bool (eqb m.log 0) in
         let lm : Legal m = legal m (true_is (ok_mark m) oke) in
         let k : ℕ = v.tally.below in
         let nf : span (new_at (Insert k m) v.lists s) 0 (v.lists.count + 1) ≡ insert m w.sheet.marks =
@@ -266,7 +264,7 @@ module _ (s : List ℕ) (j : ℕ) (v : View) (w : Seen s j v) where
         let ri : T (rising Whole 0 (insert m w.sheet.marks)) = insert_rising 0 m w.sheet.marks lm (omega arith) (rw (there_is oke ∙ h) tt) w.rise in
         let fe : v.tally.first + o ≡ length (of_log 0 (insert m w.sheet.marks)) = ap₂ (λ a d. a + d) first_is ob ∙ sym (more_first m w.sheet.marks) in
         laid_by_lem (sheet_add form m s) _ old new r
-        (add_goes oke h l ∙ ap ok (sym (new_bytes_lem e code w.sheet.offset (new_at (Insert k m) v.lists s) (v.lists.count + 1) (v.tally.first + o) (insert m w.sheet.marks) (c ∙ w.code) nf ri fe (omega (arith, first_few))
+        (add_goes oke h l ∙ ap ok (sym (new_bytes_lem e code w.sheet.offset (new_at (Insert k m) v.lists s) (v.lists.count + 1) (v.tally.first + o) (insert m w.sheet.marks) (c ∙ w.code) nf ri fe (omega (arith, first_few, b, bool_few (eqb m.log 0)))
         ∙ ap (λ x. sheet_bytes (record { edition = x; offset = w.sheet.offset; marks = insert m w.sheet.marks })) (back_is e x)))) q
 
   -- removing
@@ -279,31 +277,38 @@ module _ (s : List ℕ) (j : ℕ) (v : View) (w : Seen s j v) where
     unfolding sheet_remove ◌>>=◌ need◌or◌then◌
     remove_goes h = rw (w.reads, there l p small-place g ∙ h)
 
+    -- the number of the mark that is there is one of the list
+    pub there_fits : v.tally.found ≡ true → v.tally.below < v.lists.count
+    there_fits h =
+        let hm : has_key (l * 4294967296 + p) w.sheet.marks ≡ true = ap (λ x. has_key x w.sheet.marks) (sym g) ∙ sym (ap (λ (x : Tally). x.found) w.tells) ∙ h in
+        let (a, b) = skip_at l p small-place 0 w.sheet.marks w.rise hm in
+        let ks : v.tally.below ≡ below (l * 4294967296 + p) w.sheet.marks = below_is ∙ ap (λ z. below z w.sheet.marks) g in
+        omega (arith, w.many)
+
     pub record Found (o : ℕ) : Type 0 where
-      pub one : v.tally.below < v.lists.count
       pub less : o ≤ v.tally.first
       pub marks : span (new_at (Skip v.tally.below) v.lists s) 0 (v.lists.count - 1) ≡ without l p w.sheet.marks
       pub first : v.tally.first - o ≡ length (of_log 0 (without l p w.sheet.marks))
       pub fewer : v.tally.first - o ≤ v.lists.count - 1
 
-    pub found : (o : ℕ) → v.tally.found ≡ true → (o ≡ plus (eqb l 0) 0) × (o ≤ 1) → Found o
-    found o h (ob, ol) =
+    pub found : (o : ℕ) → v.tally.found ≡ true → o ≡ from_bool (eqb l 0) → Found o
+    found o h ob₀ =
+        let ob : o ≡ plus (eqb l 0) 0 = ob₀ ∙ plus_bool (eqb l 0) in
         let hm : has_key (l * 4294967296 + p) w.sheet.marks ≡ true = ap (λ x. has_key x w.sheet.marks) (sym g) ∙ sym (ap (λ (x : Tally). x.found) w.tells) ∙ h in
         let (a, b) = skip_at l p small-place 0 w.sheet.marks w.rise hm in
         let ks : v.tally.below ≡ below (l * 4294967296 + p) w.sheet.marks = below_is ∙ ap (λ z. below z w.sheet.marks) g in
-        let kc : v.tally.below < v.lists.count = omega (arith, w.many) in
+        let kc : v.tally.below < v.lists.count = there_fits h in
         let lf : length (of_log 0 w.sheet.marks) ≡ length (of_log 0 (without l p w.sheet.marks)) + plus (eqb l 0) 0 = less_first l p small-place 0 w.sheet.marks w.rise hm in
         let ms : span (new_at (Skip v.tally.below) v.lists s) 0 (v.lists.count - 1) ≡ without l p w.sheet.marks = skipped v.lists s v.tally.below kc ∙ ap₂ (λ y x. changed (Skip y) x) ks w.are ∙ a in
         let fs : v.tally.first - o ≡ length (of_log 0 (without l p w.sheet.marks)) = omega (arith, first_is) in
         record {
-          one = kc;
           less = omega (arith, first_is);
           marks = ms;
           first = fs;
           fewer = omega (arith, fs, of_few (without l p w.sheet.marks), ap length ms, span_length (new_at (Skip v.tally.below) v.lists s) 0 (v.lists.count - 1));
         }
 
-    pub remove_done : (old new : List ℕ) (r : Written) (e : Edition) (code o : ℕ) → v.tally.found ≡ true → e ≡ back_of form v.edition → code ≡ number4 (take 4 (drop 7 s)) → Found o
+    pub remove_done : (old new : List ℕ) (r : Result ℕ Refusal) (e : Edition) (code o : ℕ) → v.tally.found ≡ true → e ≡ back_of form v.edition → code ≡ number4 (take 4 (drop 7 s)) → Found o
         → Wrote r (fitted (length old) (ok (new_bytes e code (new_at (Skip v.tally.below) v.lists s) (v.lists.count - 1) (v.tally.first - o)))) old new
         → Wrote r (fitted (length old) (sheet_remove form l p s)) old new
     remove_done old new r e code o h x c u q =
@@ -311,25 +316,28 @@ module _ (s : List ℕ) (j : ℕ) (v : View) (w : Seen s j v) where
         (remove_goes h ∙ ap ok (sym (new_bytes_lem e code w.sheet.offset (new_at (Skip v.tally.below) v.lists s) (v.lists.count - 1) (v.tally.first - o) (without l p w.sheet.marks) (c ∙ w.code) u.marks (without_rising 0 l p w.sheet.marks w.rise) u.first u.fewer
         ∙ ap (λ x. sheet_bytes (record { edition = x; offset = w.sheet.offset; marks = without l p w.sheet.marks })) (back_is e x)))) q
 
-pub add_stops : (m : Mark) (s old : List ℕ) (j k p : ℕ) → refused k p ≡ fmap (view_of j) (read_sheet form s) → Wrote (Refused k p) (fitted (length old) (sheet_add form m s)) old old
+pub add_stops : (m : Mark) (s old : List ℕ) (j k p : ℕ) (x : Result ℕ Refusal) → told x ≡ refused k p → refused k p ≡ fmap (view_of j) (read_sheet form s) → Wrote x (fitted (length old) (sheet_add form m s)) old old
 unfolding sheet_add
-add_stops m s old j k p h = read_stops _ s old j k p h
+add_stops m s old j k p x e h = read_stops _ s old j k p x e h
 
-pub remove_stops : (l q : ℕ) (s old : List ℕ) (j k p : ℕ) → refused k p ≡ fmap (view_of j) (read_sheet form s) → Wrote (Refused k p) (fitted (length old) (sheet_remove form l q s)) old old
+pub remove_stops : (l q : ℕ) (s old : List ℕ) (j k p : ℕ) (x : Result ℕ Refusal) → told x ≡ refused k p → refused k p ≡ fmap (view_of j) (read_sheet form s) → Wrote x (fitted (length old) (sheet_remove form l q s)) old old
 unfolding sheet_remove
-remove_stops l q s old j k p h = read_stops _ s old j k p h
+remove_stops l q s old j k p x e h = read_stops _ s old j k p x e h
 
-pub empty_stops : (s old : List ℕ) (j k p : ℕ) → refused k p ≡ fmap (view_of j) (read_sheet form s) → Wrote (Refused k p) (fitted (length old) (sheet_empty form s)) old old
+pub empty_stops : (s old : List ℕ) (j k p : ℕ) (x : Result ℕ Refusal) → told x ≡ refused k p → refused k p ≡ fmap (view_of j) (read_sheet form s) → Wrote x (fitted (length old) (sheet_empty form s)) old old
 unfolding sheet_empty
-empty_stops s old j k p h = read_stops _ s old j k p h
+empty_stops s old j k p x e h = read_stops _ s old j k p x e h
 
 -- ---- reading
-pub read_told : (s : List ℕ) (k : ℕ) (v : View) → ok v ≡ fmap (view_of k) (read_sheet form s) → Accepted v.edition.byte v.offset v.lists ≡ sheet_read (read_sheet form s)
+abbrev pub read_by : View → ℤ → Answer SheetRead
+read_by v z = ok (record { edition = v.edition.byte; offset = z; marks = v.lists })
+
+pub read_told : (s : List ℕ) (k : ℕ) (v : View) → ok v ≡ fmap (view_of k) (read_sheet form s) → read_by v v.offset ≡ sheet_read (read_sheet form s)
 unfolding sheet_read
 read_told s k v h =
     let (sh, r, q) = fmap_ok (view_of k) (read_sheet form s) v h in
-    ap (λ (x : View). Accepted x.edition.byte x.offset x.lists) q ∙ ap sheet_read (sym r)
+    ap (λ (x : View). read_by x x.offset) q ∙ ap sheet_read (sym r)
 
-pub read_refused : (s : List ℕ) (j k p : ℕ) → refused k p ≡ fmap (view_of j) (read_sheet form s) → read.Refused k p ≡ sheet_read (read_sheet form s)
+pub read_refused : (s : List ℕ) (j k p : ℕ) → refused k p ≡ fmap (view_of j) (read_sheet form s) → refused k p ≡ sheet_read (read_sheet form s)
 unfolding sheet_read
 read_refused s j k p h = ap sheet_read (sym (fmap_refused (view_of j) (read_sheet form s) k p h))

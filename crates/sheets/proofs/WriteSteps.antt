@@ -1,14 +1,16 @@
 -- What the code meets: a clock offset in four bytes, and marks that are lent and written. Assumes nothing.
-use Prim.Native.Nat.{ℕ, ◌-◌, ◌*◌, ◌/◌, ◌%◌, ◌≤◌, ◌<◌, zero-le}
-use mathlib.Core.Path.{◌≡◌, refl, sym, ap, ◌∙◌}
-use mathlib.Core.Bool.{Bool, true, false, true≢false}
+use Prim.Native.Nat.{ℕ, suc, ◌-◌, ◌*◌, ◌/◌, ◌%◌, ◌≤◌, ◌<◌}
+use mathlib.Core.Path.{◌≡◌, refl, sym, ap, ap₂, ◌∙◌}
+use mathlib.Core.Bool.{Bool, true, false}
 use mathlib.Core.List.{List, [], ◌++◌, append-nil}
 use native.Mathlib.Omega.{arith}
 use lib.Dec.{T}
-use borrow.Author.Tests.{le-leb, lt-leb, le-ltb, eq-eqb, ne_eqb}
+use borrow.Author.Tests.{le-leb, lt-leb, eq-eqb, ne_eqb, leb-true}
 use lib.ListN.{length, drop}
 use lib.IntN.{ℤ, pos, negsuc}
-use lib.Signed.{mag, lt_z}
+use Rattle.std.specs.Int.{w32, cast_unsigned}
+use Rattle.std.proofs.lemmas.Int.{of_z-to_z}
+use mir.Val.{to_z}
 use Rattle.rules.specs.Answer.{Answer, ok, refused, ◌>>=◌, need◌or◌then◌}
 use Rattle.rules.proofs.AnswerLaws.{refused_ok, ok_inj, Octets}
 use Rattle.rules.specs.declared.Shape.TheVariants.{Whole}
@@ -28,39 +30,41 @@ use Rattle.marks.specs.Lists.{passing, tally, Held, marks_of, new_at}
 use Rattle.marks.proofs.MarkSteps.{fault_in, marks_pass}
 use Rattle.marks.proofs.NumberLaws.{marks_whole}
 use Rattle.marks.proofs.ChangedLaws.{kept, of_few}
-use Rattle.laying.specs.declared.Written.{Written}
+use Rattle.std.specs.Prelude.{Result}
+use Rattle.rules.specs.declared.faults.Refusal.{Refusal}
 use Rattle.laying.specs.Lay.{new_bytes, Wrote}
 use Rattle.sheets.proofs.ChangeSteps.{new_bytes_lem, laid_by_lem}
 
--- ---- the offset, by its sign and magnitude
+-- ---- the offset, in two's complement
 
 abbrev pub Coding : ℤ → Answer ℕ
 Coding o = need in_range o or 33 then ok (offset_code o)
 
-pub low_barred : (o : ℤ) (m : ℕ) → m ≡ mag o → lt_z o (pos 0) ≡ true → 46080 ≤ m → refused 33 0 ≡ Coding o
+pub code_no : (o : ℤ) → in_range o ≡ false → refused 33 0 ≡ Coding o
 unfolding need◌or◌then◌
-low_barred (pos n) m e t h = absurd (true≢false (sym t ∙ le-ltb n 0 zero-le))
-low_barred (negsuc n) m e t h = rw (lt-leb n 46079 (omega arith))
+code_no o h = rw h
 
-pub low_code : (o : ℤ) (m : ℕ) → m ≡ mag o → lt_z o (pos 0) ≡ true → m < 46080 → ok (4294967295 - m) ≡ Coding o
+code_yes : (o : ℤ) → in_range o ≡ true → ok (cast_unsigned w32 o) ≡ Coding o
 unfolding need◌or◌then◌
-low_code (pos n) m e t h = absurd (true≢false (sym t ∙ le-ltb n 0 zero-le))
-low_code (negsuc n) m e t h = rw (le-leb n 46079 (omega arith)) (ap (λ x. ok (4294967295 - x)) e)
+code_yes (pos n) h = rw h
+code_yes (negsuc n) h = let z : 4294967296 - suc n ≡ 4294967295 - n = omega arith in rw h (ap ok z)
 
-pub high_barred : (o : ℤ) (m : ℕ) → m ≡ mag o → lt_z o (pos 0) ≡ false → 46080 < m → refused 33 0 ≡ Coding o
-unfolding need◌or◌then◌
-high_barred (pos n) m e t h = rw (lt-leb n 46080 (omega arith))
-high_barred (negsuc n) m e t h = absurd (true≢false t)
+small_code : (o : ℤ) → in_range o ≡ true → cast_unsigned w32 o < 4294967296
+small_code (pos n) h = let l : n ≤ 46080 = leb-true n 46080 h in omega arith
+small_code (negsuc n) h = omega arith
 
-pub high_code : (o : ℤ) (m : ℕ) → m ≡ mag o → lt_z o (pos 0) ≡ false → m ≤ 46080 → ok m ≡ Coding o
-unfolding need◌or◌then◌
-high_code (pos n) m e t h = rw (le-leb n 46080 (omega arith)) (ap ok e)
-high_code (negsuc n) m e t h = absurd (true≢false t)
+pub code_told : (o : ℤ) → in_range o ≡ true → ok (cast_unsigned w32 (to_z w32 (cast_unsigned w32 o))) ≡ Coding o
+code_told o h = ap ok (of_z-to_z w32 (cast_unsigned w32 o) (small_code o h)) ∙ code_yes o h
 
 coding_no : (t : Bool) (c k p : ℕ) → refused k p ≡ (need t or 33 then ok c) → t ≡ false
 unfolding need◌or◌then◌
 coding_no true c k p h = refused_ok h
 coding_no false c k p h = refl
+
+coding_what : (t : Bool) (c k p : ℕ) → refused k p ≡ (need t or 33 then ok c) → ◌≡◌ {A = Answer (List ℕ)} (refused 33 0) (refused k p)
+unfolding need◌or◌then◌
+coding_what true c k p h = refused_ok h
+coding_what false c k p h = let a : k ≡ 33 = cc in let b : p ≡ 0 = cc in ap₂ refused (sym a) (sym b)
 
 coding_yes : (t : Bool) (c d : ℕ) → ok d ≡ (need t or 33 then ok c) → (t ≡ true) × (d ≡ c)
 unfolding need◌or◌then◌
@@ -128,15 +132,15 @@ module _ (n : ℕ) (o : ℤ) (bs : List ℕ) where
     unfolding write_sheet need◌or◌then◌ ◌>>=◌
     write_edition k p h = goes_on ∙ rw (le-leb (length w.marks) form.limit (omega (arith, w.many, w.few)), ← h)
 
-    pub write_offset : (e : Edition) (k p : ℕ) → ok e ≡ told_edition form n → refused k p ≡ Coding o → write_marks form n o bs ≡ refused 33 0
+    pub write_offset : (e : Edition) (k p : ℕ) → ok e ≡ told_edition form n → refused k p ≡ Coding o → write_marks form n o bs ≡ refused k p
     unfolding write_sheet need◌or◌then◌ ◌>>=◌
-    write_offset e k p h g = goes_on ∙ rw (le-leb (length w.marks) form.limit (omega (arith, w.many, w.few)), ← h, coding_no (in_range o) (offset_code o) k p g)
+    write_offset e k p h g = goes_on ∙ rw (le-leb (length w.marks) form.limit (omega (arith, w.many, w.few)), ← h, coding_no (in_range o) (offset_code o) k p g) (coding_what (in_range o) (offset_code o) k p g)
 
     sheet_goes : (e : Edition) → ok e ≡ told_edition form n → in_range o ≡ true → write_marks form n o bs ≡ ok (sheet_bytes (record { edition = e; offset = o; marks = w.marks }))
     unfolding write_sheet need◌or◌then◌ ◌>>=◌
     sheet_goes e h g = goes_on ∙ rw (le-leb (length w.marks) form.limit (omega (arith, w.many, w.few)), ← h, g, is_true (rising Whole 0 w.marks) w.rise)
 
-    pub write_done : (old new : List ℕ) (r : Written) (e : Edition) (code : ℕ) → ok e ≡ told_edition form n → ok code ≡ Coding o
+    pub write_done : (old new : List ℕ) (r : Result ℕ Refusal) (e : Edition) (code : ℕ) → ok e ≡ told_edition form n → ok code ≡ Coding o
         → Wrote r (fitted (length old) (ok (new_bytes e code (new_at Keep c bs) c.count a.first))) old new → Wrote r (fitted (length old) (write_marks form n o bs)) old new
     write_done old new r e code h g q =
         let (t, d) = coding_yes (in_range o) (offset_code o) code g in

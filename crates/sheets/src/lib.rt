@@ -2,54 +2,43 @@
 // of a sheet are passed over once to read it, and once more to lay the changed one.
 #![tactic(auto)]
 
-ghost use Rattle.std.specs.Prelude.{◌≡◌, length};
+ghost use Rattle.std.specs.Prelude.{◌≡◌, ◌≤◌, length, take, drop};
 ghost use Rattle.rules.specs.Answer.{ok, need◌or◌then◌};
 ghost use Rattle.rules.specs.Entry.{leaves};
-ghost use Rattle.rules.specs.Mark.{ok_mark};
+ghost use Rattle.rules.specs.Told.{told};
+ghost use Rattle.rules.specs.Mark.{number4};
 ghost use Rattle.rules.specs.SheetForm.{form};
 ghost use Rattle.rules.specs.Merge.{in_range};
 ghost use Rattle.rules.specs.Sheet.{offset_code, told_edition, read_sheet};
 ghost use Rattle.rules.specs.SheetChange.{back_of, sheet_add, sheet_remove, sheet_empty, write_marks, fitted};
-ghost use Rattle.viewing.specs.Read.{edition_answer};
-ghost use Rattle.laying.specs.Lay.{written_of};
-ghost use Rattle.sheets.specs.Answers.{sheet_read, coded_as};
+ghost use Rattle.marks.specs.Lists.{new_count, new_at};
+ghost use Rattle.viewing.specs.Read.{begun};
+ghost use Rattle.laying.specs.Lay.{new_bytes, written_of, Wrote};
+ghost use Rattle.sheets.specs.Answers.{sheet_read};
 
-use laying::Written;
-use marks::{Change, LAST_LOG, LAST_STATION, Lists};
-use rules::{Edition, Mark, Shape};
-use viewing::{EditionRead, LIMIT, SheetViewed};
+use marks::{Change, Lists, NewList};
+use rules::{Edition, Fault, Mark, Refusal, Shape};
+use viewing::LIMIT;
 
 // ---- reading
 
 // What is told of a sheet: its edition, its clock offset, and where its marks lie (`marks::find_mark`).
-#[derive(Drop)]
-pub enum SheetRead {
-    Accepted {
-        edition: u8,
-        offset: i64,
-        marks: Lists,
-    },
-    Refused {
-        number: u8,
-        place: usize,
-    },
+#[derive(Clone, Copy)]
+pub struct SheetRead {
+    pub edition: u8,
+    pub offset: i64,
+    pub marks: Lists,
 }
 
-pub fn read_sheet(sheet: &[u8]) -> SheetRead
-    ensures { result ≡ sheet_read (read_sheet form sheet.now) }
+pub fn read_sheet(sheet: &[u8]) -> Result<SheetRead, Refusal>
+    ensures { told result ≡ sheet_read (read_sheet form sheet.now) }
 {
-    match viewing::view_sheet(sheet, 0) {
-        SheetViewed::Accepted(view) => {
-            let edition = view.edition;
-            let marks = view.lists;
-            SheetRead::Accepted {
-                edition: edition.byte,
-                offset: view.offset,
-                marks,
-            }
-        }
-        SheetViewed::Refused { number, place } => SheetRead::Refused { number, place },
-    }
+    let view = viewing::view_sheet(sheet, 0)?;
+    Ok(SheetRead {
+        edition: view.edition.byte,
+        offset: view.offset,
+        marks: view.lists,
+    })
 }
 
 // ---- editions that are written
@@ -64,213 +53,132 @@ fn back_of(edition: Edition) -> Edition
     if LEAST <= edition.byte {
         return edition;
     }
-    match viewing::edition_of(LEAST) {
-        EditionRead::Known(e) => e,
-        EditionRead::Unread {
-            number: _,
-            place: _,
-        } => edition,
-    }
+    viewing::edition_of(LEAST).unwrap_or(edition)
 }
 
 // The edition that writing is told.
-fn told_edition(byte: u8) -> EditionRead
-    ensures { edition_answer result ≡ told_edition form byte }
+fn told_edition(byte: u8) -> Result<Edition, Fault>
+    ensures { begun result ≡ told_edition form byte }
 {
     if byte < LEAST {
-        return EditionRead::Unread {
-            number: 33,
-            place: 0,
-        };
+        return Err(Fault::ValueBarred);
     }
     viewing::edition_of(byte)
 }
 
 // ---- changing
 
-// The sheet without its marks.
-pub fn empty_sheet(sheet: &[u8], out: &mut [u8]) -> Written
-    ensures value { result ≡ written_of (fitted (length out.old) (sheet_empty form sheet.now)) }
-    ensures out_after { out.new ≡ leaves (fitted (length out.old) (sheet_empty form sheet.now)) out.old }
+// A changed list of a sheet's marks, laid with the sheet's offset and the edition that it is written back as; `first` of the marks are log 0's.
+fn lay_back(
+    list: &NewList,
+    edition: Edition,
+    first: usize,
+    out: &mut [u8],
+) -> Result<usize, Refusal>
+    requires room { 11 ≤ length list.now.bytes.now }
+    requires few { (first ≤ new_count list.now.change list.now.lists) × (new_count list.now.change list.now.lists ≤ 8191) }
+    ensures { Wrote result (fitted (length out.old) (ok (new_bytes (back_of form edition) (number4 (take 4 (drop 7 list.now.bytes.now))) (new_at list.now.change list.now.lists list.now.bytes.now) (new_count list.now.change list.now.lists) first))) out.old out.new }
 {
-    let view = match viewing::view_sheet(sheet, 0) {
-        SheetViewed::Accepted(v) => v,
-        SheetViewed::Refused { number, place } => return Written::Refused { number, place },
-    };
-    let lists = view.lists;
-    let edition = back_of(view.edition);
-    let code = marks::place_in(&sheet[7..11]);
-    laying::lay_sheet(sheet, lists, Change::Clear, 0, 0, edition, code, out)
+    let code = marks::number_4(&list.bytes[7..11]);
+    laying::lay_sheet(list, first, back_of(edition), code, out)
 }
 
-fn mark_ok(m: Mark) -> bool
-    ensures { result ≡ ok_mark m }
+// The sheet without its marks.
+pub fn empty_sheet(sheet: &[u8], out: &mut [u8]) -> Result<usize, Refusal>
+    ensures value { told result ≡ written_of (fitted (length out.old) (sheet_empty form sheet.now)) }
+    ensures out_after { out.new ≡ leaves (fitted (length out.old) (sheet_empty form sheet.now)) out.old }
 {
-    if LAST_LOG < m.log {
-        return false;
-    }
-    if LAST_STATION < m.station {
-        return false;
-    }
-    true
+    let view = viewing::view_sheet(sheet, 0)?;
+    let list = NewList {
+        bytes: sheet,
+        lists: view.lists,
+        change: Change::Clear,
+    };
+    lay_back(&list, view.edition, 0, out)
 }
 
 // The sheet with a mark more, after those below it.
-pub fn add_mark(sheet: &[u8], mark: Mark, out: &mut [u8]) -> Written
-    ensures value { result ≡ written_of (fitted (length out.old) (sheet_add form mark sheet.now)) }
+pub fn add_mark(sheet: &[u8], mark: Mark, out: &mut [u8]) -> Result<usize, Refusal>
+    ensures value { told result ≡ written_of (fitted (length out.old) (sheet_add form mark sheet.now)) }
     ensures out_after { out.new ≡ leaves (fitted (length out.old) (sheet_add form mark sheet.now)) out.old }
 {
-    let key = marks::key_of(mark);
-    let view = match viewing::view_sheet(sheet, key) {
-        SheetViewed::Accepted(v) => v,
-        SheetViewed::Refused { number, place } => return Written::Refused { number, place },
-    };
-    if !mark_ok(mark) {
-        return Written::Refused {
-            number: 33,
-            place: 0,
-        };
+    let view = viewing::view_sheet(sheet, marks::key_of(mark.log, mark.place))?;
+    if !marks::mark_ok(mark) {
+        return Err(Fault::ValueBarred.at(0));
     }
-    let lists = view.lists;
-    let tally = view.tally;
-    if tally.found {
-        return Written::Refused {
-            number: 35,
-            place: 0,
-        };
+    if view.tally.found {
+        return Err(Fault::MarkTaken.at(0));
     }
-    let n = lists.count;
+    let n = view.lists.count;
     if LIMIT <= n {
-        return Written::Refused {
-            number: 34,
-            place: 0,
-        };
+        return Err(Fault::TooManyMarks.at(0));
     }
-    let k = tally.below;
-    let first = tally.first + marks::one_if(mark.log == 0);
-    let edition = back_of(view.edition);
-    let code = marks::place_in(&sheet[7..11]);
-    laying::lay_sheet(
-        sheet,
-        lists,
-        Change::Insert(k, mark),
-        n + 1,
-        first,
-        edition,
-        code,
-        out,
-    )
+    let list = NewList {
+        bytes: sheet,
+        lists: view.lists,
+        change: Change::Insert(view.tally.below, mark),
+    };
+    let first = view.tally.first + usize::from(mark.log == 0);
+    lay_back(&list, view.edition, first, out)
 }
 
 // The sheet without the mark at a log and place.
-pub fn remove_mark(sheet: &[u8], log: u8, place: u32, out: &mut [u8]) -> Written
-    ensures value { result ≡ written_of (fitted (length out.old) (sheet_remove form log place sheet.now)) }
+pub fn remove_mark(sheet: &[u8], log: u8, place: u32, out: &mut [u8]) -> Result<usize, Refusal>
+    ensures value { told result ≡ written_of (fitted (length out.old) (sheet_remove form log place sheet.now)) }
     ensures out_after { out.new ≡ leaves (fitted (length out.old) (sheet_remove form log place sheet.now)) out.old }
 {
-    let key = marks::key_of(Mark {
-        log,
-        place,
-        station: 0,
-        comment: 0,
-    });
-    let view = match viewing::view_sheet(sheet, key) {
-        SheetViewed::Accepted(v) => v,
-        SheetViewed::Refused { number, place } => return Written::Refused { number, place },
-    };
-    let lists = view.lists;
-    let tally = view.tally;
-    if !tally.found {
-        return Written::Refused {
-            number: 36,
-            place: 0,
-        };
+    let view = viewing::view_sheet(sheet, marks::key_of(log, place))?;
+    if !view.tally.found {
+        return Err(Fault::MarkNotThere.at(0));
     }
-    let n = lists.count;
-    let k = tally.below;
-    let first = tally.first - marks::one_if(log == 0);
-    let edition = back_of(view.edition);
-    let code = marks::place_in(&sheet[7..11]);
-    laying::lay_sheet(
-        sheet,
-        lists,
-        Change::Skip(k),
-        n - 1,
-        first,
-        edition,
-        code,
-        out,
-    )
+    let list = NewList {
+        bytes: sheet,
+        lists: view.lists,
+        change: Change::Skip(view.tally.below),
+    };
+    let first = view.tally.first - usize::from(log == 0);
+    lay_back(&list, view.edition, first, out)
 }
 
 // ---- writing
 
-#[derive(Drop)]
-pub enum Coded {
-    Code(u32),
-    Barred,
-}
-
-// A clock offset in four bytes, two's complement: from -46,080 to 46,080 (W-201). The magnitude of -n is n - 1.
-fn offset_code(offset: i64) -> Coded
-    ensures { coded_as result ≡ (need in_range offset or 33 then ok (offset_code offset)) }
+// A clock offset in four bytes, two's complement (W-201).
+fn offset_code(offset: i64) -> Result<u32, Fault>
+    ensures { begun result ≡ (need in_range offset or 33 then ok (offset_code offset)) }
 {
-    let m = numbers::magnitude(offset);
-    if offset < 0 {
-        if 46080 <= m {
-            return Coded::Barred;
-        }
-        return Coded::Code(4294967295 - (m as u32));
+    if !viewing::offset_ok(offset) {
+        return Err(Fault::ValueBarred);
     }
-    if 46080 < m {
-        return Coded::Barred;
-    }
-    Coded::Code(m as u32)
+    Ok((offset as i32).cast_unsigned())
 }
 
 // The sheet of a clock offset and of marks that are lent end to end, eight bytes each, as tag 3 has them.
-pub fn write_sheet(offset: i64, marks: &[u8], out: &mut [u8]) -> Written
-    ensures value { result ≡ written_of (fitted (length out.old) (write_marks form form.least offset marks.now)) }
+pub fn write_sheet(offset: i64, marks: &[u8], out: &mut [u8]) -> Result<usize, Refusal>
+    ensures value { told result ≡ written_of (fitted (length out.old) (write_marks form form.least offset marks.now)) }
     ensures out_after { out.new ≡ leaves (fitted (length out.old) (write_marks form form.least offset marks.now)) out.old }
 {
     let n = marks.len() / 8;
     if LIMIT < n {
-        return Written::Refused {
-            number: 34,
-            place: 0,
-        };
+        return Err(Fault::TooManyMarks.at(0));
     }
     if marks.len() % 8 != 0 {
-        return Written::Refused {
-            number: 33,
-            place: 0,
-        };
+        return Err(Fault::ValueBarred.at(0));
     }
     let tally = marks::pass_marks(marks, n, Shape::Whole, 0);
-    let first = tally.first;
     if tally.count < n {
-        return Written::Refused {
-            number: 33,
-            place: 0,
-        };
+        return Err(Fault::ValueBarred.at(0));
     }
-    let told = match told_edition(LEAST) {
-        EditionRead::Known(e) => e,
-        EditionRead::Unread { number, place } => return Written::Refused { number, place },
+    let edition = told_edition(LEAST)?;
+    let code = offset_code(offset)?;
+    let list = NewList {
+        bytes: marks,
+        lists: Lists {
+            split: false,
+            base: 0,
+            first: n,
+            count: n,
+        },
+        change: Change::Keep,
     };
-    let code = match offset_code(offset) {
-        Coded::Code(c) => c,
-        Coded::Barred => {
-            return Written::Refused {
-                number: 33,
-                place: 0,
-            };
-        }
-    };
-    let lists = Lists {
-        split: false,
-        base: 0,
-        first: n,
-        count: n,
-    };
-    laying::lay_sheet(marks, lists, Change::Keep, n, first, told, code, out)
+    laying::lay_sheet(&list, tally.first, edition, code, out)
 }
