@@ -26,14 +26,14 @@ returns-then-view c =
 
 pub returns-then-n-ge-LIMIT : goal.returns-then-n-ge-LIMIT
 returns-then-n-ge-LIMIT c =
-    let told = refused_by_lem 34 0 (Err c.at-then-n-ge-LIMIT.result) _ _ (told_at _ _ _ c.at-then-n-ge-LIMIT.ensures.is c.at-then-n-ge-LIMIT.ensures.place) (add_full _ _ _ (seen c.args.sheet.now _ _ (are_octets c.args.sheet.now c.type_inv.sheet) c.in_ok-view.ensures) c.args.mark c.key_of.ensures.0 (sym c.mark_ok.ensures ∙ c.if-not-mark_ok.false) c.if-view.false c.if-n-ge-LIMIT.true) in
+    let told = refused_by_lem 34 0 (Err c.at-then-n-ge-LIMIT.result) _ _ (told_at _ _ _ c.at-then-n-ge-LIMIT.ensures.is c.at-then-n-ge-LIMIT.ensures.place) (add_full _ _ _ (seen c.args.sheet.now _ _ (are_octets c.args.sheet.now c.type_inv.sheet) c.in_ok-view.ensures) c.args.mark c.key_of.ensures.0 (sym c.mark_ok.ensures ∙ c.if-not-mark_ok.false) c.if-view.false (omega (arith, c.if-n-ge-LIMIT.true))) in
     record { value = told.0; out_after = told.1 }
 
 pub overflow_add-first : goal.overflow_add-first
 overflow_add-first c = omega (arith, first_few _ _ _ (seen c.args.sheet.now _ _ (are_octets c.args.sheet.now c.type_inv.sheet) c.in_ok-view.ensures), c.from.ensures, bool_few (eqb c.args.mark.log 0), c.if-n-ge-LIMIT.false)
 
 pub invariant_of-list : goal.invariant_of-list
-invariant_of-list c = record { sound = below_fits _ _ _ (seen c.args.sheet.now _ _ (are_octets c.args.sheet.now c.type_inv.sheet) c.in_ok-view.ensures); held = (seen c.args.sheet.now _ _ (are_octets c.args.sheet.now c.type_inv.sheet) c.in_ok-view.ensures).held }
+invariant_of-list c = record { sound = omega (arith, below_fits _ _ _ (seen c.args.sheet.now _ _ (are_octets c.args.sheet.now c.type_inv.sheet) c.in_ok-view.ensures)); held = (seen c.args.sheet.now _ _ (are_octets c.args.sheet.now c.type_inv.sheet) c.in_ok-view.ensures).held }
 
 pub lay_back-requires-clause-room : goal.lay_back-requires-clause-room
 lay_back-requires-clause-room c = (seen c.args.sheet.now _ _ (are_octets c.args.sheet.now c.type_inv.sheet) c.in_ok-view.ensures).room
@@ -44,5 +44,5 @@ lay_back-requires-clause-few c =
 
 pub returns : goal.returns
 returns c =
-    let told = add_done _ _ _ (seen c.args.sheet.now _ _ (are_octets c.args.sheet.now c.type_inv.sheet) c.in_ok-view.ensures) c.args.mark c.key_of.ensures.0 c.args.out.now _ _ _ _ _ (sym c.mark_ok.ensures ∙ c.if-not-mark_ok.false) c.if-view.false c.if-n-ge-LIMIT.false refl refl c.from.ensures c.lay_back.ensures in
+    let told = add_done _ _ _ (seen c.args.sheet.now _ _ (are_octets c.args.sheet.now c.type_inv.sheet) c.in_ok-view.ensures) c.args.mark c.key_of.ensures.0 c.args.out.now _ _ _ _ _ (sym c.mark_ok.ensures ∙ c.if-not-mark_ok.false) c.if-view.false (omega (arith, c.if-n-ge-LIMIT.false)) refl refl c.from.ensures c.lay_back.ensures in
     record { value = told.0; out_after = told.1 }
