@@ -248,40 +248,27 @@ def fspec_octets():
             yield profile, place, printed[7 * place:7 * place + 7]
 
 
-def sums_name(profile, place):
-    return "OCTET_%d_OF_%03d" % (1 + place, PROFILES[profile].number)
-
-
 def bit_adds(bit, at):
     says = rows.cited(at).rstrip() if at.item else at.says
     return "// bit %d  FRN %-2d  %d  %s" % (bit, at.frn, reading.least_octets(at.item) if at.item else 0, says)
 
 
-def sums_table(profile, place, bits):
+def sums_row(profile, place, bits):
     """The sums of one octet by its value, after what each of its bits adds."""
     category = PROFILES[profile].number
-    out = ["// Category %03d, octet %d:" % (category, 1 + place)] + [bit_adds(8 - n, at) for n, at in enumerate(bits)]
     lines = []
     for value in range(256):
         named = [at.frn for n, at in enumerate(bits) if value >> (7 - n) & 1]
         lines.append((str(reading.least_length(category, place, value)), ("%02X  %s" % (value, " ".join(map(str, named)))).rstrip()))
-    return out + constant(sums_name(profile, place), "u8", lines)
+    front = ["// Octet %d:" % (1 + place)] + [bit_adds(8 - n, at) for n, at in enumerate(bits)] + ["["]
+    return ["    " + line for line in front] + aligned(lines, 8) + ["    ],"]
 
 
 def sums():
-    tables = [sums_table(*octet) for octet in fspec_octets()]
-    return tables[0] + [line for table in tables[1:] for line in [""] + table]
-
-
-def sums_arms():
-    return ["        0x%X_%X => sum_in(octet, %s, value)," % (profile, place, sums_name(profile, place))
-            for profile, place, _ in fspec_octets()]
-
-
-def sums_answers():
-    """That the table of each arm passes the test, and then that the answer is the callee's. The first arm's goal of the former has no number."""
-    numbers = [16 * profile + place for profile, place, _ in fspec_octets()]
-    unfolding = "tested least_length flags categories"
-    tests = [("sum_in-requires" + ("-in-%d" % number) * (n > 0), "in-%d" % number) for n, number in enumerate(numbers)]
-    return answers(unfolding, "exact_at _ c.ARM.is refl", tests) + [""] + answers(
-        unfolding, "search rules", [("returns-in-%d" % number, "") for number in numbers])
+    """A table to a category, and in it a row to an octet."""
+    out = []
+    for profile, category in enumerate(PROFILES):
+        octets = [octet for octet in fspec_octets() if octet[0] == profile]
+        out += ["", "pub static SUMS_OF_%03d: [[u8; 256]; %d] = [" % (category.number, len(octets))]
+        out += [line for octet in octets for line in sums_row(*octet)] + ["];"]
+    return out[1:]

@@ -40,7 +40,6 @@ PROFILES = "crates/tables/src/profiles.rt"
 MESSAGES = "crates/sets/src/messages.rt"
 MESSAGES_PROOF = "crates/sets/proofs/messages/row_of/Answers.antt"
 SUMS = "crates/lengths/src/sums.rt"
-SUMS_PROOF = "crates/lengths/proofs/sums/sum_at/Answers.antt"
 QUICK_ITEMS = "crates/quick_items/src/lib.rt"
 LENT = "crates/quick_records/src/lent.rt"
 LENT_SPECS = "crates/quick_records/specs/Record.antt"
@@ -67,9 +66,7 @@ REGIONS = [
     Region(PROFILES, "the columns of profiles", code.profiles),
     Region(MESSAGES, "the rows of message types", code.messages),
     Region(MESSAGES_PROOF, "an answer to an arm", code.message_arms),
-    Region(SUMS, "a table to an octet", code.sums),
-    Region(SUMS, "an arm to a table", code.sums_arms),
-    Region(SUMS_PROOF, "two answers to an arm", code.sums_answers),
+    Region(SUMS, "a table to a category, a row to an octet", code.sums),
     Region(QUICK_ITEMS, "steps", quick.steps),
     Region(LENT, "KINDS, ROWS", quick.lent_sizes),
     Region(LENT_SPECS, "kind_count, row_count", quick.lent_sizes_spec),

@@ -7,19 +7,28 @@ mod sums;
 ghost use Rattle.std.specs.Prelude.{◌≡◌};
 ghost use Rattle.rules.specs.Catalogue.{categories};
 ghost use Rattle.rules.specs.Entry.{least_length};
+ghost use Rattle.lengths.specs.Least.{Exact};
 
-use sums::{PLACES, sum_at};
-use tables::PROFILES;
+use sums::{SUMS_OF_017, SUMS_OF_018, SUMS_OF_061};
+
+// The sums of a profile's FSPEC, a row to an octet; none where there is no such profile.
+fn sums_of(profile: usize) -> &'static [[u8; 256]]
+    ensures { Exact profile result.now }
+{
+    match profile {
+        0 => &SUMS_OF_017,
+        1 => &SUMS_OF_018,
+        2 => &SUMS_OF_061,
+        _ => &[],
+    }
+}
 
 // Of the octet at a place of an FSPEC, counted from 0, of a profile; its FX bit adds nothing.
 pub fn least_length(profile: usize, place: usize, octet: u8) -> usize
     ensures { result ≡ least_length categories profile place octet }
 {
-    if PROFILES <= profile {
-        return 0;
+    match sums_of(profile).get(place) {
+        Some(sums) => numbers::octet(sums[numbers::octet(octet)]),
+        None => 0,
     }
-    if PLACES <= place {
-        return 0;
-    }
-    numbers::octet(sum_at(profile * PLACES + place, octet))
 }
