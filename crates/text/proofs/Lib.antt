@@ -1,5 +1,4 @@
 -- The laws that the proofs of this crate and of its callers cite.
-pub mod ListLaws
 pub mod PageLaws
 pub mod NumberLaws
 pub mod OctetLaws

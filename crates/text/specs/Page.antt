@@ -1,13 +1,6 @@
 -- Text put on a page, which is a buffer with the place where the next character goes. What has no room is left out. Assumes nothing.
 use Rattle.std.specs.Prelude.{ℕ, ◌+◌, cond, List, [], ◌∷◌, ltb, length, set}
 use Rattle.text.specs.declared.page.Page.{Page as Filled}
-use Prim.Native.Char.{code}
-use Prim.Native.String.{String, [] as []ˢ, ◌∷◌ as ◌∷ˢ◌}
-
--- the characters of a text, as their codes
-abbrev pub codes : String → List ℕ
-codes []ˢ = []
-codes (c ∷ˢ s) = code c ∷ codes s
 
 pub record Page (A : Type 0) : Type 0 where
   pub held : List A
