@@ -1,29 +1,24 @@
--- What holds of a turn: what came is in the buffer; which turn it is, by what came; what is still wanted is in the buffer. Assumes nothing.
-use Prim.Native.Nat.{ℕ, ◌-◌, ◌≤◌}
-use mathlib.Core.Path.{◌≡◌, refl, sym, ap, ap₂, ◌∙◌, subst, subst⁻¹}
-use mathlib.Core.Bool.{true, false}
+-- What holds of a turn: what came is in the buffer; which turn it is, by what came. Assumes nothing.
+use Prim.Native.Nat.{ℕ, ◌≤◌}
+use mathlib.Core.Path.{◌≡◌, refl, sym, ap, ap₂, ◌∙◌, subst}
+use mathlib.Core.Bool.{Bool, true, false}
 use mathlib.Core.List.{List}
 use lib.ListN.{take}
-use Rattle.rules.specs.Answer.{Answer}
+use Rattle.std.proofs.Common.{Result, Ok, Err}
+use Rattle.std.specs.Result.{is_err}
+use Rattle.rules.specs.Answer.{Answer, ok, refused, ◌>>=◌}
 use Rattle.rules.specs.Entry.{Counts}
 use Rattle.rules.proofs.AnswerLaws.{if_true, if_false}
+use Rattle.rules.specs.declared.faults.Refusal.{Refusal}
 use Rattle.recordings.specs.Feed.{SoFar, fed, finished}
-use Rattle.recordings.specs.declared.RecordingState.{RecordingState}
+use Rattle.recordings.specs.Answers.{counts_of}
+use Rattle.recordings.specs.declared.Counts as code
 use Rattle.input.specs.declared.Filled.{Filled}
-use Rattle.input.specs.declared.Filled.TheVariants.{More, End, Failed}
-use Rattle.input.specs.Filled.{Fills}
-use Rattle.text.proofs.ListLaws.{front}
+use Rattle.input.specs.declared.Filled.TheVariants.{More, End}
 use Rattle.asterix_check.specs.Whole.{whole_in}
-use Rattle.asterix_check.specs.declared.Turn.{Turn}
-use Rattle.asterix_check.specs.declared.Turn.TheVariants as turn
-use Rattle.asterix_check.specs.Turn.{is_refused, on, verdict, failed, fed_whole, turned, Came, Wanted}
+use Rattle.asterix_check.specs.Turn.{is_refused, on, verdict, fed_whole, turned, Came}
 
 -- ---- what came
-
-pub came : (f : Filled) (kept size n : ℕ) → Fills f kept size → n ≡ size → Came f n
-came (More k) kept size n h e = subst⁻¹ (λ m. k ≤ m) e h.1
-came (End k) kept size n h e = subst⁻¹ (λ m. k ≤ m) e h.1
-came Failed kept size n h e = tt
 
 pub end_fits : (f : Filled) (n size : ℕ) → Came f size → f ≡ End n → n ≤ size
 end_fits f n size h e = subst (λ z. Came z size) e h
@@ -33,22 +28,15 @@ more_fits f n size h e = subst (λ z. Came z size) e h
 
 -- ---- which turn it is
 
-pub turn_failed : (s : Answer SoFar) (f : Filled) (bs : List ℕ) → f ≡ Failed → failed ≡ turned s f bs
-unfolding turned
-turn_failed s f bs e = sym (ap (λ z. turned s z bs) e)
-
-pub turn_end : (s s₁ : Answer SoFar) (f : Filled) (bs : List ℕ) (n : ℕ) (v : Answer Counts) → f ≡ End n → s₁ ≡ fed s (take (n - 0) bs) → v ≡ finished s₁
+pub turn_end : (s s₁ : Answer SoFar) (f : Filled) (bs : List ℕ) (n : ℕ) (v : Answer Counts) → f ≡ End n → s₁ ≡ fed s (take n bs) → v ≡ finished s₁
     → verdict v ≡ turned s f bs
 unfolding turned
-turn_end s s₁ f bs n v e g h = ap verdict (h ∙ ap finished (g ∙ ap (fed s) (front bs n))) ∙ sym (ap (λ z. turned s z bs) e)
+turn_end s s₁ f bs n v e g h = ap verdict (h ∙ ap finished g) ∙ sym (ap (λ z. turned s z bs) e)
 
-module _ (s s₁ : Answer SoFar) (f : Filled) (bs : List ℕ) (n k : ℕ) (e : f ≡ More n) (w : k ≡ whole_in (take (n - 0) bs)) (g : s₁ ≡ fed s (take (k - 0) bs)) where
+module _ (s s₁ : Answer SoFar) (f : Filled) (bs : List ℕ) (n k : ℕ) (e : f ≡ More n) (w : k ≡ whole_in (take n bs)) (g : s₁ ≡ fed s (take k bs)) where
   more : fed_whole s₁ k n ≡ turned s f bs
   unfolding turned
-  more =
-      let w₁ : k ≡ whole_in (take n bs) = w ∙ ap whole_in (front bs n) in
-      let g₁ : s₁ ≡ fed s (take (whole_in (take n bs)) bs) = g ∙ ap (fed s) (front bs k ∙ ap (λ m. take m bs) w₁) in
-      ap₂ (λ x m. fed_whole x m n) g₁ w₁ ∙ sym (ap (λ z. turned s z bs) e)
+  more = ap₂ (λ x m. fed_whole x m n) (g ∙ ap (λ m. fed s (take m bs)) w) w ∙ sym (ap (λ z. turned s z bs) e)
 
   pub turn_stop : (v : Answer Counts) → is_refused s₁ ≡ true → v ≡ finished s₁ → verdict v ≡ turned s f bs
   unfolding fed_whole
@@ -58,7 +46,15 @@ module _ (s s₁ : Answer SoFar) (f : Filled) (bs : List ℕ) (n k : ℕ) (e : f
   unfolding fed_whole
   turn_on t = sym (if_false (verdict (finished s₁)) t refl) ∙ more
 
--- ---- what is still wanted
+-- whether the first fault has been found is seen from what the whole would be
+finish_stops : (s : Answer SoFar) → is_refused (finished s) ≡ is_refused s
+unfolding finished ◌>>=◌
+finish_stops (ok a) = refl
+finish_stops (refused n p) = refl
 
-pub wanted_on : (t : Turn) (s : RecordingState) (a b size n : ℕ) → Wanted t size → size ≡ n → t ≡ turn.On s a b → (a ≤ b) × (b ≤ n)
-wanted_on t s a b size n h k e = subst (λ m. (a ≤ b) × (b ≤ m)) k (subst (λ z. Wanted z size) e h)
+err_refused : (r : Result code.Counts Refusal) → is_err r ≡ is_refused (counts_of r)
+err_refused (Ok a) = refl
+err_refused (Err e) = refl
+
+pub stopped : (r : Result code.Counts Refusal) (s : Answer SoFar) (b : Bool) → counts_of r ≡ finished s → b ≡ is_err r → is_refused s ≡ b
+stopped r s b h e = sym (e ∙ err_refused r ∙ ap is_refused h ∙ finish_stops s)

@@ -82,27 +82,32 @@ whole_within bs = within (length bs) bs
 
 -- ---- the loop: the blocks cut off so far, and those of what is left
 
-pub record Cutting (all rest : List ℕ) (at n : ℕ) : Type 0 where
-  pub place : at + length rest ≡ length all
-  pub next : n ≡ block_length rest
-  pub same_whole : at + whole_in rest ≡ whole_in all
+pub record Cutting (all rest : List ℕ) : Type 0 where
+  pub place : length rest ≤ length all
+  pub same_whole : whole_in rest + length all ≡ whole_in all + length rest
 
-pub cut_start : (bs : List ℕ) (n : ℕ) → n ≡ block_length bs → Cutting bs bs 0 n
-cut_start bs n e = record { place = omega arith; next = e; same_whole = omega arith }
+pub cut_again : (all bs rest : List ℕ) (n : ℕ) → Cutting all bs → n ≡ block_length bs → n ≤ length bs → rest ≡ drop n bs → Cutting all rest
+cut_again all bs rest n c e h r =
+    let l : length rest ≡ length bs - n = ap length r ∙ length-drop n bs in
+    let w : whole_in bs ≡ block_length bs + whole_in rest =
+    whole_more bs (omega arith) ∙ ap (λ z. block_length bs + whole_in z) (ap (λ k. drop k bs) (sym e) ∙ sym r) in
+    record { place = omega (arith, c.place); same_whole = omega (arith, c.same_whole) }
 
-pub cut_again : (all bs rest : List ℕ) (at n m : ℕ) → Cutting all bs at n → n ≤ length bs → rest ≡ drop n bs → m ≡ block_length rest → Cutting all rest (at + n) m
-cut_again all bs rest at n m c h e f =
-    let l : length rest ≡ length bs - n = ap length e ∙ length-drop n bs in
-    let r : rest ≡ drop (block_length bs) bs = e ∙ ap (λ k. drop k bs) c.next in
-    let w : whole_in bs ≡ block_length bs + whole_in rest = whole_more bs (omega (arith, c.next)) ∙ ap (λ z. block_length bs + whole_in z) (sym r) in
-    record { place = omega (arith, c.place); next = f; same_whole = omega (arith, c.next, c.same_whole) }
+pub cut_less : (bs rest : List ℕ) (n : ℕ) → n ≡ block_length bs → n ≤ length bs → rest ≡ drop n bs → length rest < length bs
+cut_less bs rest n e h r = let l : length rest ≡ length bs - n = ap length r ∙ length-drop n bs in omega (arith, three bs)
 
-pub cut_less : (all bs rest : List ℕ) (at n : ℕ) → Cutting all bs at n → n ≤ length bs → rest ≡ drop n bs → length rest < length bs
-cut_less all bs rest at n c h e = let l : length rest ≡ length bs - n = ap length e ∙ length-drop n bs in omega (arith, c.next, three bs)
-
-pub cut_end : (all bs : List ℕ) (at n : ℕ) → Cutting all bs at n → length bs < n → at ≡ whole_in all
-cut_end all bs at n c h = let z : whole_in bs ≡ 0 = whole_end bs (omega (arith, c.next)) in omega (arith, c.same_whole)
+pub cut_end : (all bs : List ℕ) (n : ℕ) → Cutting all bs → n ≡ block_length bs → (length bs < n) ⊎ (length bs < length bs)
+    → length all - length bs ≡ whole_in all
+cut_end all bs n c e h =
+    ⊎_elim
+    (λ (l : length bs < n). let z : whole_in bs ≡ 0 = whole_end bs (omega arith) in omega (arith, c.same_whole))
+    (λ (l : length bs < length bs). absurd (omega arith))
+    h
 
 -- the whole blocks of a part that ends at a place end there at the latest
 pub whole_few : (k n : ℕ) (bs : List ℕ) → k ≡ whole_in (take n bs) → k ≤ n
 whole_few k n bs e = let m : length (take n bs) ≡ min n (length bs) = length-take n bs in omega (arith, whole_within (take n bs))
+
+-- and a front as long has their length
+pub whole_front : (k n : ℕ) (bs : List ℕ) → k ≤ n → n ≤ length bs → k ≡ length (take k bs)
+whole_front k n bs h l = let m : length (take k bs) ≡ min k (length bs) = length-take k bs in omega arith

@@ -5,4 +5,4 @@ use lib.ListN.{length}
 use Rattle.asterix_check.proofs.main.Given as goal
 
 abbrev pub invariant-loop : goal.invariant-loop
-invariant-loop l = (length l.buffer ≡ 131072) × (l.from ≤ l.to) × (l.to ≤ 131072)
+invariant-loop l = (length l.buffer ≡ 131072) × (l.pending.from ≤ l.pending.to) × (l.pending.to ≤ 131072)

@@ -1,25 +1,17 @@
--- `asterix_check::whole_blocks` meets its contract. The loop's invariant: what was cut off, and the whole blocks of what is left, are those of all.
--- The measure is the length of what is left. Assumes nothing.
-use native.Mathlib.Omega.{arith}
-use Rattle.asterix_check.proofs.WholeLaws.{cut_start, cut_again, cut_less, cut_end}
+-- `whole_blocks` meets its contract. The loop's invariant: the whole blocks of what is left, and what was cut off, are those of all. Assumes nothing.
+use mathlib.Core.Path.{◌∙◌}
 use Rattle.rules.proofs.AnswerLaws.{to_end}
+use Rattle.asterix_check.proofs.WholeLaws.{cut_again, cut_less, cut_end}
 use Rattle.asterix_check.proofs.whole_blocks.Goals as goal
 
-pub loop-n-init : goal.loop-n-init
-loop-n-init c = cut_start _ _ c.block_length-n.ensures
+pub loop-next-smaller : goal.loop-next-smaller
+loop-next-smaller c =
+    cut_less c.loop-next.rest.now _ _ c.block_length.ensures c.in-Some.ensures.lookup.0.0 (c.in-Some.ensures.lookup.0.2 ∙ to_end c.loop-next.rest.now _)
 
-pub overflow_add-at : goal.overflow_add-at
-overflow_add-at c = omega (arith, c.loop-n.invariant.place)
-
-pub loop-n-smaller : goal.loop-n-smaller
-loop-n-smaller c =
-    cut_less _ c.loop-n.rest.now _ _ _ c.loop-n.invariant c.loop-n-test.true
-    (to_end c.loop-n.rest.now c.loop-n.n)
-
-pub loop-n-preserved : goal.loop-n-preserved
-loop-n-preserved c =
-    cut_again _ c.loop-n.rest.now _ _ _ _ c.loop-n.invariant c.loop-n-test.true
-    (to_end c.loop-n.rest.now c.loop-n.n) c.block_length-n-in-loop-n.ensures
+pub loop-next-preserved : goal.loop-next-preserved
+loop-next-preserved c =
+    cut_again _ c.loop-next.rest.now _ _ c.loop-next.invariant c.block_length.ensures c.in-Some.ensures.lookup.0.0
+    (c.in-Some.ensures.lookup.0.2 ∙ to_end c.loop-next.rest.now _)
 
 pub returns : goal.returns
-returns c = cut_end _ _ _ _ c.loop-n.invariant c.loop-n-test.false
+returns c = cut_end _ _ _ c.loop-next.invariant c.block_length.ensures c.in_default.ensures.lookup.0

@@ -3,8 +3,8 @@ use lib.ListN.{length}
 use Rattle.asterix_check.proofs.WholeLaws.{Cutting}
 use Rattle.asterix_check.proofs.whole_blocks.Given as goal
 
-abbrev pub invariant-loop-n : goal.invariant-loop-n
-invariant-loop-n l = Cutting l.part l.rest l.at l.n
+abbrev pub invariant-loop-next : goal.invariant-loop-next
+invariant-loop-next l = Cutting l.part l.rest
 
-abbrev pub decreases-loop-n : goal.decreases-loop-n
-decreases-loop-n l = length l.rest
+abbrev pub decreases-loop-next : goal.decreases-loop-next
+decreases-loop-next l = length l.rest
