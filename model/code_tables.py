@@ -7,8 +7,6 @@ import rows
 from rows import FRNS, PROFILES
 from tables import SIGNED, SPARE
 
-PLACES_CUT = FRNS * (len(PROFILES) - 1)  # where the places of the last category begin
-
 KINDS = {"fixed": 1, "list": 2, "led": 3, "extended": 4, "compound": 5}  # how parts lie, in `LAYOUTS`
 
 
@@ -23,14 +21,9 @@ def constant(name, kind, table):
     return ["const %s: [%s; %d] = [" % (name, kind, len(table))] + aligned(table) + ["];"]
 
 
-def constants(name, kind, table, cut):
-    """A table in two, each with its size: so many rows, and the rest."""
-    return ["const %s_CUT: usize = %d;" % (name, cut), ""] + constant(name, kind, table[:cut]) + [""] + constant("LAST_" + name, kind, table[cut:])
-
-
-def is_last(place):
-    """Whether it is of the last category."""
-    return place.profile == len(PROFILES) - 1
+def static(name, kind, table):
+    """The same, read where it stands."""
+    return ["static" + line[len("const"):] if n == 0 else line for n, line in enumerate(constant(name, kind, table))]
 
 
 # ---- crates/tables/src/tables.rt
@@ -42,9 +35,9 @@ def sizes():
 def fields():
     range_at = {span: n for n, span in enumerate(rows.ranges())}
     holds = {SIGNED: 1, SPARE: 2}
-    return constants("FIELDS", "u16", [
+    return static("FIELDS", "u16", [
         ("%d_%d_%02d" % (field.width, holds.get(field.kind, 0), range_at[rows.range_of(field)]), rows.named(group, field))
-        for group, field in rows.fields()], sum(not is_last(group.place) for group, _ in rows.fields()))
+        for group, field in rows.fields()])
 
 
 def ranged(group, field):
@@ -57,12 +50,8 @@ def ranged(group, field):
     return "%d bits" % field.width if rows.is_free(field) else rows.named(group, field)
 
 
-def least():
-    return constant("LEAST", "i64", [(str(low), ranged(*first)) for (low, _), first in rows.ranges().items()])
-
-
-def greatest():
-    return constant("GREATEST", "i64", [(str(high), ranged(*first)) for (_, high), first in rows.ranges().items()])
+def ranges():
+    return static("RANGES", "Range", [("Range(%d, %d)" % span, ranged(*first)) for span, first in rows.ranges().items()])
 
 
 def group_title(group):
@@ -77,7 +66,7 @@ def groups():
         word = "%d_%03d_%02d_%02d_%d" % (group.place.item.octets, first, len(group.fields), values, not rows.rules_of(group))
         out.append((word, group_title(group)))
         first += len(group.fields)
-    return constants("GROUPS", "u32", out, sum(not is_last(group.place) for group in rows.groups()))
+    return static("GROUPS", "u32", out)
 
 
 def layouts():
@@ -91,7 +80,7 @@ def layouts():
             columns = (item.least, item.greatest, group, len(item.parts))
         out.append(("%d_%d_%03d_%03d_%d" % (KINDS[item.form], *columns), rows.titled(place)))
         group, primary = group + len(item.parts), primary + len(item.primaries)
-    return constants("LAYOUTS", "u32", out, 1 + sum(not is_last(place) for place in rows.layouts()))
+    return static("LAYOUTS", "u32", out)
 
 
 def layout_places():
@@ -101,7 +90,8 @@ def layout_places():
 
 def places():
     at = layout_places()
-    return constants("PLACES", "u8", [(str(at.get((p.profile, p.frn, 0), 0)), rows.at_frn(p)) for p in rows.places()], PLACES_CUT)
+    return static("PLACES", "Place", [
+        ("Place(%d, %d)" % (at.get((p.profile, p.frn, 0), 0), int(p.item.reference) if p.item else 0), rows.at_frn(p)) for p in rows.places()])
 
 
 def primary_octets():
@@ -114,7 +104,7 @@ def primaries():
     for place, n, row in primary_octets():
         bits = sum(128 >> bit for bit, some in enumerate(row) if some)
         out.append(("0x%02X" % bits, "%s  octet %d: %s" % (rows.cited(place), n, ", ".join("#%d" % some.number for some in row if some))))
-    return constant("PRIMARIES", "u8", out)
+    return static("PRIMARIES", "u8", out)
 
 
 def subfields():
@@ -123,33 +113,19 @@ def subfields():
         for bit, some in enumerate(row):
             says = rows.numbered(some) + some.title if some else "none"
             out.append((str(at[place.profile, place.frn, some.number] if some else 0), "%s  octet %d, bit %d  %s" % (rows.cited(place), n, 8 - bit, says)))
-    return constant("SUBFIELDS", "u8", out)
-
-
-def references():
-    return constants("REFERENCES", "u16", [(str(int(p.item.reference)) if p.item else "0", rows.at_frn(p)) for p in rows.places()], PLACES_CUT)
+    return static("SUBFIELDS", "u8", out)
 
 
 # ---- crates/tables/src/field_rules.rt
 
-def rules(name, kind, word):
-    return constant(name, kind, [(word(rule), rows.named(group, rule.field)) for group in rows.groups() for rule in rows.rules_of(group)])
-
-
 def field_rules():
-    return rules("RULES", "u16", lambda rule: "%d_%02d" % (rule.shift, rule.width))
-
-
-def added():
-    return rules("ADDED", "u32", lambda rule: str(rule.added))
-
-
-def limits():
-    return rules("LIMITS", "u32", lambda rule: str(rule.limit))
+    return static("RULES", "RuleRow", [
+        ("RuleRow(%d, %d, %d, %d)" % (rule.shift, rule.width, rule.added, rule.limit), rows.named(group, rule.field))
+        for group in rows.groups() for rule in rows.rules_of(group)])
 
 
 def group_sizes():
-    return constant("SIZES", "u8", [(str(group.place.item.octets), group_title(group)) for group in rows.groups()])
+    return static("SIZES", "u8", [(str(group.place.item.octets), group_title(group)) for group in rows.groups()])
 
 
 def first_rules():
@@ -157,7 +133,7 @@ def first_rules():
     for group in rows.groups():
         out.append((str(first), group_title(group)))
         first += len(rows.rules_of(group))
-    return constant("FIRST_RULES", "u8", out + [(str(first), "the end")])
+    return static("FIRST_RULES", "u8", out + [(str(first), "the end")])
 
 
 def single():
@@ -168,17 +144,10 @@ def single():
         if place.item and place.item.form == "fixed":
             word = place.item.octets if rows.all_free(place) else 8 + group_at[place.profile, place.frn]
         out.append((str(word), rows.at_frn(place)))
-    return constant("SINGLE", "u8", out)
+    return static("SINGLE", "u8", out)
 
 
 # ---- crates/tables/src/profiles.rt and specs/Tables.antt
-
-def short(name, kind, words):
-    """A table of few words, as `rt fmt` has it: in one line where they take 60 columns at most, else each in its own."""
-    text = ", ".join(words)
-    head = "const %s: [%s; %d] = [" % (name, kind, len(words))
-    return [head + text + "];"] if len(text) <= 60 else [head] + ["    %s," % word for word in words] + ["];"]
-
 
 def usable(profile):
     return rows.quads(rows.bits(place.frn for place in rows.places_of(profile) if place.item))
@@ -190,16 +159,13 @@ def untimed(category):
 
 
 def profiles():
-    each = range(len(PROFILES))
-    columns = [
-        short("CATS", "u8", [str(category.number) for category in PROFILES]),
-        short("OCTETS", "u8", [str(category.octets) for category in PROFILES]),
-        short("USABLE", "u64", [usable(profile) for profile in each]),
-        short("KINDS", "u8", [str(rows.type_frn(profile)) for profile in each]),
-        short("TIMES", "u8", [str(rows.time_frn(profile)) for profile in each]),
-        short("UNTIMED", "u8", [untimed(category) for category in PROFILES]),
-    ]
-    return columns[0] + [line for some in columns[1:] for line in [""] + some]
+    out = ["static ROWS: [ProfileRow; %d] = [" % len(PROFILES)]
+    for profile, category in enumerate(PROFILES):
+        columns = {
+            "cat": category.number, "octets": category.octets, "usable": usable(profile),
+            "kind": rows.type_frn(profile), "time": rows.time_frn(profile), "untimed": untimed(category)}
+        out += ["    ProfileRow {"] + ["        %s: %s," % column for column in columns.items()] + ["    },"]
+    return out + ["];"]
 
 
 def number_spec(name, number):

@@ -1,6 +1,6 @@
--- The table of profiles: what a column has at an index is what the category with that index has; and the index of a category, by its CAT.
+-- The table of profiles: the row at an index is that of the category with that index; and the index of a category, by its CAT.
 --
--- In order: the category with an index; the columns; the rows; the search for a CAT; the category that is found. Assumes nothing.
+-- In order: the category with an index; the rows; the search for a CAT; the category that is found. Assumes nothing.
 use Prim.Native.Nat.compare
 use Prim.Native.Nat.{ℕ, zero, suc, ◌+◌, ◌≤◌, ◌<◌}
 use mathlib.Core.Path.{◌≡◌, refl, sym, ap, ◌∙◌, subst}
@@ -22,8 +22,7 @@ use Rattle.rules.proofs.AnswerLaws.{both_left, both_right, if_true, if_false, no
 use Rattle.rules.proofs.Tables.{every_category}
 use Rattle.tables.specs.Tables.{profile_count}
 use Rattle.tables.specs.Places.{frn_as}
-use Rattle.tables.specs.declared.profiles.ProfileRow.{ProfileRow}
-use Rattle.tables.specs.Profiles.{category_in, category_at, profile_in, bits_of, octets_in, usable_in, frn_in, untimed_as, column, profile_row_at}
+use Rattle.tables.specs.Profiles.{category_in, category_at, profile_in, bits_of, octets_in, usable_in, frn_in, untimed_as, row_of, no_row, profile_row_at}
 
 -- ---- the category with an index
 
@@ -56,38 +55,34 @@ pub category_none : (i : ℕ) → profile_count ≤ i → category_at i ≡ cate
 unfolding category_at categories
 category_none i h = category_past categories i h
 
--- ---- the columns
-
-column_in : (f : Category → ℕ) (cs : List Category) (i : ℕ) → get_or (map f cs) i (f (category_in [] 0)) ≡ f (category_in cs i)
-column_in f [] i = refl
-column_in f (c ∷ cs) zero = refl
-column_in f (c ∷ cs) (suc i) = column_in f cs i
-
--- what a column has at any index
-column_at : (f : Category → ℕ) (i : ℕ) → get_or (column f) i (f (category_in [] 0)) ≡ f (category_at i)
-unfolding category_at
-column_at f i = column_in f categories i
-
-column_past : (f : Category → ℕ) (i : ℕ) → length categories ≤ i → get_or (column f) i 0 ≡ 0
-column_past f i h = get_or-eq_default (column f) 0 (rw (length-map categories f) h)
-
 -- ---- the rows
 
+row_in : (cs : List Category) (i : ℕ) → get_or (map row_of cs) i (row_of (category_in [] 0)) ≡ row_of (category_in cs i)
+row_in [] i = refl
+row_in (c ∷ cs) zero = refl
+row_in (c ∷ cs) (suc i) = row_in cs i
+
+-- no category's row is empty
+row_empty : row_of (category_in [] 0) ≡ no_row
+unfolding bits_of number frn_as
+row_empty = refl
+
+-- what the table has at any index
+pub row_is : (i : ℕ) → profile_row_at i ≡ row_of (category_at i)
+unfolding profile_row_at category_at
+row_is i = ap (get_or (map row_of categories) i) (sym row_empty) ∙ row_in categories i
+
 pub row_octets_lem : (i : ℕ) → (profile_row_at i).octets ≡ octets_in (category_at i)
-unfolding profile_row_at
-row_octets_lem = column_at octets_in
+row_octets_lem i = ap (λ r. r.octets) (row_is i)
 
 pub row_usable : (i : ℕ) → (profile_row_at i).usable ≡ usable_in (category_at i)
-unfolding profile_row_at bits_of number
-row_usable = column_at usable_in
+row_usable i = ap (λ r. r.usable) (row_is i)
 
 pub row_kind : (i : ℕ) → (profile_row_at i).kind ≡ frn_in 0 (category_at i)
-unfolding profile_row_at frn_as
-row_kind = column_at (frn_in 0)
+row_kind i = ap (λ r. r.kind) (row_is i)
 
 pub row_time : (i : ℕ) → (profile_row_at i).time ≡ frn_in (category_at i).time (category_at i)
-unfolding profile_row_at frn_as
-row_time = column_at (λ c. frn_in c.time c)
+row_time i = ap (λ r. r.time) (row_is i)
 
 -- at most one message type of a category is untimed
 abbrev few_untimed : List ℕ → Bool
@@ -109,27 +104,24 @@ unfolding categories
 tables_untimed = refl
 
 pub row_untimed : (i k : ℕ) → has k (category_at i).untimed ≡ eqb (suc k) (profile_row_at i).untimed
-unfolding profile_row_at
 row_untimed i k =
     untimed_one (category_at i).untimed k (category_test (λ c. few_untimed c.untimed) tables_untimed refl i)
-    ∙ ap (eqb (suc k)) (sym (column_at (λ c. untimed_as c.untimed) i))
-
-abbrev pub row_none : ProfileRow
-row_none = record { cat = 0; octets = 0; usable = 0; kind = 0; time = 0; untimed = 0 }
+    ∙ ap (λ r. eqb (suc k) r.untimed) (sym (row_is i))
 
 -- an index past the last
-pub row_past : (i : ℕ) → length categories ≤ i → row_none ≡ profile_row_at i
+pub row_past : (i : ℕ) → length categories ≤ i → no_row ≡ profile_row_at i
 unfolding profile_row_at
-row_past i h =
-    rw (
-      column_past (λ c. c.cat) i h,
-      column_past octets_in i h,
-      column_past usable_in i h,
-      column_past (frn_in 0) i h,
-      column_past (λ c. frn_in c.time c) i h,
-      column_past (λ c. untimed_as c.untimed) i h,
-    )
-    refl
+row_past i h = sym (get_or-eq_default (map row_of categories) no_row (rw (length-map categories row_of) h))
+
+-- its CAT
+pub row_cat : (i : ℕ) → (profile_row_at i).cat ≡ get_or (map (λ c. c.cat) categories) i 0
+unfolding profile_row_at
+row_cat i = go categories i
+  where
+    go : (cs : List Category) (i : ℕ) → (get_or (map row_of cs) i no_row).cat ≡ get_or (map (λ c. c.cat) cs) i 0
+    go [] i = refl
+    go (c ∷ cs) zero = refl
+    go (c ∷ cs) (suc i) = go cs i
 
 -- ---- the search for a CAT: from an index on it says what the whole search says
 

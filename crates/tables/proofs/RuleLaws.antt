@@ -1,7 +1,7 @@
 -- What holds of the tables of rules, by computed tests over each whole table: their columns are the rules of the fields, group after group.
 --
 -- In order: the tables; tests; a turn of the loop over rules; the groups of the tables. Assumes nothing.
-use Prim.Native.Nat.{ℕ, zero, suc, ◌+◌, ◌*◌, ◌/◌, ◌%◌, ◌<◌, ◌≤◌, ◌^◌}
+use Prim.Native.Nat.{ℕ, zero, suc, ◌+◌, ◌/◌, ◌%◌, ◌<◌, ◌≤◌, ◌^◌}
 use mathlib.Core.Path.{◌≡◌, refl, sym, ap, ◌∙◌, subst}
 use mathlib.Core.Bool.{Bool, true, false, ◌&&◌}
 use mathlib.Core.List.{List, [], ◌∷◌, map}
@@ -16,8 +16,8 @@ use borrow.Author.Tests.{leb-true, ltb-true}
 use Rattle.rules.specs.Field.{Field, spare, value, unsigned, signed, half}
 use Rattle.rules.specs.Catalogue.{categories}
 use Rattle.tables.specs.Tables.{group_count, fields, groups, layouts, group_rows, no_group_row, group_at}
-use Rattle.tables.specs.FieldRules.{rule_count, Rule, rules_of, obeys, all_obeyed, rules, first_rule, rule_at, rule_words, added_to, limits, sizes}
-use Rattle.tables.proofs.TableLaws.{in_row, each, every, fields_at, get_or-map_in}
+use Rattle.tables.specs.FieldRules.{rule_count, Rule, rules_of, obeys, all_obeyed, rules, first_rule, rule_at, rule_row, rule_rows, sizes}
+use Rattle.tables.proofs.TableLaws.{in_row, each, every, fields_at}
 
 -- ---- the tables
 
@@ -32,53 +32,35 @@ rules_long = refl
 no_rule : Rule
 no_rule = record { shift = 0; width = 0; added = 0; limit = 0 }
 
--- a rule's columns, and that they are small
-pub record Columns (i : ℕ) : Type 0 where
-  pub shift : get_or rule_words i 0 / 100 ≡ (rule_at i).shift
-  pub width : get_or rule_words i 0 % 100 ≡ (rule_at i).width
-  pub added : get_or added_to i 0 ≡ (rule_at i).added
-  pub limit : get_or limits i 0 ≡ (rule_at i).limit
-  pub shift_few : (rule_at i).shift < 64
-  pub width_few : (rule_at i).width < 64
-  pub added_small : (rule_at i).added < 2 ^ 32
+pub rule_row_lem : (i : ℕ) → get_or rule_rows i (0, 0, 0, 0) ≡ rule_row (rule_at i)
+unfolding rule_rows rule_at no_rule
+rule_row_lem i = get_or-map rule_row rules i no_rule
 
-pub columns : (i : ℕ) → i < rule_count → Columns i
-unfolding rule_words added_to limits rule_at rules groups layouts categories no_rule
-columns i h =
-    let word : ℕ → ℕ → ℕ = λ s w. s * 100 + w in
+-- a rule's columns are small
+pub record Small (r : Rule) : Type 0 where
+  pub shift : r.shift < 64
+  pub width : r.width < 64
+  pub added : r.added < 2 ^ 32
+
+pub small : (i : ℕ) → i < rule_count → Small (rule_at i)
+unfolding rule_at rules groups layouts categories no_rule
+small i h =
     record {
-      shift = ap (λ x. x / 100) (get_or-map_in (λ r. r.shift * 100 + r.width) rules i no_rule 0 h) ∙ in_row (λ r. (r.shift * 100 + r.width) / 100) (λ r. r.shift) rules i no_rule h refl;
-      width = ap (λ x. x % 100) (get_or-map_in (λ r. r.shift * 100 + r.width) rules i no_rule 0 h) ∙ in_row (λ r. (r.shift * 100 + r.width) % 100) (λ r. r.width) rules i no_rule h refl;
-      added = get_or-map_in (λ r. r.added) rules i no_rule 0 h;
-      limit = get_or-map_in (λ r. r.limit) rules i no_rule 0 h;
-      shift_few = ltb-true _ _ (each (λ r. ltb r.shift 64) rules no_rule refl i h);
-      width_few = ltb-true _ _ (each (λ r. ltb r.width 64) rules no_rule refl i h);
-      added_small = ltb-true _ _ (each (λ r. ltb r.added (2 ^ 32)) rules no_rule refl i h);
+      shift = ltb-true _ _ (each (λ r. ltb r.shift 64) rules no_rule refl i h);
+      width = ltb-true _ _ (each (λ r. ltb r.width 64) rules no_rule refl i h);
+      added = ltb-true _ _ (each (λ r. ltb r.added (2 ^ 32)) rules no_rule refl i h);
     }
 
-pub shift_fits : (i w : ℕ) → i < rule_count → w ≡ get_or rule_words i 0 → w / 100 < 64
-shift_fits i w h e = subst (λ x. x / 100 < 64) (sym e) (subst (λ x. x < 64) (sym (columns i h).shift) (columns i h).shift_few)
-
-pub width_fits : (i w : ℕ) → i < rule_count → w ≡ get_or rule_words i 0 → w % 100 < 64
-width_fits i w h e = subst (λ x. x % 100 < 64) (sym e) (subst (λ x. x < 64) (sym (columns i h).width) (columns i h).width_few)
-
 -- the sum fits: the code is of less than 64 bits
-pub sum_fits : (i n w a p : ℕ) → i < rule_count → w ≡ get_or rule_words i 0 → a ≡ get_or added_to i 0 → p ≡ 2 ^ (w % 100) → n % p + a < 2 ^ 64
-sum_fits i n w a p h ew ea ep =
-    let c : Columns i = columns i h in
-    let k : w % 100 ≤ 63 = omega (arith, width_fits i w h ew) in
-    let m : 2 ^ (w % 100) ≤ 2 ^ 63 = pow_mono k in
-    let s : n % p < p = mod-lt n (subst (λ x. 0 < x) (sym ep) (pow_pos (w % 100))) in
-    omega (arith, c.added, c.added_small)
+pub sum_fits : (r : Rule) (n : ℕ) {p : ℕ} → Small r → p ≡ 2 ^ r.width → n % p + r.added < 2 ^ 64
+sum_fits r n {p} s ep =
+    let m : 2 ^ r.width ≤ 2 ^ 63 = pow_mono (let k : r.width ≤ 63 = omega (arith, s.width) in k) in
+    let l : n % p < p = mod-lt n (subst (λ x. 0 < x) (sym ep) (pow_pos r.width)) in
+    omega (arith, s.added)
 
-pub obeyed : (i n w a m p : ℕ) → i < rule_count → w ≡ get_or rule_words i 0 → a ≡ get_or added_to i 0 → m ≡ get_or limits i 0 → p ≡ 2 ^ (w % 100)
-    → leb ((n / 2 ^ (w / 100) % p + a) % p) m ≡ obeys (rule_at i) n
+pub obeyed : (r : Rule) (n : ℕ) {p : ℕ} → p ≡ 2 ^ r.width → leb ((n / 2 ^ r.shift % p + r.added) % p) r.limit ≡ obeys r n
 unfolding obeys
-obeyed i n w a m p h ew ea em ep =
-    let c : Columns i = columns i h in
-    let s : w / 100 ≡ (rule_at i).shift = ap (λ x. x / 100) ew ∙ c.shift in
-    let t : w % 100 ≡ (rule_at i).width = ap (λ x. x % 100) ew ∙ c.width in
-    rw (mod-add-mod (n / 2 ^ (w / 100)) p a, ep, s, t, ea, em, c.added, c.limit)
+obeyed r n {p} ep = rw (mod-add-mod (n / 2 ^ r.shift) p r.added, ep)
 
 -- ---- tests
 

@@ -1,7 +1,7 @@
 -- What holds of the tables, by computed tests over each whole table: the rows of groups and places stand for what the rules have there.
 --
 -- In order: a test of each row; places; fields; groups; rows as one number; layouts. Assumes nothing.
-use Prim.Native.Nat.{ℕ, zero, suc, ◌+◌, ◌-◌, ◌*◌, ◌/◌, ◌%◌, ◌≤◌, ◌<◌}
+use Prim.Native.Nat.{ℕ, zero, suc, ◌+◌, ◌*◌, ◌/◌, ◌%◌, ◌≤◌, ◌<◌}
 use mathlib.Core.Path.{◌≡◌, refl, sym, ap, ◌∙◌}
 use mathlib.Core.Logic.{⊎_elim}
 use mathlib.Core.Bool.{Bool, true, false, ◌&&◌}
@@ -11,9 +11,11 @@ use native.Mathlib.Omega.{arith}
 use native.Mathlib.Nat.{le_of_suc-le-suc, not-suc-le-zero, le_trans}
 use lib.Dec.{leb, ltb, eqb, lit≤}
 use lib.IntN.{pos}
-use lib.ListN.{length, get_or, take, drop, replicate, length-map, get_or-map, get_or-append, get_or-eq_default}
-use lib.Seq.{slice, get_or-append-add, get_or-take, get_or-drop}
+use lib.ListN.{length, get_or, drop, replicate, length-map, get_or-map, get_or-append, get_or-eq_default}
+use lib.Seq.{slice, get_or-append-add}
 use borrow.Author.Tests.{ltb-true, leb-true}
+use mir.Syntax.{w64}
+use mir.Val.{to_z, of_z}
 use Rattle.rules.specs.Field.{Field}
 use Rattle.rules.specs.Chain.{flatten}
 use Rattle.rules.specs.Format.{Group}
@@ -28,7 +30,7 @@ use Rattle.tables.specs.declared.tables.LayoutRow.{LayoutRow}
 use Rattle.tables.specs.declared.tables.FieldRow.{FieldRow}
 use Rattle.tables.proofs.KindLaws.{holds_by, kind_by}
 use Rattle.tables.specs.Tests.{all_below, within}
-use Rattle.tables.specs.Tables.{field_count, group_count, layout_count, profile_count, frn_count, range_count, fields, field_row, no_field_row, no_group_row, no_layout_row, field_at, ranges, least, greatest, field_word, field_words, group_word, group_words, layout_word, layout_words, layouts_in, references_in, is_free, groups, layouts, group_rows, group_at, layout_rows, format_by, format_is, layout_is, layout_at, primaries, primary_count, subfields_in, subfield_at, subfield_count, nowhere, profile_rows, place_row_at, place_is}
+use Rattle.tables.specs.Tables.{field_count, group_count, layout_count, profile_count, frn_count, range_count, fields, field_row, no_field_row, no_group_row, no_layout_row, field_at, ranges, range_rows, field_word, field_words, group_word, group_words, layout_word, layout_words, place_pair, place_pairs, is_free, groups, layouts, group_rows, group_at, layout_rows, format_by, format_is, layout_is, layout_at, primaries, primary_count, subfields_in, subfield_at, subfield_count, nowhere, profile_rows, place_row_at, place_is}
 
 -- ---- what holds of each row of a table, by one test
 
@@ -49,13 +51,6 @@ all_below_lem (suc n) p j h l =
     (λ m. all_below_lem n p j (both_right (p n) (all_below n p) h) m)
     (λ m. let e : j ≡ n = omega arith in ap p e ∙ both_left (p n) (all_below n p) h)
     (below_or j n)
-
--- a list in two parts, the first with so many
-pub first_part : (k : ℕ) (xs : List ℕ) (i : ℕ) → i < k → get_or (take k xs) i 0 ≡ get_or xs i 0
-first_part k xs i h = get_or-take k xs i 0 h
-
-pub last_part : (k : ℕ) (xs : List ℕ) (i : ℕ) → k ≤ i → get_or (drop k xs) (i - k) 0 ≡ get_or xs i 0
-last_part k xs i h = get_or-drop k xs (i - k) 0 ∙ ap (λ j. get_or xs j 0) (omega arith)
 
 -- bits that may be set, as flags within flags
 pub usable_within : {P : Type 0} (ps : List (Option P)) (ts : List Bool) → length ts ≡ length ps → usable ps ts ≡ within ts (map present ps)
@@ -221,7 +216,7 @@ get_or-map_in f (a ∷ l) (suc i) d e h = get_or-map_in f l i d e (le_of_suc-le-
 
 -- what was put into digits is read from them
 abbrev pub field_digits : ℕ → FieldRow
-field_digits w = record { bits = w / 1_000; holds = holds_by (w / 100 % 10); least = get_or least (w % 100) (pos 0); greatest = get_or greatest (w % 100) (pos 0) }
+field_digits w = record { bits = w / 1_000; holds = holds_by (w / 100 % 10); least = (get_or range_rows (w % 100) (pos 0, pos 0)).0; greatest = (get_or range_rows (w % 100) (pos 0, pos 0)).1 }
 
 abbrev pub group_digits : ℕ → GroupRow
 group_digits w = record { octets = w / 100_000_000; first = w / 100_000 % 1_000; end = w / 100_000 % 1_000 + w / 1_000 % 100; values = w / 10 % 100; free = eqb (w % 10) 1 }
@@ -230,10 +225,19 @@ abbrev pub layout_digits : ℕ → LayoutRow
 layout_digits w = record { kind = kind_by (w / 100_000_000); least = w / 10_000_000 % 10; most = w / 10_000 % 1_000; first = w / 10 % 1_000; end = w / 10 % 1_000 + w % 10 }
 
 pub field_digits_lem : (i : ℕ) → i < field_count → field_digits (get_or field_words i 0) ≡ field_at i
-unfolding field_words field_at least greatest ranges fields groups layouts categories
+unfolding field_words field_at range_rows ranges fields groups layouts categories
 field_digits_lem i h =
     ap field_digits (get_or-map_in field_word (map field_row fields) i no_field_row 0 h)
     ∙ in_row (λ r. field_digits (field_word r)) (λ r. r) (map field_row fields) i no_field_row h refl
+
+-- each bound of a range is itself as a word
+pub least_word : (i : ℕ) → to_z w64 (of_z w64 (get_or range_rows i (pos 0, pos 0)).0) ≡ (get_or range_rows i (pos 0, pos 0)).0
+unfolding range_rows ranges fields groups layouts categories
+least_word i = at_row (λ r. to_z w64 (of_z w64 r.0)) (λ r. r.0) range_rows i (pos 0, pos 0) refl refl
+
+pub greatest_word : (i : ℕ) → to_z w64 (of_z w64 (get_or range_rows i (pos 0, pos 0)).1) ≡ (get_or range_rows i (pos 0, pos 0)).1
+unfolding range_rows ranges fields groups layouts categories
+greatest_word i = at_row (λ r. to_z w64 (of_z w64 r.1)) (λ r. r.1) range_rows i (pos 0, pos 0) refl refl
 
 pub field_range : (i : ℕ) → i < field_count → get_or field_words i 0 % 100 < range_count
 unfolding field_words ranges fields groups layouts categories
@@ -261,13 +265,9 @@ pub layout_kind : (i : ℕ) → i < layout_count → get_or layout_words i 0 / 1
 unfolding layout_words layouts categories
 layout_kind i h = leb-true _ 5 (each (λ w. leb (w / 100_000_000) 5) layout_words 0 refl i h)
 
-pub layout_in : (i : ℕ) → get_or layouts_in i 0 ≡ (place_row_at i).layout
-unfolding layouts_in place_row_at
-layout_in i = get_or-map (λ r. r.layout) (profile_rows 1 categories) i nowhere
-
-pub reference_in_lem : (i : ℕ) → get_or references_in i 0 ≡ (place_row_at i).reference
-unfolding references_in place_row_at
-reference_in_lem i = get_or-map (λ r. r.reference) (profile_rows 1 categories) i nowhere
+pub place_pair_lem : (i : ℕ) → get_or place_pairs i (0, 0) ≡ place_pair (place_row_at i)
+unfolding place_pairs place_row_at
+place_pair_lem i = get_or-map place_pair (profile_rows 1 categories) i nowhere
 
 -- ---- compound items
 

@@ -1,10 +1,11 @@
 -- The fields that have a rule, spare or with a range, as the check of an item asks them: the field's code, moved so that what is legal
 -- starts at 0, is at most a limit. A field without a rule is free and is not asked. Assumes nothing.
-use Rattle.std.specs.Prelude.{ℕ, ◌+◌, ◌-◌, ◌*◌, ◌/◌, ◌%◌, ◌^◌, Bool, true, cond, ◌&&◌, List, [], ◌∷◌, map, leb, length, get_or}
+use Rattle.std.specs.Prelude.{ℕ, ◌+◌, ◌-◌, ◌/◌, ◌%◌, ◌^◌, Bool, true, cond, ◌&&◌, List, [], ◌∷◌, map, leb, length, get_or}
 use Rattle.rules.specs.Field.{Field, spare, value, unsigned, signed, bits}
 use Rattle.rules.specs.Chain.{flatten}
 use Rattle.rules.specs.Format.{Group}
 use Rattle.rules.specs.Catalogue.{categories}
+use Rattle.tables.specs.declared.field_rules.RuleRow.{RuleRow}
 use Rattle.tables.specs.declared.tables.LayoutRow.{LayoutRow}
 use Rattle.tables.specs.declared.tables.Kind.TheVariants.{Fixed}
 use Rattle.tables.specs.Tables.{same_kind, groups, group_rows, group_at, layout_at, profile_rows, is_free}
@@ -52,15 +53,12 @@ first_rule g = get_or (first_rules 0 groups) g 0
 unfoldable pub rule_at : ℕ → Rule
 rule_at i = get_or rules i (record { shift = 0; width = 0; added = 0; limit = 0 })
 
--- the shift and the width, 2 digits each
-unfoldable pub rule_words : List ℕ
-rule_words = map (λ r. r.shift * 100 + r.width) rules
+-- a rule's four columns
+abbrev pub rule_row : Rule → RuleRow
+rule_row r = (r.shift, r.width, r.added, r.limit)
 
-unfoldable pub added_to : List ℕ
-added_to = map (λ r. r.added) rules
-
-unfoldable pub limits : List ℕ
-limits = map (λ r. r.limit) rules
+unfoldable pub rule_rows : List RuleRow
+rule_rows = map rule_row rules
 
 unfoldable pub sizes : List ℕ
 sizes = map (λ r. r.octets) (group_rows 0 groups)

@@ -1,7 +1,7 @@
 -- The profiles as the code has them: a category is a number, its index in the list of the rules' categories, and of each the code's table has a row.
--- The columns of that table are lists that the categories give; nothing is transcribed here. Assumes nothing.
+-- The rows of that table are what the categories give; nothing is transcribed here. Assumes nothing.
 --
--- In order: a category by its index; a set of FRNs as a number; the columns; a row.
+-- In order: a category by its index; a set of FRNs as a number; what a row has; the rows.
 use Rattle.std.specs.Prelude.{ℕ, zero, suc, Bool, false, List, [], ◌∷◌, map, eqb, length, get_or, replicate}
 use Rattle.std.proofs.Math.Option.{Option, none, some}
 use Rattle.rules.specs.Answer.{when◌then◌else◌}
@@ -59,16 +59,19 @@ untimed_as (t ∷ ts) = suc t
 
 -- ---- the row with an index
 
--- a column of the table
-abbrev pub column : (Category → ℕ) → List ℕ
-column f = map f categories
+abbrev pub row_of : Category → ProfileRow
+row_of c = record {
+  cat = c.cat;
+  octets = octets_in c;
+  usable = usable_in c;
+  kind = frn_in 0 c;
+  time = frn_in c.time c;
+  untimed = untimed_as c.untimed;
+}
+
+-- what the table has past its end
+abbrev pub no_row : ProfileRow
+no_row = record { cat = 0; octets = 0; usable = 0; kind = 0; time = 0; untimed = 0 }
 
 unfoldable pub profile_row_at : ℕ → ProfileRow
-profile_row_at i = record {
-  cat = get_or (column (λ c. c.cat)) i 0;
-  octets = get_or (column octets_in) i 0;
-  usable = get_or (column usable_in) i 0;
-  kind = get_or (column (frn_in 0)) i 0;
-  time = get_or (column (λ c. frn_in c.time c)) i 0;
-  untimed = get_or (column (λ c. untimed_as c.untimed)) i 0;
-}
+profile_row_at i = get_or (map row_of categories) i no_row

@@ -19,6 +19,8 @@ use Rattle.tables.specs.declared.tables.FieldRow.{FieldRow}
 use Rattle.tables.specs.declared.tables.GroupRow.{GroupRow}
 use Rattle.tables.specs.declared.tables.LayoutRow.{LayoutRow}
 use Rattle.tables.specs.declared.tables.PlaceRow.{PlaceRow}
+use Rattle.tables.specs.declared.tables.Place.{Place as PlaceColumns}
+use Rattle.tables.specs.declared.tables.Range.{Range}
 
 -- ---- kinds, each by its digit in a row
 
@@ -240,11 +242,12 @@ ranges = ranges_of [] (map field_row fields)
 abbrev pub range_count : ℕ
 range_count = length ranges
 
-unfoldable pub least : List ℤ
-least = map (λ r. r.0) ranges
+-- a range's two columns
+abbrev pub range_row : ℤ × ℤ → Range
+range_row r = (r.0, r.1)
 
-unfoldable pub greatest : List ℤ
-greatest = map (λ r. r.1) ranges
+unfoldable pub range_rows : List Range
+range_rows = map range_row ranges
 
 -- bits, what it holds, the place of its range: 2, 1 and 2 digits
 abbrev pub field_word : FieldRow → ℕ
@@ -267,11 +270,12 @@ group_words = map group_word (group_rows 0 groups)
 unfoldable pub layout_words : List ℕ
 layout_words = 0 ∷ map layout_word (layout_rows 0 0 layouts)
 
-unfoldable pub layouts_in : List ℕ
-layouts_in = map (λ r. r.layout) (profile_rows 1 categories)
+-- a place's two columns
+abbrev pub place_pair : PlaceRow → PlaceColumns
+place_pair r = (r.layout, r.reference)
 
-unfoldable pub references_in : List ℕ
-references_in = map (λ r. r.reference) (profile_rows 1 categories)
+unfoldable pub place_pairs : List PlaceColumns
+place_pairs = map place_pair (profile_rows 1 categories)
 
 -- ---- what the rows stand for
 

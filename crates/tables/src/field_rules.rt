@@ -1,127 +1,56 @@
-// The fields that have a rule, spare or with a range, by small tables: what the check of an item looks at. A table is written out where it is
-// read, so the check reads octets, and leaves a field that has no rule alone. The contracts tie each table, whole, to the rules' profiles.
+// The fields that have a rule, spare or with a range, by small tables: what the check of an item looks at. It reads octets, and leaves a field that has no
+// rule alone. The contracts tie each table, whole, to the rules' profiles.
 ghost use Rattle.std.specs.Prelude.{◌≡◌, ◌≤◌, ◌<◌, ◌^◌, get_or};
 ghost use Rattle.std.proofs.Math.Seq.{slice};
 ghost use Rattle.tables.specs.Tables.{group_count, place_count, group_at};
-ghost use Rattle.tables.specs.FieldRules.{rule_count, obeys, all_obeyed, rules, rule_at, first_rule, rule_words, added_to, limits, sizes, singles};
+ghost use Rattle.tables.specs.FieldRules.{rule_count, obeys, all_obeyed, rules, rule_at, rule_row, first_rule, singles};
 
-// Rules, group after group: how many bits stand below the field _ how many it has.
+// A rule: how many bits stand below the field; how many it has; what is added to its code, so that what is legal starts at 0; the greatest sum, in the bits
+// of the field, that is legal.
+#[derive(Clone, Copy)]
+struct RuleRow(u8, u8, u32, u32);
+
+// Rules, group after group.
 // ---- made by model/make.py: RULES
-const RULES: [u16; 32] = [
-    0_24, //  I017/140  5.2.7   time of day
-    24_24, // I017/045  5.2.4   latitude
-    12_01, // I017/070  5.2.6   spare
-    0_04, //  I017/230  5.2.12  spare
-    0_06, //  I017/240  5.2.13  spare
-    7_01, //  I018/018  5.2.18  spare
-    8_03, //  I018/030  5.2.28  spare
-    0_03, //  I018/030  5.2.28  spare
-    0_24, //  I018/002  5.2.3   time of day
-    0_04, //  I018/007  5.2.7   spare
-    1_02, //  I018/008  5.2.8   spare
-    0_06, //  I018/008  5.2.8   spare
-    0_02, //  I018/009  5.2.9   spare
-    3_05, //  I018/010  5.2.10  spare
-    27_05, // I018/022  5.2.22  spare
-    12_01, // I018/032  5.2.30  spare
-    0_16, //  I018/034  5.2.32  speed
-    0_24, //  I061/020  5.2.5   time of message
-    0_07, //  I061/050  5.2.8   spare
-    32_32, // I061/060  5.2.9   latitude
-    0_32, //  I061/060  5.2.9   longitude
-    0_16, //  I061/070  5.2.10  lower limit
-    0_16, //  I061/080  5.2.11  upper limit
-    15_01, // I061/130  5.2.13  #1 spare
-    18_01, // I061/130  5.2.13  #9 spare
-    0_07, //  I061/130  5.2.13  #9 spare
-    14_02, // I061/220  5.2.15  spare
-    0_06, //  I061/230  5.2.16  spare
-    0_07, //  I061/230  5.2.16  spare
-    5_01, //  I061/240  5.2.17  #1 spare
-    0_16, //  I061/380  5.2.22  #1 refresh period
-    0_07, //  I061/380  5.2.22  #2 spare
-];
-// ---- end of what is made
-
-// Rules: what is added to the field's code, so that what is legal starts at 0.
-// ---- made by model/make.py: ADDED
-const ADDED: [u32; 32] = [
-    0, //        I017/140  5.2.7   time of day
-    4194304, //  I017/045  5.2.4   latitude
-    0, //        I017/070  5.2.6   spare
-    0, //        I017/230  5.2.12  spare
-    0, //        I017/240  5.2.13  spare
-    0, //        I018/018  5.2.18  spare
-    0, //        I018/030  5.2.28  spare
-    0, //        I018/030  5.2.28  spare
-    0, //        I018/002  5.2.3   time of day
-    0, //        I018/007  5.2.7   spare
-    0, //        I018/008  5.2.8   spare
-    0, //        I018/008  5.2.8   spare
-    0, //        I018/009  5.2.9   spare
-    0, //        I018/010  5.2.10  spare
-    0, //        I018/022  5.2.22  spare
-    0, //        I018/032  5.2.30  spare
-    0, //        I018/034  5.2.32  speed
-    0, //        I061/020  5.2.5   time of message
-    0, //        I061/050  5.2.8   spare
-    16777216, // I061/060  5.2.9   latitude
-    33554432, // I061/060  5.2.9   longitude
-    60, //       I061/070  5.2.10  lower limit
-    60, //       I061/080  5.2.11  upper limit
-    0, //        I061/130  5.2.13  #1 spare
-    0, //        I061/130  5.2.13  #9 spare
-    0, //        I061/130  5.2.13  #9 spare
-    0, //        I061/220  5.2.15  spare
-    0, //        I061/230  5.2.16  spare
-    0, //        I061/230  5.2.16  spare
-    0, //        I061/240  5.2.17  #1 spare
-    65532, //    I061/380  5.2.22  #1 refresh period
-    0, //        I061/380  5.2.22  #2 spare
-];
-// ---- end of what is made
-
-// Rules: the greatest sum, in the bits of the field, that is legal.
-// ---- made by model/make.py: LIMITS
-const LIMITS: [u32; 32] = [
-    11059199, // I017/140  5.2.7   time of day
-    8388607, //  I017/045  5.2.4   latitude
-    0, //        I017/070  5.2.6   spare
-    0, //        I017/230  5.2.12  spare
-    0, //        I017/240  5.2.13  spare
-    0, //        I018/018  5.2.18  spare
-    0, //        I018/030  5.2.28  spare
-    0, //        I018/030  5.2.28  spare
-    11059199, // I018/002  5.2.3   time of day
-    0, //        I018/007  5.2.7   spare
-    0, //        I018/008  5.2.8   spare
-    0, //        I018/008  5.2.8   spare
-    0, //        I018/009  5.2.9   spare
-    0, //        I018/010  5.2.10  spare
-    0, //        I018/022  5.2.22  spare
-    0, //        I018/032  5.2.30  spare
-    32768, //    I018/034  5.2.32  speed
-    11059199, // I061/020  5.2.5   time of message
-    0, //        I061/050  5.2.8   spare
-    33554432, // I061/060  5.2.9   latitude
-    67108864, // I061/060  5.2.9   longitude
-    6060, //     I061/070  5.2.10  lower limit
-    6060, //     I061/080  5.2.11  upper limit
-    0, //        I061/130  5.2.13  #1 spare
-    0, //        I061/130  5.2.13  #9 spare
-    0, //        I061/130  5.2.13  #9 spare
-    0, //        I061/220  5.2.15  spare
-    0, //        I061/230  5.2.16  spare
-    0, //        I061/230  5.2.16  spare
-    0, //        I061/240  5.2.17  #1 spare
-    3596, //     I061/380  5.2.22  #1 refresh period
-    0, //        I061/380  5.2.22  #2 spare
+static RULES: [RuleRow; 32] = [
+    RuleRow(0, 24, 0, 11059199), //         I017/140  5.2.7   time of day
+    RuleRow(24, 24, 4194304, 8388607), //   I017/045  5.2.4   latitude
+    RuleRow(12, 1, 0, 0), //                I017/070  5.2.6   spare
+    RuleRow(0, 4, 0, 0), //                 I017/230  5.2.12  spare
+    RuleRow(0, 6, 0, 0), //                 I017/240  5.2.13  spare
+    RuleRow(7, 1, 0, 0), //                 I018/018  5.2.18  spare
+    RuleRow(8, 3, 0, 0), //                 I018/030  5.2.28  spare
+    RuleRow(0, 3, 0, 0), //                 I018/030  5.2.28  spare
+    RuleRow(0, 24, 0, 11059199), //         I018/002  5.2.3   time of day
+    RuleRow(0, 4, 0, 0), //                 I018/007  5.2.7   spare
+    RuleRow(1, 2, 0, 0), //                 I018/008  5.2.8   spare
+    RuleRow(0, 6, 0, 0), //                 I018/008  5.2.8   spare
+    RuleRow(0, 2, 0, 0), //                 I018/009  5.2.9   spare
+    RuleRow(3, 5, 0, 0), //                 I018/010  5.2.10  spare
+    RuleRow(27, 5, 0, 0), //                I018/022  5.2.22  spare
+    RuleRow(12, 1, 0, 0), //                I018/032  5.2.30  spare
+    RuleRow(0, 16, 0, 32768), //            I018/034  5.2.32  speed
+    RuleRow(0, 24, 0, 11059199), //         I061/020  5.2.5   time of message
+    RuleRow(0, 7, 0, 0), //                 I061/050  5.2.8   spare
+    RuleRow(32, 32, 16777216, 33554432), // I061/060  5.2.9   latitude
+    RuleRow(0, 32, 33554432, 67108864), //  I061/060  5.2.9   longitude
+    RuleRow(0, 16, 60, 6060), //            I061/070  5.2.10  lower limit
+    RuleRow(0, 16, 60, 6060), //            I061/080  5.2.11  upper limit
+    RuleRow(15, 1, 0, 0), //                I061/130  5.2.13  #1 spare
+    RuleRow(18, 1, 0, 0), //                I061/130  5.2.13  #9 spare
+    RuleRow(0, 7, 0, 0), //                 I061/130  5.2.13  #9 spare
+    RuleRow(14, 2, 0, 0), //                I061/220  5.2.15  spare
+    RuleRow(0, 6, 0, 0), //                 I061/230  5.2.16  spare
+    RuleRow(0, 7, 0, 0), //                 I061/230  5.2.16  spare
+    RuleRow(5, 1, 0, 0), //                 I061/240  5.2.17  #1 spare
+    RuleRow(0, 16, 65532, 3596), //         I061/380  5.2.22  #1 refresh period
+    RuleRow(0, 7, 0, 0), //                 I061/380  5.2.22  #2 spare
 ];
 // ---- end of what is made
 
 // Groups: how many octets.
 // ---- made by model/make.py: SIZES
-const SIZES: [u8; 106] = [
+static SIZES: [u8; 106] = [
     2, // I017/010  5.2.2   Data Source Identifier
     2, // I017/012  5.2.3   Data Destination Identifier
     1, // I017/000  5.2.1   Message Type
@@ -233,7 +162,7 @@ const SIZES: [u8; 106] = [
 
 // Groups: the place of the first rule; the next row has the one past the last.
 // ---- made by model/make.py: FIRST_RULES
-const FIRST_RULES: [u8; 107] = [
+static FIRST_RULES: [u8; 107] = [
     0, //  I017/010  5.2.2   Data Source Identifier
     0, //  I017/012  5.2.3   Data Destination Identifier
     0, //  I017/000  5.2.1   Message Type
@@ -346,7 +275,7 @@ const FIRST_RULES: [u8; 107] = [
 
 // Places, of an item with one part: how many octets it has, where it is free; 8 more than the place of its group, where it has a rule. Else 0.
 // ---- made by model/make.py: SINGLE
-const SINGLE: [u8; 108] = [
+static SINGLE: [u8; 108] = [
     0, //  FRN 0   no item
     2, //  FRN 1   I017/010  5.2.2   Data Source Identifier
     2, //  FRN 2   I017/012  5.2.3   Data Destination Identifier
@@ -458,54 +387,12 @@ const SINGLE: [u8; 108] = [
 ];
 // ---- end of what is made
 
-fn rule_word(place: usize) -> u16
-    requires { place < rule_count }
-    ensures { result ≡ get_or rule_words place 0 }
-{
-    RULES[place]
-}
-
-fn added_at(place: usize) -> u32
-    requires { place < rule_count }
-    ensures { result ≡ get_or added_to place 0 }
-{
-    ADDED[place]
-}
-
-fn limit_at(place: usize) -> u32
-    requires { place < rule_count }
-    ensures { result ≡ get_or limits place 0 }
-{
-    LIMITS[place]
-}
-
-fn size_in(group: usize) -> u8
-    requires { group < group_count }
-    ensures { result ≡ get_or sizes group 0 }
-{
-    SIZES[group]
-}
-
-fn first_in(group: usize) -> u8
-    requires { group ≤ group_count }
-    ensures { result ≡ first_rule group }
-{
-    FIRST_RULES[group]
-}
-
-fn single_in(place: usize) -> u8
-    requires { place < place_count }
-    ensures { result ≡ get_or singles place 0 }
-{
-    SINGLE[place]
-}
-
 // How many octets a part of a group has.
 pub fn size_at(group: usize) -> usize
     requires { group < group_count }
     ensures { result ≡ (group_at group).octets }
 {
-    size_in(group) as usize
+    SIZES[group] as usize
 }
 
 // The place of a group's first rule; of the last group's next, the end.
@@ -513,7 +400,7 @@ pub fn first_rule(group: usize) -> usize
     requires { group ≤ group_count }
     ensures { result ≡ first_rule group }
 {
-    first_in(group) as usize
+    FIRST_RULES[group] as usize
 }
 
 // Whether a group is free: it has no rule.
@@ -529,7 +416,7 @@ pub fn single_at(place: usize) -> usize
     requires { place < place_count }
     ensures { result ≡ get_or singles place 0 }
 {
-    single_in(place) as usize
+    SINGLE[place] as usize
 }
 
 // The power of two.
@@ -540,15 +427,22 @@ pub fn pow2(k: u64) -> u64
     1u64 << k
 }
 
+fn rule_row(place: usize) -> RuleRow
+    requires { place < rule_count }
+    ensures { result ≡ rule_row (rule_at place) }
+{
+    RULES[place]
+}
+
 // Whether a number obeys a rule.
 fn is_obeyed(rule: usize, n: u64) -> bool
     requires { rule < rule_count }
     ensures { result ≡ obeys (rule_at rule) n }
 {
-    let w = rule_word(rule);
-    let codes = pow2((w % 100) as u64);
-    let code = (n >> ((w / 100) as u64)) % codes + added_at(rule) as u64;
-    code % codes <= limit_at(rule) as u64
+    let RuleRow(shift, width, added, limit) = rule_row(rule);
+    let codes = pow2(width as u64);
+    let code = (n >> (shift as u64)) % codes + added as u64;
+    code % codes <= limit as u64
 }
 
 // Whether a number obeys each rule from a place to before a place.
@@ -556,12 +450,10 @@ pub fn are_obeyed(n: u64, first: usize, end: usize) -> bool
     requires { end ≤ rule_count }
     ensures { result ≡ all_obeyed (slice first end rules) n }
 {
-    let mut i = first;
-    while i < end {
+    for i in first..end {
         if !is_obeyed(i, n) {
             return false;
         }
-        i = i + 1;
     }
     true
 }

@@ -8,7 +8,7 @@ use crate::tables::PROFILES;
 
 // Of a profile: its CAT; how many octets an FSPEC has at most; the FRNs that have an item, FRN f being bit 63 - f; the FRNs of the message type item
 // and of the time; one more than the message type in which a time is none, 0 where there is no such.
-#[derive(Drop)]
+#[derive(Clone, Copy)]
 pub struct ProfileRow {
     pub cat: u8,
     pub octets: u8,
@@ -18,60 +18,62 @@ pub struct ProfileRow {
     pub untimed: u8,
 }
 
-// ---- the table, a column to an array: a constant is written out where it is read, so none is written that is not asked for
-
-// ---- made by model/make.py: the columns of profiles
-const CATS: [u8; 3] = [17, 18, 61];
-
-const OCTETS: [u8; 3] = [3, 5, 4];
-
-const USABLE: [u64; 3] = [
-    0x7FFF_0000_0000_0000,
-    0x7FFF_FFFF_F000_0000,
-    0x7FFF_FE00_0000_0000,
+// ---- made by model/make.py: the rows of profiles
+static ROWS: [ProfileRow; 3] = [
+    ProfileRow {
+        cat: 17,
+        octets: 3,
+        usable: 0x7FFF_0000_0000_0000,
+        kind: 3,
+        time: 7,
+        untimed: 0,
+    },
+    ProfileRow {
+        cat: 18,
+        octets: 5,
+        usable: 0x7FFF_FFFF_F000_0000,
+        kind: 3,
+        time: 15,
+        untimed: 0x41,
+    },
+    ProfileRow {
+        cat: 61,
+        octets: 4,
+        usable: 0x7FFF_FE00_0000_0000,
+        kind: 2,
+        time: 5,
+        untimed: 0,
+    },
 ];
-
-const KINDS: [u8; 3] = [3, 3, 2];
-
-const TIMES: [u8; 3] = [7, 15, 5];
-
-const UNTIMED: [u8; 3] = [0, 0x41, 0];
 // ---- end of what is made
+
+const NO_ROW: ProfileRow = ProfileRow {
+    cat: 0,
+    octets: 0,
+    usable: 0,
+    kind: 0,
+    time: 0,
+    untimed: 0,
+};
 
 // The row of a profile, all zeros where there is none.
 pub fn profile_row(profile: usize) -> ProfileRow
     ensures { result ≡ profile_row_at profile }
 {
     if profile < PROFILES {
-        return ProfileRow {
-            cat: CATS[profile],
-            octets: OCTETS[profile],
-            usable: USABLE[profile],
-            kind: KINDS[profile],
-            time: TIMES[profile],
-            untimed: UNTIMED[profile],
-        };
+        return ROWS[profile];
     }
-    ProfileRow {
-        cat: 0,
-        octets: 0,
-        usable: 0,
-        kind: 0,
-        time: 0,
-        untimed: 0,
-    }
+    NO_ROW
 }
 
 // The profile of a category, by its CAT: past the last for any other category.
 pub fn profile_of(cat: u8) -> usize
     ensures { result ≡ profile_in cat categories }
 {
-    let mut profile: usize = 0;
-    while profile < PROFILES {
-        if CATS[profile] == cat {
+    for (profile, row) in ROWS.iter().enumerate() {
+        if row.cat == cat {
             return profile;
         }
-        profile += 1;
     }
     PROFILES
 }

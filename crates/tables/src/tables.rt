@@ -2,7 +2,7 @@
 // document; Table 2 of category 017, 5.3.1; Table 9 of category 018, 5.3.1; Table 3 of category 061, 5.3). Profile 0 is category 017, edition
 // 1.3; profile 1 is category 018, edition 1.6; profile 2 is category 061, edition 1.2. Rows stand in the order of the profiles, FRN by FRN; the contracts tie each table, whole, to the rules' profiles.
 ghost use Rattle.std.specs.Prelude.{◌≡◌, ◌<◌, ◌≤◌, get_or, pos};
-ghost use Rattle.tables.specs.Tables.{holds_digit, kind_digit, field_count, range_count, group_count, layout_count, place_count, primary_count, subfield_count, field_at, group_at, layout_at, place_row_at, least, greatest, field_words, group_words, layout_words, layouts_in, references_in, primaries_in, subfields_in, primary_at, subfield_at};
+ghost use Rattle.tables.specs.Tables.{holds_digit, kind_digit, field_count, range_count, group_count, layout_count, place_count, primary_count, subfield_count, range_rows, field_at, group_at, layout_at, place_row_at, primary_at, subfield_at};
 
 // What a field holds: a number, a number in two's complement, or zero. By the digit that a row has for it.
 #[derive(Clone, Copy, Debug, PartialEq, Eq)]
@@ -70,13 +70,11 @@ pub const PROFILES: usize = 3;
 pub const FRNS: usize = 36;
 // ---- end of what is made
 
-// ---- the tables: a row is one number, its columns set apart by `_`. (A constant is written out where it is read, so a row is small.)
+// ---- the tables: a row is one number, its columns set apart by `_`, so that a table is small
 
 // Fields: bits _ what it holds _ the place of its range.
 // ---- made by model/make.py: FIELDS
-const FIELDS_CUT: usize = 114;
-
-const FIELDS: [u16; 114] = [
+static FIELDS: [u16; 275] = [
     8_0_00, //  I017/010  5.2.2   SAC
     8_0_00, //  I017/010  5.2.2   SIC
     8_0_00, //  I017/012  5.2.3   SAC
@@ -191,9 +189,6 @@ const FIELDS: [u16; 114] = [
     1_0_06, //  I018/012  5.2.12  FS
     7_0_20, //  I018/012  5.2.12  CQF
     8_0_00, //  I018/013  5.2.13  CQF calculation method
-];
-
-const LAST_FIELDS: [u16; 161] = [
     8_0_00, //  I061/010  5.2.2   SAC
     8_0_00, //  I061/010  5.2.2   SIC
     4_0_11, //  I061/000  5.2.1   family
@@ -358,77 +353,45 @@ const LAST_FIELDS: [u16; 161] = [
 ];
 // ---- end of what is made
 
-// The least value of each range.
-// ---- made by model/make.py: LEAST
-const LEAST: [i64; 27] = [
-    0, //         8 bits
-    0, //         24 bits
-    0, //         16 bits
-    0, //         I017/140  5.2.7   time of day
-    -4194304, //  two's complement in 24 bits, I017/045  5.2.4   latitude
-    -8388608, //  two's complement in 24 bits
-    0, //         1 bits
-    0, //         spare
-    0, //         12 bits
-    -8192, //     two's complement in 14 bits
-    0, //         3 bits
-    0, //         4 bits
-    0, //         32 bits
-    0, //         5 bits
-    0, //         2 bits
-    0, //         56 bits
-    -32768, //    two's complement in 16 bits
-    0, //         27 bits
-    0, //         48 bits
-    0, //         I018/034  5.2.32  speed
-    0, //         7 bits
-    -16777216, // two's complement in 32 bits, I061/060  5.2.9   latitude
-    -33554432, // two's complement in 32 bits, I061/060  5.2.9   longitude
-    -60, //       two's complement in 16 bits, I061/070  5.2.10  lower limit
-    0, //         15 bits
-    0, //         6 bits
-    4, //         I061/380  5.2.22  #1 refresh period
-];
-// ---- end of what is made
+// Ranges: the least value, and the greatest.
+#[derive(Clone, Copy)]
+struct Range(i64, i64);
 
-// The greatest value of each range.
-// ---- made by model/make.py: GREATEST
-const GREATEST: [i64; 27] = [
-    255, //               8 bits
-    16777215, //          24 bits
-    65535, //             16 bits
-    11059199, //          I017/140  5.2.7   time of day
-    4194303, //           two's complement in 24 bits, I017/045  5.2.4   latitude
-    8388607, //           two's complement in 24 bits
-    1, //                 1 bits
-    0, //                 spare
-    4095, //              12 bits
-    8191, //              two's complement in 14 bits
-    7, //                 3 bits
-    15, //                4 bits
-    4294967295, //        32 bits
-    31, //                5 bits
-    3, //                 2 bits
-    72057594037927935, // 56 bits
-    32767, //             two's complement in 16 bits
-    134217727, //         27 bits
-    281474976710655, //   48 bits
-    32768, //             I018/034  5.2.32  speed
-    127, //               7 bits
-    16777216, //          two's complement in 32 bits, I061/060  5.2.9   latitude
-    33554432, //          two's complement in 32 bits, I061/060  5.2.9   longitude
-    6000, //              two's complement in 16 bits, I061/070  5.2.10  lower limit
-    32767, //             15 bits
-    63, //                6 bits
-    3600, //              I061/380  5.2.22  #1 refresh period
+// ---- made by model/make.py: RANGES
+static RANGES: [Range; 27] = [
+    Range(0, 255), //               8 bits
+    Range(0, 16777215), //          24 bits
+    Range(0, 65535), //             16 bits
+    Range(0, 11059199), //          I017/140  5.2.7   time of day
+    Range(-4194304, 4194303), //    two's complement in 24 bits, I017/045  5.2.4   latitude
+    Range(-8388608, 8388607), //    two's complement in 24 bits
+    Range(0, 1), //                 1 bits
+    Range(0, 0), //                 spare
+    Range(0, 4095), //              12 bits
+    Range(-8192, 8191), //          two's complement in 14 bits
+    Range(0, 7), //                 3 bits
+    Range(0, 15), //                4 bits
+    Range(0, 4294967295), //        32 bits
+    Range(0, 31), //                5 bits
+    Range(0, 3), //                 2 bits
+    Range(0, 72057594037927935), // 56 bits
+    Range(-32768, 32767), //        two's complement in 16 bits
+    Range(0, 134217727), //         27 bits
+    Range(0, 281474976710655), //   48 bits
+    Range(0, 32768), //             I018/034  5.2.32  speed
+    Range(0, 127), //               7 bits
+    Range(-16777216, 16777216), //  two's complement in 32 bits, I061/060  5.2.9   latitude
+    Range(-33554432, 33554432), //  two's complement in 32 bits, I061/060  5.2.9   longitude
+    Range(-60, 6000), //            two's complement in 16 bits, I061/070  5.2.10  lower limit
+    Range(0, 32767), //             15 bits
+    Range(0, 63), //                6 bits
+    Range(4, 3600), //              I061/380  5.2.22  #1 refresh period
 ];
 // ---- end of what is made
 
 // Groups: octets _ place of the first field _ how many fields _ how many values _ whether it is free.
 // ---- made by model/make.py: GROUPS
-const GROUPS_CUT: usize = 52;
-
-const GROUPS: [u32; 52] = [
+static GROUPS: [u32; 106] = [
     2_000_02_02_1, // I017/010  5.2.2   Data Source Identifier
     2_002_02_02_1, // I017/012  5.2.3   Data Destination Identifier
     1_004_01_01_1, // I017/000  5.2.1   Message Type
@@ -481,9 +444,6 @@ const GROUPS: [u32; 52] = [
     2_110_01_01_1, // I018/035  5.2.33  Aircraft Heading
     1_111_02_02_1, // I018/012  5.2.12  Aircraft Coverage Quality Factor
     1_113_01_01_1, // I018/013  5.2.13  Aircraft CQF Calculation Method
-];
-
-const LAST_GROUPS: [u32; 54] = [
     2_114_02_02_1, // I061/010  5.2.2   SDPS Identification
     1_116_02_02_1, // I061/000  5.2.1   Message Type
     1_118_01_01_1, // I061/012  5.2.3   User Identification
@@ -543,9 +503,7 @@ const LAST_GROUPS: [u32; 54] = [
 
 // Layouts: how the parts lie _ the least _ and the greatest number of parts _ place of the first group _ how many groups.
 // ---- made by model/make.py: LAYOUTS
-const LAYOUTS_CUT: usize = 51;
-
-const LAYOUTS: [u32; 51] = [
+static LAYOUTS: [u32; 102] = [
     0, //             no item
     1_1_001_000_1, // I017/010  5.2.2   Data Source Identifier
     1_1_001_001_1, // I017/012  5.2.3   Data Destination Identifier
@@ -597,9 +555,6 @@ const LAYOUTS: [u32; 51] = [
     1_1_001_049_1, // I018/035  5.2.33  Aircraft Heading
     1_1_001_050_1, // I018/012  5.2.12  Aircraft Coverage Quality Factor
     1_1_001_051_1, // I018/013  5.2.13  Aircraft CQF Calculation Method
-];
-
-const LAST_LAYOUTS: [u32; 51] = [
     1_1_001_052_1, // I061/010  5.2.2   SDPS Identification
     1_1_001_053_1, // I061/000  5.2.1   Message Type
     1_1_001_054_1, // I061/012  5.2.3   User Identification
@@ -654,247 +609,126 @@ const LAST_LAYOUTS: [u32; 51] = [
 ];
 // ---- end of what is made
 
-// Places: the place of the layout.
+// Places: the place of the layout, and the number after the slash of the reference.
+#[derive(Clone, Copy)]
+struct Place(u8, u16);
+
 // ---- made by model/make.py: PLACES
-const PLACES_CUT: usize = 72;
-
-const PLACES: [u8; 72] = [
-    0, //  FRN 0   no item
-    1, //  FRN 1   I017/010  5.2.2   Data Source Identifier
-    2, //  FRN 2   I017/012  5.2.3   Data Destination Identifier
-    3, //  FRN 3   I017/000  5.2.1   Message Type
-    4, //  FRN 4   I017/350  5.2.14  Cluster Station/Node List
-    5, //  FRN 5   I017/220  5.2.10  Aircraft Address
-    6, //  FRN 6   I017/221  5.2.11  Duplicate Address Reference Number
-    7, //  FRN 7   I017/140  5.2.7   Time of Day
-    8, //  FRN 8   I017/045  5.2.4   Calculated Position in WGS-84 Coordinates
-    9, //  FRN 9   I017/070  5.2.6   Mode 3/A Code in Octal Representation
-    10, // FRN 10  I017/050  5.2.5   Flight Level in Binary Representation
-    11, // FRN 11  I017/200  5.2.8   Track Velocity in Polar Co-ordinates
-    12, // FRN 12  I017/230  5.2.12  Transponder Capability
-    13, // FRN 13  I017/240  5.2.13  Track Status
-    14, // FRN 14  I017/210  5.2.9   Mode S Address List
-    15, // FRN 15  I017/360  5.2.15  Cluster Controller Command State
-    0, //  FRN 16  spare
-    0, //  FRN 17  spare
-    0, //  FRN 18  spare
-    0, //  FRN 19  spare
-    0, //  FRN 20  spare
-    0, //  FRN 21  reserved for Special Purpose Indicator
-    0, //  FRN 22  past the end of the profile
-    0, //  FRN 23  past the end of the profile
-    0, //  FRN 24  past the end of the profile
-    0, //  FRN 25  past the end of the profile
-    0, //  FRN 26  past the end of the profile
-    0, //  FRN 27  past the end of the profile
-    0, //  FRN 28  past the end of the profile
-    0, //  FRN 29  past the end of the profile
-    0, //  FRN 30  past the end of the profile
-    0, //  FRN 31  past the end of the profile
-    0, //  FRN 32  past the end of the profile
-    0, //  FRN 33  past the end of the profile
-    0, //  FRN 34  past the end of the profile
-    0, //  FRN 35  past the end of the profile
-    0, //  FRN 0   no item
-    16, // FRN 1   I018/036  5.2.34  Data Source Identifier
-    17, // FRN 2   I018/037  5.2.35  Data Destination Identifier
-    18, // FRN 3   I018/000  5.2.1   Message Type
-    19, // FRN 4   I018/001  5.2.2   Result
-    20, // FRN 5   I018/005  5.2.5   Mode S Address
-    21, // FRN 6   I018/016  5.2.16  Packet Number
-    22, // FRN 7   I018/017  5.2.17  Packet Number List
-    23, // FRN 8   I018/018  5.2.18  Mode S Packet Properties
-    24, // FRN 9   I018/019  5.2.19  Mode S Packet
-    25, // FRN 10  I018/028  5.2.26  GICB Extraction Periodicity
-    26, // FRN 11  I018/030  5.2.28  GICB Properties
-    27, // FRN 12  I018/025  5.2.24  GICB Number
-    28, // FRN 13  I018/027  5.2.25  BDS Code
-    29, // FRN 14  I018/029  5.2.27  GICB Extracted
-    30, // FRN 15  I018/002  5.2.3   Time of Day
-    31, // FRN 16  I018/006  5.2.6   Mode S Address List
-    32, // FRN 17  I018/007  5.2.7   Aircraft Data Link Command
-    33, // FRN 18  I018/008  5.2.8   Aircraft Data Link Status
-    34, // FRN 19  I018/009  5.2.9   Aircraft Data Link Report Request
-    35, // FRN 20  I018/010  5.2.10  Transponder Communications Capability
-    36, // FRN 21  I018/011  5.2.11  Capability Report
-    37, // FRN 22  I018/014  5.2.14  Aircraft Position in Polar Co-ordinates
-    38, // FRN 23  I018/015  5.2.15  Aircraft Position in Cartesian Co-ordinates
-    39, // FRN 24  I018/020  5.2.20  Broadcast Number
-    40, // FRN 25  I018/021  5.2.21  Broadcast Properties
-    41, // FRN 26  I018/022  5.2.22  Broadcast Prefix
-    42, // FRN 27  I018/023  5.2.23  Uplink or Downlink Broadcast
-    43, // FRN 28  I018/004  5.2.4   II Code
-    44, // FRN 29  I018/031  5.2.29  Aircraft Identity
-    45, // FRN 30  I018/032  5.2.30  Aircraft Mode A
-    46, // FRN 31  I018/033  5.2.31  Aircraft Height
-    47, // FRN 32  I018/034  5.2.32  Aircraft Speed
-    48, // FRN 33  I018/035  5.2.33  Aircraft Heading
-    49, // FRN 34  I018/012  5.2.12  Aircraft Coverage Quality Factor
-    50, // FRN 35  I018/013  5.2.13  Aircraft CQF Calculation Method
-];
-
-const LAST_PLACES: [u8; 36] = [
-    0, //  FRN 0   no item
-    51, // FRN 1   I061/010  5.2.2   SDPS Identification
-    52, // FRN 2   I061/000  5.2.1   Message Type
-    53, // FRN 3   I061/012  5.2.3   User Identification
-    54, // FRN 4   I061/015  5.2.4   Service Identification
-    55, // FRN 5   I061/020  5.2.5   Time of Message
-    56, // FRN 6   I061/030  5.2.6   Batch Number
-    57, // FRN 7   I061/045  5.2.7   Application Version Number
-    58, // FRN 8   I061/050  5.2.8   Default Geographical Volume
-    59, // FRN 9   I061/060  5.2.9   Geographical Area
-    60, // FRN 10  I061/070  5.2.10  Lower Limit
-    61, // FRN 11  I061/080  5.2.11  Upper Limit
-    62, // FRN 12  I061/100  5.2.12  Connection Related Report
-    63, // FRN 13  I061/130  5.2.13  Track Selector
-    73, // FRN 14  I061/210  5.2.14  Item Selector
-    74, // FRN 15  I061/220  5.2.15  Cyclical Update Characteristics
-    75, // FRN 16  I061/230  5.2.16  Radar Synchronisation Characteristics
-    76, // FRN 17  I061/240  5.2.17  Triggering Criteria for Aperiodical Services
-    88, // FRN 18  I061/330  5.2.18  Service Related Report
-    89, // FRN 19  I061/350  5.2.19  Sensor Selector
-    90, // FRN 20  I061/360  5.2.20  Sensor Item Selector
-    91, // FRN 21  I061/370  5.2.21  Periodical Characteristics of Sensor Information Service
-    92, // FRN 22  I061/380  5.2.22  Aperiodical Characteristics of Sensor Information Service
-    0, //  FRN 23  no item is printed
-    0, //  FRN 24  no item is printed
-    0, //  FRN 25  no item is printed
-    0, //  FRN 26  no item is printed
-    0, //  FRN 27  Reserved Expansion Field
-    0, //  FRN 28  Special Purpose Field
-    0, //  FRN 29  past the end of the profile
-    0, //  FRN 30  past the end of the profile
-    0, //  FRN 31  past the end of the profile
-    0, //  FRN 32  past the end of the profile
-    0, //  FRN 33  past the end of the profile
-    0, //  FRN 34  past the end of the profile
-    0, //  FRN 35  past the end of the profile
-];
-// ---- end of what is made
-
-// Places: the number after the slash of the reference.
-// ---- made by model/make.py: REFERENCES
-const REFERENCES_CUT: usize = 72;
-
-const REFERENCES: [u16; 72] = [
-    0, //   FRN 0   no item
-    10, //  FRN 1   I017/010  5.2.2   Data Source Identifier
-    12, //  FRN 2   I017/012  5.2.3   Data Destination Identifier
-    0, //   FRN 3   I017/000  5.2.1   Message Type
-    350, // FRN 4   I017/350  5.2.14  Cluster Station/Node List
-    220, // FRN 5   I017/220  5.2.10  Aircraft Address
-    221, // FRN 6   I017/221  5.2.11  Duplicate Address Reference Number
-    140, // FRN 7   I017/140  5.2.7   Time of Day
-    45, //  FRN 8   I017/045  5.2.4   Calculated Position in WGS-84 Coordinates
-    70, //  FRN 9   I017/070  5.2.6   Mode 3/A Code in Octal Representation
-    50, //  FRN 10  I017/050  5.2.5   Flight Level in Binary Representation
-    200, // FRN 11  I017/200  5.2.8   Track Velocity in Polar Co-ordinates
-    230, // FRN 12  I017/230  5.2.12  Transponder Capability
-    240, // FRN 13  I017/240  5.2.13  Track Status
-    210, // FRN 14  I017/210  5.2.9   Mode S Address List
-    360, // FRN 15  I017/360  5.2.15  Cluster Controller Command State
-    0, //   FRN 16  spare
-    0, //   FRN 17  spare
-    0, //   FRN 18  spare
-    0, //   FRN 19  spare
-    0, //   FRN 20  spare
-    0, //   FRN 21  reserved for Special Purpose Indicator
-    0, //   FRN 22  past the end of the profile
-    0, //   FRN 23  past the end of the profile
-    0, //   FRN 24  past the end of the profile
-    0, //   FRN 25  past the end of the profile
-    0, //   FRN 26  past the end of the profile
-    0, //   FRN 27  past the end of the profile
-    0, //   FRN 28  past the end of the profile
-    0, //   FRN 29  past the end of the profile
-    0, //   FRN 30  past the end of the profile
-    0, //   FRN 31  past the end of the profile
-    0, //   FRN 32  past the end of the profile
-    0, //   FRN 33  past the end of the profile
-    0, //   FRN 34  past the end of the profile
-    0, //   FRN 35  past the end of the profile
-    0, //   FRN 0   no item
-    36, //  FRN 1   I018/036  5.2.34  Data Source Identifier
-    37, //  FRN 2   I018/037  5.2.35  Data Destination Identifier
-    0, //   FRN 3   I018/000  5.2.1   Message Type
-    1, //   FRN 4   I018/001  5.2.2   Result
-    5, //   FRN 5   I018/005  5.2.5   Mode S Address
-    16, //  FRN 6   I018/016  5.2.16  Packet Number
-    17, //  FRN 7   I018/017  5.2.17  Packet Number List
-    18, //  FRN 8   I018/018  5.2.18  Mode S Packet Properties
-    19, //  FRN 9   I018/019  5.2.19  Mode S Packet
-    28, //  FRN 10  I018/028  5.2.26  GICB Extraction Periodicity
-    30, //  FRN 11  I018/030  5.2.28  GICB Properties
-    25, //  FRN 12  I018/025  5.2.24  GICB Number
-    27, //  FRN 13  I018/027  5.2.25  BDS Code
-    29, //  FRN 14  I018/029  5.2.27  GICB Extracted
-    2, //   FRN 15  I018/002  5.2.3   Time of Day
-    6, //   FRN 16  I018/006  5.2.6   Mode S Address List
-    7, //   FRN 17  I018/007  5.2.7   Aircraft Data Link Command
-    8, //   FRN 18  I018/008  5.2.8   Aircraft Data Link Status
-    9, //   FRN 19  I018/009  5.2.9   Aircraft Data Link Report Request
-    10, //  FRN 20  I018/010  5.2.10  Transponder Communications Capability
-    11, //  FRN 21  I018/011  5.2.11  Capability Report
-    14, //  FRN 22  I018/014  5.2.14  Aircraft Position in Polar Co-ordinates
-    15, //  FRN 23  I018/015  5.2.15  Aircraft Position in Cartesian Co-ordinates
-    20, //  FRN 24  I018/020  5.2.20  Broadcast Number
-    21, //  FRN 25  I018/021  5.2.21  Broadcast Properties
-    22, //  FRN 26  I018/022  5.2.22  Broadcast Prefix
-    23, //  FRN 27  I018/023  5.2.23  Uplink or Downlink Broadcast
-    4, //   FRN 28  I018/004  5.2.4   II Code
-    31, //  FRN 29  I018/031  5.2.29  Aircraft Identity
-    32, //  FRN 30  I018/032  5.2.30  Aircraft Mode A
-    33, //  FRN 31  I018/033  5.2.31  Aircraft Height
-    34, //  FRN 32  I018/034  5.2.32  Aircraft Speed
-    35, //  FRN 33  I018/035  5.2.33  Aircraft Heading
-    12, //  FRN 34  I018/012  5.2.12  Aircraft Coverage Quality Factor
-    13, //  FRN 35  I018/013  5.2.13  Aircraft CQF Calculation Method
-];
-
-const LAST_REFERENCES: [u16; 36] = [
-    0, //   FRN 0   no item
-    10, //  FRN 1   I061/010  5.2.2   SDPS Identification
-    0, //   FRN 2   I061/000  5.2.1   Message Type
-    12, //  FRN 3   I061/012  5.2.3   User Identification
-    15, //  FRN 4   I061/015  5.2.4   Service Identification
-    20, //  FRN 5   I061/020  5.2.5   Time of Message
-    30, //  FRN 6   I061/030  5.2.6   Batch Number
-    45, //  FRN 7   I061/045  5.2.7   Application Version Number
-    50, //  FRN 8   I061/050  5.2.8   Default Geographical Volume
-    60, //  FRN 9   I061/060  5.2.9   Geographical Area
-    70, //  FRN 10  I061/070  5.2.10  Lower Limit
-    80, //  FRN 11  I061/080  5.2.11  Upper Limit
-    100, // FRN 12  I061/100  5.2.12  Connection Related Report
-    130, // FRN 13  I061/130  5.2.13  Track Selector
-    210, // FRN 14  I061/210  5.2.14  Item Selector
-    220, // FRN 15  I061/220  5.2.15  Cyclical Update Characteristics
-    230, // FRN 16  I061/230  5.2.16  Radar Synchronisation Characteristics
-    240, // FRN 17  I061/240  5.2.17  Triggering Criteria for Aperiodical Services
-    330, // FRN 18  I061/330  5.2.18  Service Related Report
-    350, // FRN 19  I061/350  5.2.19  Sensor Selector
-    360, // FRN 20  I061/360  5.2.20  Sensor Item Selector
-    370, // FRN 21  I061/370  5.2.21  Periodical Characteristics of Sensor Information Service
-    380, // FRN 22  I061/380  5.2.22  Aperiodical Characteristics of Sensor Information Service
-    0, //   FRN 23  no item is printed
-    0, //   FRN 24  no item is printed
-    0, //   FRN 25  no item is printed
-    0, //   FRN 26  no item is printed
-    0, //   FRN 27  Reserved Expansion Field
-    0, //   FRN 28  Special Purpose Field
-    0, //   FRN 29  past the end of the profile
-    0, //   FRN 30  past the end of the profile
-    0, //   FRN 31  past the end of the profile
-    0, //   FRN 32  past the end of the profile
-    0, //   FRN 33  past the end of the profile
-    0, //   FRN 34  past the end of the profile
-    0, //   FRN 35  past the end of the profile
+static PLACES: [Place; 108] = [
+    Place(0, 0), //    FRN 0   no item
+    Place(1, 10), //   FRN 1   I017/010  5.2.2   Data Source Identifier
+    Place(2, 12), //   FRN 2   I017/012  5.2.3   Data Destination Identifier
+    Place(3, 0), //    FRN 3   I017/000  5.2.1   Message Type
+    Place(4, 350), //  FRN 4   I017/350  5.2.14  Cluster Station/Node List
+    Place(5, 220), //  FRN 5   I017/220  5.2.10  Aircraft Address
+    Place(6, 221), //  FRN 6   I017/221  5.2.11  Duplicate Address Reference Number
+    Place(7, 140), //  FRN 7   I017/140  5.2.7   Time of Day
+    Place(8, 45), //   FRN 8   I017/045  5.2.4   Calculated Position in WGS-84 Coordinates
+    Place(9, 70), //   FRN 9   I017/070  5.2.6   Mode 3/A Code in Octal Representation
+    Place(10, 50), //  FRN 10  I017/050  5.2.5   Flight Level in Binary Representation
+    Place(11, 200), // FRN 11  I017/200  5.2.8   Track Velocity in Polar Co-ordinates
+    Place(12, 230), // FRN 12  I017/230  5.2.12  Transponder Capability
+    Place(13, 240), // FRN 13  I017/240  5.2.13  Track Status
+    Place(14, 210), // FRN 14  I017/210  5.2.9   Mode S Address List
+    Place(15, 360), // FRN 15  I017/360  5.2.15  Cluster Controller Command State
+    Place(0, 0), //    FRN 16  spare
+    Place(0, 0), //    FRN 17  spare
+    Place(0, 0), //    FRN 18  spare
+    Place(0, 0), //    FRN 19  spare
+    Place(0, 0), //    FRN 20  spare
+    Place(0, 0), //    FRN 21  reserved for Special Purpose Indicator
+    Place(0, 0), //    FRN 22  past the end of the profile
+    Place(0, 0), //    FRN 23  past the end of the profile
+    Place(0, 0), //    FRN 24  past the end of the profile
+    Place(0, 0), //    FRN 25  past the end of the profile
+    Place(0, 0), //    FRN 26  past the end of the profile
+    Place(0, 0), //    FRN 27  past the end of the profile
+    Place(0, 0), //    FRN 28  past the end of the profile
+    Place(0, 0), //    FRN 29  past the end of the profile
+    Place(0, 0), //    FRN 30  past the end of the profile
+    Place(0, 0), //    FRN 31  past the end of the profile
+    Place(0, 0), //    FRN 32  past the end of the profile
+    Place(0, 0), //    FRN 33  past the end of the profile
+    Place(0, 0), //    FRN 34  past the end of the profile
+    Place(0, 0), //    FRN 35  past the end of the profile
+    Place(0, 0), //    FRN 0   no item
+    Place(16, 36), //  FRN 1   I018/036  5.2.34  Data Source Identifier
+    Place(17, 37), //  FRN 2   I018/037  5.2.35  Data Destination Identifier
+    Place(18, 0), //   FRN 3   I018/000  5.2.1   Message Type
+    Place(19, 1), //   FRN 4   I018/001  5.2.2   Result
+    Place(20, 5), //   FRN 5   I018/005  5.2.5   Mode S Address
+    Place(21, 16), //  FRN 6   I018/016  5.2.16  Packet Number
+    Place(22, 17), //  FRN 7   I018/017  5.2.17  Packet Number List
+    Place(23, 18), //  FRN 8   I018/018  5.2.18  Mode S Packet Properties
+    Place(24, 19), //  FRN 9   I018/019  5.2.19  Mode S Packet
+    Place(25, 28), //  FRN 10  I018/028  5.2.26  GICB Extraction Periodicity
+    Place(26, 30), //  FRN 11  I018/030  5.2.28  GICB Properties
+    Place(27, 25), //  FRN 12  I018/025  5.2.24  GICB Number
+    Place(28, 27), //  FRN 13  I018/027  5.2.25  BDS Code
+    Place(29, 29), //  FRN 14  I018/029  5.2.27  GICB Extracted
+    Place(30, 2), //   FRN 15  I018/002  5.2.3   Time of Day
+    Place(31, 6), //   FRN 16  I018/006  5.2.6   Mode S Address List
+    Place(32, 7), //   FRN 17  I018/007  5.2.7   Aircraft Data Link Command
+    Place(33, 8), //   FRN 18  I018/008  5.2.8   Aircraft Data Link Status
+    Place(34, 9), //   FRN 19  I018/009  5.2.9   Aircraft Data Link Report Request
+    Place(35, 10), //  FRN 20  I018/010  5.2.10  Transponder Communications Capability
+    Place(36, 11), //  FRN 21  I018/011  5.2.11  Capability Report
+    Place(37, 14), //  FRN 22  I018/014  5.2.14  Aircraft Position in Polar Co-ordinates
+    Place(38, 15), //  FRN 23  I018/015  5.2.15  Aircraft Position in Cartesian Co-ordinates
+    Place(39, 20), //  FRN 24  I018/020  5.2.20  Broadcast Number
+    Place(40, 21), //  FRN 25  I018/021  5.2.21  Broadcast Properties
+    Place(41, 22), //  FRN 26  I018/022  5.2.22  Broadcast Prefix
+    Place(42, 23), //  FRN 27  I018/023  5.2.23  Uplink or Downlink Broadcast
+    Place(43, 4), //   FRN 28  I018/004  5.2.4   II Code
+    Place(44, 31), //  FRN 29  I018/031  5.2.29  Aircraft Identity
+    Place(45, 32), //  FRN 30  I018/032  5.2.30  Aircraft Mode A
+    Place(46, 33), //  FRN 31  I018/033  5.2.31  Aircraft Height
+    Place(47, 34), //  FRN 32  I018/034  5.2.32  Aircraft Speed
+    Place(48, 35), //  FRN 33  I018/035  5.2.33  Aircraft Heading
+    Place(49, 12), //  FRN 34  I018/012  5.2.12  Aircraft Coverage Quality Factor
+    Place(50, 13), //  FRN 35  I018/013  5.2.13  Aircraft CQF Calculation Method
+    Place(0, 0), //    FRN 0   no item
+    Place(51, 10), //  FRN 1   I061/010  5.2.2   SDPS Identification
+    Place(52, 0), //   FRN 2   I061/000  5.2.1   Message Type
+    Place(53, 12), //  FRN 3   I061/012  5.2.3   User Identification
+    Place(54, 15), //  FRN 4   I061/015  5.2.4   Service Identification
+    Place(55, 20), //  FRN 5   I061/020  5.2.5   Time of Message
+    Place(56, 30), //  FRN 6   I061/030  5.2.6   Batch Number
+    Place(57, 45), //  FRN 7   I061/045  5.2.7   Application Version Number
+    Place(58, 50), //  FRN 8   I061/050  5.2.8   Default Geographical Volume
+    Place(59, 60), //  FRN 9   I061/060  5.2.9   Geographical Area
+    Place(60, 70), //  FRN 10  I061/070  5.2.10  Lower Limit
+    Place(61, 80), //  FRN 11  I061/080  5.2.11  Upper Limit
+    Place(62, 100), // FRN 12  I061/100  5.2.12  Connection Related Report
+    Place(63, 130), // FRN 13  I061/130  5.2.13  Track Selector
+    Place(73, 210), // FRN 14  I061/210  5.2.14  Item Selector
+    Place(74, 220), // FRN 15  I061/220  5.2.15  Cyclical Update Characteristics
+    Place(75, 230), // FRN 16  I061/230  5.2.16  Radar Synchronisation Characteristics
+    Place(76, 240), // FRN 17  I061/240  5.2.17  Triggering Criteria for Aperiodical Services
+    Place(88, 330), // FRN 18  I061/330  5.2.18  Service Related Report
+    Place(89, 350), // FRN 19  I061/350  5.2.19  Sensor Selector
+    Place(90, 360), // FRN 20  I061/360  5.2.20  Sensor Item Selector
+    Place(91, 370), // FRN 21  I061/370  5.2.21  Periodical Characteristics of Sensor Information Service
+    Place(92, 380), // FRN 22  I061/380  5.2.22  Aperiodical Characteristics of Sensor Information Service
+    Place(0, 0), //    FRN 23  no item is printed
+    Place(0, 0), //    FRN 24  no item is printed
+    Place(0, 0), //    FRN 25  no item is printed
+    Place(0, 0), //    FRN 26  no item is printed
+    Place(0, 0), //    FRN 27  Reserved Expansion Field
+    Place(0, 0), //    FRN 28  Special Purpose Field
+    Place(0, 0), //    FRN 29  past the end of the profile
+    Place(0, 0), //    FRN 30  past the end of the profile
+    Place(0, 0), //    FRN 31  past the end of the profile
+    Place(0, 0), //    FRN 32  past the end of the profile
+    Place(0, 0), //    FRN 33  past the end of the profile
+    Place(0, 0), //    FRN 34  past the end of the profile
+    Place(0, 0), //    FRN 35  past the end of the profile
 ];
 // ---- end of what is made
 
 // Primary octets of compound items: the bits that have a subfield, FX apart.
 // ---- made by model/make.py: PRIMARIES
-const PRIMARIES: [u8; 6] = [
+static PRIMARIES: [u8; 6] = [
     0xFE, // I061/130  5.2.13  octet 1: #1, #2, #3, #4, #5, #6, #7
     0xC0, // I061/130  5.2.13  octet 2: #8, #9
     0xBE, // I061/240  5.2.17  octet 1: #1, #3, #4, #5, #6, #7
@@ -906,7 +740,7 @@ const PRIMARIES: [u8; 6] = [
 
 // Subfields: for each bit of each primary octet, from the highest down, the place of the layout, 0 where it has none.
 // ---- made by model/make.py: SUBFIELDS
-const SUBFIELDS: [u8; 42] = [
+static SUBFIELDS: [u8; 42] = [
     64, //  I061/130  5.2.13  octet 1, bit 8  #1 Track Number Selector
     65, //  I061/130  5.2.13  octet 1, bit 7  #2 Aircraft Address Selector
     66, //  I061/130  5.2.13  octet 1, bit 6  #3 Aircraft Identification Selector
@@ -952,88 +786,6 @@ const SUBFIELDS: [u8; 42] = [
 ];
 // ---- end of what is made
 
-// ---- the rows
-//
-// A constant array is written out where it is read; so that the last category's rows cost the others nothing, the long tables are in two.
-
-fn field_word(place: usize) -> u16
-    requires { place < field_count }
-    ensures { result ≡ get_or field_words place 0 }
-{
-    if place < FIELDS_CUT {
-        return FIELDS[place];
-    }
-    LAST_FIELDS[place - FIELDS_CUT]
-}
-
-fn least_at(place: usize) -> i64
-    requires { place < range_count }
-    ensures { result ≡ get_or least place (pos 0) }
-{
-    LEAST[place]
-}
-
-fn greatest_at(place: usize) -> i64
-    requires { place < range_count }
-    ensures { result ≡ get_or greatest place (pos 0) }
-{
-    GREATEST[place]
-}
-
-fn group_word(place: usize) -> u32
-    requires { place < group_count }
-    ensures { result ≡ get_or group_words place 0 }
-{
-    if place < GROUPS_CUT {
-        return GROUPS[place];
-    }
-    LAST_GROUPS[place - GROUPS_CUT]
-}
-
-fn layout_word(place: usize) -> u32
-    requires { place < layout_count }
-    ensures { result ≡ get_or layout_words place 0 }
-{
-    if place < LAYOUTS_CUT {
-        return LAYOUTS[place];
-    }
-    LAST_LAYOUTS[place - LAYOUTS_CUT]
-}
-
-fn layout_in(place: usize) -> u8
-    requires { place < place_count }
-    ensures { result ≡ get_or layouts_in place 0 }
-{
-    if place < PLACES_CUT {
-        return PLACES[place];
-    }
-    LAST_PLACES[place - PLACES_CUT]
-}
-
-fn reference_in(place: usize) -> u16
-    requires { place < place_count }
-    ensures { result ≡ get_or references_in place 0 }
-{
-    if place < REFERENCES_CUT {
-        return REFERENCES[place];
-    }
-    LAST_REFERENCES[place - REFERENCES_CUT]
-}
-
-fn primary_in(place: usize) -> u8
-    requires { place < primary_count }
-    ensures { result ≡ get_or primaries_in place 0 }
-{
-    PRIMARIES[place]
-}
-
-fn subfield_in(place: usize) -> u8
-    requires { place < subfield_count }
-    ensures { result ≡ get_or subfields_in place 0 }
-{
-    SUBFIELDS[place]
-}
-
 // ---- the digits that say a kind
 
 fn holds_of(digit: u16) -> Holds
@@ -1061,17 +813,26 @@ fn kind_of(digit: u32) -> Kind
     }
 }
 
+// ---- the rows
+
+fn range_at(place: usize) -> Range
+    requires { place < range_count }
+    ensures { result ≡ get_or range_rows place (pos 0, pos 0) }
+{
+    RANGES[place]
+}
+
 pub fn field_at(place: usize) -> FieldRow
     requires { place < field_count }
     ensures { result ≡ field_at place }
 {
-    let w = field_word(place);
-    let range = (w % 100) as usize;
+    let w = FIELDS[place];
+    let Range(least, greatest) = range_at((w % 100) as usize);
     FieldRow {
         bits: (w / 1000) as u64,
         holds: holds_of(w / 100 % 10),
-        least: least_at(range),
-        greatest: greatest_at(range),
+        least,
+        greatest,
     }
 }
 
@@ -1079,11 +840,11 @@ pub fn group_at(place: usize) -> GroupRow
     requires { place < group_count }
     ensures { result ≡ group_at place }
 {
-    let w = group_word(place);
+    let w = GROUPS[place];
     let first = (w / 100_000 % 1_000) as usize;
     GroupRow {
         octets: (w / 100_000_000) as usize,
-        first: first,
+        first,
         end: first + (w / 1_000 % 100) as usize,
         values: (w / 10 % 100) as usize,
         free: w % 10 == 1,
@@ -1094,13 +855,13 @@ pub fn layout_at(place: usize) -> LayoutRow
     requires { place < layout_count }
     ensures { result ≡ layout_at place }
 {
-    let w = layout_word(place);
+    let w = LAYOUTS[place];
     let first = (w / 10 % 1_000) as usize;
     LayoutRow {
         kind: kind_of(w / 100_000_000),
         least: (w / 10_000_000 % 10) as usize,
         most: (w / 10_000 % 1_000) as usize,
-        first: first,
+        first,
         end: first + (w % 10) as usize,
     }
 }
@@ -1110,7 +871,7 @@ pub fn layout_row(place: usize) -> usize
     requires { place < place_count }
     ensures { result ≡ (place_row_at place).layout }
 {
-    layout_in(place) as usize
+    PLACES[place].0 as usize
 }
 
 // The bits of a primary octet that have a subfield, FX apart.
@@ -1118,7 +879,7 @@ pub fn primary_at(place: usize) -> u8
     requires { place < primary_count }
     ensures { result ≡ primary_at place }
 {
-    primary_in(place)
+    PRIMARIES[place]
 }
 
 // The place of the layout of a subfield, 0 where a bit has none.
@@ -1126,15 +887,16 @@ pub fn subfield_at(place: usize) -> usize
     requires { place < subfield_count }
     ensures { (result ≡ subfield_at place) × (result < layout_count) }
 {
-    subfield_in(place) as usize
+    SUBFIELDS[place] as usize
 }
 
 pub fn place_at(place: usize) -> PlaceRow
     requires { place < place_count }
     ensures { result ≡ place_row_at place }
 {
+    let row = PLACES[place];
     PlaceRow {
-        layout: layout_in(place) as usize,
-        reference: reference_in(place),
+        layout: row.0 as usize,
+        reference: row.1,
     }
 }

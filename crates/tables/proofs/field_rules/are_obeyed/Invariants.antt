@@ -1,10 +1,6 @@
--- What the loop keeps, and how much is left.
-use Prim.Native.Nat.{◌-◌}
+-- What the loop keeps.
 use Rattle.tables.proofs.RuleLaws.{Asking}
 use Rattle.tables.proofs.field_rules.are_obeyed.Given as goal
 
 abbrev pub invariant-loop-i : goal.invariant-loop-i
 invariant-loop-i l = Asking l.first l.end l.n l.i
-
-abbrev pub decreases-loop-i : goal.decreases-loop-i
-decreases-loop-i l = l.end - l.i

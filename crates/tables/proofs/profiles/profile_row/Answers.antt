@@ -1,4 +1,4 @@
--- `tables::profiles::profile_row` meets its contract: each column is the one that the rules' categories give. Assumes nothing.
+-- `tables::profiles::profile_row` meets its contract: each row is the one that the rules' categories give. Assumes nothing.
 use mathlib.Core.Path.{refl}
 use Rattle.rules.specs.Answer.{when◌then◌else◌}
 use Rattle.rules.specs.Presence.{number}

@@ -1,7 +1,10 @@
--- `tables::tables::layout_row` meets its contract. Assumes nothing.
-use mathlib.Core.Path.{◌∙◌}
-use Rattle.tables.proofs.TableLaws.{layout_in}
+-- `tables::tables::layout_row` meets its contract: the code's table is, row by row, the one that the rules' profiles give. Assumes nothing.
+use mathlib.Core.Path.{ap}
+use Rattle.rules.specs.Catalogue.{categories}
+use Rattle.tables.specs.Tables.{place_pairs}
+use Rattle.tables.proofs.TableLaws.{place_pair_lem}
 use Rattle.tables.proofs.tables.layout_row.Goals as goal
 
 pub returns : goal.returns
-returns c = c.layout_in.ensures ∙ layout_in c.args.place
+unfolding place_pairs categories
+returns c = ap (λ p. p.0) (place_pair_lem c.args.place)

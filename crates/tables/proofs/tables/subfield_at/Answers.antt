@@ -1,10 +1,15 @@
--- `tables::tables::subfield_at` meets its contract. Assumes nothing.
-use mathlib.Core.Path.{sym, subst}
-use Prim.Native.Nat.{◌<◌}
-use Rattle.tables.specs.Tables.{layout_count, subfield_at}
+-- `tables::tables::subfield_at` meets its contract: the code's table is, row by row, the one that the rules' profiles give. Assumes nothing.
+use mathlib.Core.Path.{refl}
+use borrow.Author.Rules.{rules}
+use Rattle.rules.specs.Catalogue.{categories}
+use Rattle.tables.specs.Tables.{subfields_in, subfield_at, layouts}
 use Rattle.tables.proofs.TableLaws.{subfield_row}
 use Rattle.tables.proofs.tables.subfield_at.Goals as goal
 
+pub bounds-place : goal.bounds-place
+unfolding subfields_in layouts categories
+bounds-place c = search rules
+
 pub returns : goal.returns
-unfolding subfield_at
-returns c = (c.subfield_in.ensures, subst (λ n. n < layout_count) (sym c.subfield_in.ensures) (subfield_row c.args.place))
+unfolding subfield_at subfields_in layouts categories
+returns c = (refl, subfield_row c.args.place)
