@@ -1,7 +1,7 @@
 -- Octets and the number that they make.
 --
 -- In order: octets of a slice; one octet more; the loop that gathers them; how large the number is; its lowest bit. Assumes nothing.
-use Prim.Native.Nat.{ℕ, zero, suc, ◌+◌, ◌*◌, ◌<◌, ◌≤◌, ◌^◌}
+use Prim.Native.Nat.{ℕ, zero, suc, ◌+◌, ◌-◌, ◌*◌, ◌<◌, ◌≤◌, ◌^◌}
 use mathlib.Core.Path.{◌≡◌, refl, sym, ap, ◌∙◌, subst}
 use mathlib.Core.List.{List, [], ◌∷◌, ◌++◌}
 use native.Mathlib.Omega.{arith}
@@ -10,7 +10,7 @@ use native.Mathlib.Numerals.{add-one}
 use lib.Arith.{digits_lt}
 use lib.Dec.{lit<}
 use lib.ListN.{length, get_or, take, drop, length-append, length-drop}
-use lib.Seq.{take-suc, get_or-drop}
+use lib.Seq.{take-suc, length-take-le}
 use lib.Pow.{pow_pos, pow-add, pow_mono}
 use Rattle.rules.specs.Chain.{joined}
 use Rattle.rules.proofs.AnswerLaws.{Octets}
@@ -40,13 +40,13 @@ joined_nil = refl
 pub pow8 : (i : ℕ) → 2 ^ (8 * (i + 1)) ≡ 2 ^ (8 * i) * 256
 pow8 i = ap (λ (x : ℕ). 2 ^ x) (omega arith) ∙ pow-add 2 (8 * i) 8
 
-pub record Gathering (s : List ℕ) (at size n i : ℕ) : Type 0 where
-  pub le : i ≤ size
+pub record Gathering (s : List ℕ) (n i : ℕ) : Type 0 where
+  pub le : i ≤ length s
   pub small : n < 2 ^ (8 * i)
-  pub same : n ≡ joined (take i (drop at s))
+  pub same : n ≡ joined (take i s)
 
-pub begun : (s : List ℕ) (at size : ℕ) → Gathering s at size 0 0
-begun s at size = record { le = omega arith; small = pow_pos 0; same = sym joined_nil }
+pub begun : (s : List ℕ) → Gathering s 0 0
+begun s = record { le = omega arith; small = pow_pos 0; same = sym joined_nil }
 
 more_small : (n i b : ℕ) → n < 2 ^ (8 * i) → b < 256 → n * 256 + b < 2 ^ (8 * (i + 1))
 more_small n i b h k = subst (λ (x : ℕ). n * 256 + b < x) (sym (pow8 i)) (digits_lt h k)
@@ -57,20 +57,31 @@ more_fits n i b l h k = lt_of_lt_of_le (more_small n i b h k) (pow_mono {j = 64}
 pub times_fits : (n i : ℕ) → n < 2 ^ (8 * i) → i < 8 → n * 256 < 2 ^ 64
 times_fits n i h k = omega (arith, more_fits n i 0 k h (lit< tt))
 
-pub gathered : (s : List ℕ) (at size n i b : ℕ) → Gathering s at size n i → i < size → at + size ≤ length s → (b ≡ get_or s (at + i) 0) × (b < 256)
-    → Gathering s at size (n * 256 + b) (i + 1)
-gathered s at size n i b g h k eb =
-    let l : i < length (drop at s) = omega (arith, length-drop at s) in
+pub gathered : (s : List ℕ) (n i b : ℕ) → Gathering s n i → i < length s → (b ≡ get_or s i 0) × (b < 256) → Gathering s (n * 256 + b) (i + 1)
+gathered s n i b g h eb =
     record {
       le = omega arith;
       small = more_small n i b g.small eb.1;
-      same = rw (add-one i, joined_suc (drop at s) i l, g.same, eb.0, get_or-drop at s i 0);
+      same = rw (add-one i, joined_suc s i h, g.same, eb.0);
     }
 
-pub all_read : (s : List ℕ) (at size n i : ℕ) → Gathering s at size n i → size ≤ i → (n ≡ joined (take size (drop at s))) × (n < 2 ^ (8 * size))
-all_read s at size n i g h =
-    let e : i ≡ size = omega (arith, g.le) in
-    (subst (λ (x : ℕ). n ≡ joined (take x (drop at s))) e g.same, subst (λ (x : ℕ). n < 2 ^ (8 * x)) e g.small)
+pub all_read : (s : List ℕ) (n i : ℕ) → Gathering s n i → length s ≤ i → (n ≡ joined s) × (n < 2 ^ (8 * length s))
+all_read s n i g h =
+    let e : i ≡ length s = omega (arith, g.le) in
+    (g.same ∙ ap joined (ap (λ k. take k s) e ∙ take_length s), subst (λ (x : ℕ). n < 2 ^ (8 * x)) e g.small)
+  where
+    take_length : (xs : List ℕ) → take (length xs) xs ≡ xs
+    take_length [] = refl
+    take_length (x ∷ xs) = ap (λ l. x ∷ l) (take_length xs)
+
+-- octets cut out by their start and their end
+pub cut_number : (s : List ℕ) (at m : ℕ) {n : ℕ} → n ≡ joined (take (at + m - at) (drop at s)) → n ≡ joined (take m (drop at s))
+cut_number s at m e = e ∙ ap (λ k. joined (take k (drop at s))) (let z : at + m - at ≡ m = omega arith in z)
+
+pub cut_long : (s : List ℕ) (at m : ℕ) → at + m ≤ length s → length (take (at + m - at) (drop at s)) ≡ m
+cut_long s at m h =
+    let z : at + m - at ≡ m = omega arith in
+    rw z (length-take-le m (drop at s) (omega (arith, length-drop at s)))
 
 -- ---- how large the number is
 

@@ -1,6 +1,6 @@
 -- The reading rule of an item as the code follows it, over the rows of the tables: first its shape, how many parts it has and how many octets
 -- it takes; then its parts, one after another. `proofs/ReadLaws` has that these are the rules' `read_plain`. Assumes nothing.
-use Rattle.std.specs.Prelude.{ℕ, zero, suc, ◌+◌, ◌-◌, ◌*◌, ◌/◌, ◌%◌, ◌^◌, ◌≡◌, ◌≤◌, Result, Bool, true, false, cond, ◌&&◌, List, [], ◌∷◌, map, leb, ltb, eqb, ℤ, pos, negsuc, length, take, drop, get_or}
+use Rattle.std.specs.Prelude.{ℕ, zero, suc, ◌+◌, ◌-◌, ◌*◌, ◌/◌, ◌%◌, ◌^◌, ◌≡◌, ◌≤◌, ◌<◌, Result, Bool, true, false, cond, ◌&&◌, List, [], ◌∷◌, map, leb, ltb, eqb, ℤ, pos, negsuc, length, take, drop, get_or}
 use Rattle.std.specs.Int.Signed.{le_z}
 use Rattle.std.proofs.Math.Seq.{slice}
 use Rattle.rules.specs.Answer.{Answer, ok, refused, ◌>>=◌, need◌or◌then◌, when◌then◌else◌, Read}
@@ -124,6 +124,10 @@ run_values r bs = flatten (part_values r.step r.group r.count (drop r.at bs))
 
 abbrev pub run_sound : Run → List ℕ → Type 0
 run_sound r bs = (r.step ≤ 1) × (parts_sound r.step r.group r.count ≡ true) × (r.at + span r.step r.group r.count ≤ length bs)
+
+-- the same of its first part
+abbrev pub first_sound : Run → List ℕ → Type 0
+first_sound r bs = (r.step ≤ 1) × (r.group < group_count) × (part_sound r.step (group_at r.group) ≡ true) × (r.at + (group_at r.group).octets ≤ length bs)
 
 -- the parts after the first
 abbrev pub run_rest : Run → Run

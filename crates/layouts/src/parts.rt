@@ -2,7 +2,7 @@
 ghost use Rattle.std.specs.Prelude.{◌≡◌, true, ◌+◌, ◌-◌, ◌*◌, ◌%◌, ◌≤◌, ◌<◌, ◌^◌, length, take, drop, eqb};
 ghost use Rattle.std.proofs.lemmas.List.Edits.{sets};
 ghost use Rattle.rules.specs.Chain.{joined, flatten};
-ghost use Rattle.layouts.specs.Read.{rows_at, part_at, legal, span, part_sound, parts_sound, values, count, holds, part_values, run_legal, run_fault, run_sound, run_rest, run_values, run_holds, shape_is, begun_is, chain, list_shape, head_of, step_of, run_of, shape_of, whole_of, row_sound};
+ghost use Rattle.layouts.specs.Read.{rows_at, part_at, legal, span, parts_sound, values, count, holds, part_values, run_legal, run_fault, run_sound, first_sound, run_rest, run_values, run_holds, shape_is, begun_is, chain, list_shape, head_of, step_of, run_of, shape_of, whole_of, row_sound};
 ghost use Rattle.tables.specs.Tables.{group_count, group_at};
 ghost use Rattle.tables.specs.declared.tables.Kind.TheVariants.{Repeated};
 
@@ -12,13 +12,13 @@ use rules::{Fault, Refusal};
 use tables::{Kind, LayoutRow, are_obeyed, first_rule, group_at, is_free, size_at};
 
 // The number of some octets, high octet first.
-fn number_at(s: &[u8], at: usize, size: usize) -> u64
-    requires { (size ≤ 8) × (at + size ≤ length s.now) }
-    ensures { (result ≡ joined (take size (drop at s.now))) × (result < 2 ^ (8 * size)) }
+fn number_of(octets: &[u8]) -> u64
+    requires { length octets.now ≤ 8 }
+    ensures { (result ≡ joined octets.now) × (result < 2 ^ (8 * length octets.now)) }
 {
     let mut n: u64 = 0;
-    for i in 0..size {
-        n = n * 256 + wide(s[at + i]);
+    for x in octets {
+        n = n * 256 + wide(*x);
     }
     n
 }
@@ -63,7 +63,7 @@ impl Run {
 
     // Whether the fields of the first part are legal: those that have a rule obey it.
     pub fn first_legal(self, s: &[u8]) -> bool
-        requires { (self.step ≤ 1) × (self.group < group_count) × (part_sound self.step (group_at self.group) ≡ true) × (self.at + (group_at self.group).octets ≤ length s.now) }
+        requires { first_sound self s.now }
         ensures { result ≡ legal (rows_at self.group) (part_at self.step self.group (drop self.at s.now)) }
     {
         let first = first_rule(self.group);
@@ -71,7 +71,8 @@ impl Run {
         if end <= first {
             return true;
         }
-        let number = number_at(s, self.at, size_at(self.group));
+        let size = size_at(self.group);
+        let number = number_of(&s[self.at..self.at + size]);
         are_obeyed(number >> self.step, first, end)
     }
 
@@ -101,15 +102,15 @@ impl Run {
 
     // The values of the first part, from a place of the output on; the place after them.
     fn first_store(self, s: &[u8], out: &mut [i64; 8192], start: usize) -> usize
-        requires step_bound { (self.step ≤ 1) × (self.group < group_count) × (part_sound self.step (group_at self.group) ≡ true) × (self.at + (group_at self.group).octets ≤ length s.now) }
+        requires step_bound { first_sound self s.now }
         requires group_bound { start + count (rows_at self.group) ≤ 8_192 }
         ensures { (result ≡ start + count (rows_at self.group)) × (out.new ≡ sets out.old start (values (rows_at self.group) (part_at self.step self.group (drop self.at s.now)))) }
     {
         let r = group_at(self.group);
         let size = r.octets;
         let w = 8 * size - self.step;
-        let n = number_at(s, self.at, size) >> self.step;
-        fields_store(n, w as u64, r.first, r.end, out, start)
+        let number = number_of(&s[self.at..self.at + size]);
+        fields_store(number >> self.step, w as u64, r.first, r.end, out, start)
     }
 
     // The values of every part.
