@@ -1,13 +1,13 @@
 -- What holds of flags as numbers, and so of a set of FRNs as the code holds it.
 --
 -- In order: flags end to end; flags over none; a set of flags from FRN 1 on; one set within another; one flag of a number; a set with one FRN
--- more; the first FRN of a set. Assumes nothing.
+-- more; the first FRN of a set; all of them. Assumes nothing.
 use Prim.Native.Nat.{ℕ, zero, suc, ◌+◌, ◌-◌, ◌*◌, ◌/◌, ◌%◌, ◌^◌, ◌≤◌, ◌<◌, min}
 use mathlib.Core.Path.{◌≡◌, refl, sym, ap, ap₂, ◌∙◌, subst}
 use mathlib.Core.Bool.{Bool, true, false, ◌&&◌}
 use mathlib.Core.List.{List, [], ◌∷◌, ◌++◌}
 use native.Mathlib.Omega.{arith}
-use native.Mathlib.Nat.{zero-add, suc-sub-suc, sub-zero, mod-lt, mod-eq_of_lt, mod-eq-sub-mod, pow-suc, div-eq_of_lt, add_left_cancel, suc-add, le-div_iff_mul-le, div-lt_iff_lt-mul}
+use native.Mathlib.Nat.{add-zero, zero-add, suc-sub-suc, sub-zero, mod-lt, mod-eq_of_lt, mod-eq-sub-mod, pow-suc, div-eq_of_lt, add_left_cancel, suc-add, le-div_iff_mul-le, div-lt_iff_lt-mul}
 use lib.Count.{count_leading_zeros, leading_top}
 use lib.Pow.{pow_pos, pow_mono, pow-add, split, high, field, mod-mod-pow}
 use lib.Dec.{leb, eqb}
@@ -19,7 +19,7 @@ use Rattle.rules.specs.Presence.{flags, number}
 use Rattle.rules.specs.Entry.{over}
 use Rattle.rules.proofs.EntryLaws.{length_over}
 use Rattle.rules.proofs.PresenceLaws.{flags_length, number_lt, flags_number, number_flags}
-use Rattle.sets.specs.Sets.{bits_of, within}
+use Rattle.sets.specs.Sets.{bits_of, frns_from, frns_of, within}
 
 -- ---- flags end to end
 
@@ -284,3 +284,55 @@ module _ (left f : ℕ) (t : First left f) where
   first_flags =
       let m : left % 2 ^ (63 - f) ≡ left - 2 ^ (63 - f) = mod-eq-sub-mod t.there ∙ mod-eq_of_lt first_rest in
       rw (one_less, le-leb (2 ^ (63 - f)) left t.there, m)
+
+-- ---- the FRNs of a set
+
+-- those before the first bit that can be set are not there
+pub frns_skip : (j m f left : ℕ) → left < 2 ^ m → frns_from f (flags (j + m) left) ≡ frns_from (f + j) (flags m left)
+unfolding flags
+frns_skip zero m f left h = ap₂ (λ x y. frns_from y (flags x left)) (zero-add m) (sym (add-zero f))
+frns_skip (suc j) m f left h =
+    let k : left < 2 ^ (j + m) = (let p : 2 ^ m ≤ 2 ^ (j + m) = pow_mono (omega arith) in omega arith) in
+    let e : suc j + m ≡ suc (j + m) = omega arith in
+    let g : suc f + j ≡ f + suc j = omega arith in
+    ap (λ x. frns_from f (flags x left)) e
+    ∙ rw (lt-leb (2 ^ (j + m)) left k, mod-eq_of_lt k) (frns_skip j m (suc f) left h)
+    ∙ ap (λ x. frns_from x (flags m left)) g
+
+pub frns_none : frns_of 0 ≡ []
+unfolding frns_of flags
+frns_none = refl
+
+pub frns_next : (left : ℕ) → (left ≡ 0 → ⊥) → left < 2 ^ 64 → frns_of left ≡ count_leading_zeros 64 left ∷ frns_of (left - 2 ^ (63 - count_leading_zeros 64 left))
+unfolding frns_of
+frns_next left some below =
+    let f : ℕ = count_leading_zeros 64 left in
+    let t : First left f = first left some below in
+    let others : ℕ = left - 2 ^ (63 - f) in
+    let a : f + (64 - f) ≡ 64 = omega (arith, t.few) in
+    let b : suc f + (63 - f) ≡ 64 = omega (arith, t.few) in
+    let g : 0 + f ≡ f = omega arith in
+    let h : 0 + suc f ≡ suc f = omega arith in
+    ap (λ n. frns_from 0 (flags n left)) (sym a)
+    ∙ frns_skip f (64 - f) 0 left t.none_before
+    ∙ ap₂ frns_from g (first_flags left f t)
+    ∙ ap (λ l. f ∷ l) (ap (λ n. frns_from n (flags (63 - f) others)) (sym h) ∙ sym (frns_skip (suc f) (63 - f) 0 others (first_rest left f t)) ∙ ap (λ n. frns_from 0 (flags n others)) b)
+
+-- a set is told by its FRNs
+frns_low : (x g : ℕ) (ts : List Bool) (xs : List ℕ) → x < g → frns_from g ts ≡ x ∷ xs → ⊥
+frns_low x g [] xs h e = cc
+frns_low x g (false ∷ ts) xs h e = frns_low x (suc g) ts xs (omega arith) e
+frns_low x g (true ∷ ts) xs h e = let z : g ≡ x = cc in absurd (omega arith)
+
+frns_told : (f : ℕ) (ts us : List Bool) → length ts ≡ length us → frns_from f ts ≡ frns_from f us → ts ≡ us
+frns_told f [] [] h e = refl
+frns_told f [] (u ∷ us) h e = absurd (omega arith)
+frns_told f (t ∷ ts) [] h e = absurd (omega arith)
+frns_told f (false ∷ ts) (false ∷ us) h e = ap (λ l. false ∷ l) (frns_told (suc f) ts us (omega arith) e)
+frns_told f (true ∷ ts) (true ∷ us) h e = ap (λ l. true ∷ l) (frns_told (suc f) ts us (omega arith) (cc))
+frns_told f (false ∷ ts) (true ∷ us) h e = absurd (frns_low f (suc f) ts _ (omega arith) e)
+frns_told f (true ∷ ts) (false ∷ us) h e = absurd (frns_low f (suc f) us _ (omega arith) (sym e))
+
+pub frns_same : (a b : ℕ) → a < 2 ^ 64 → b < 2 ^ 64 → frns_of a ≡ frns_of b → a ≡ b
+unfolding frns_of
+frns_same a b h j e = flags_same 64 a b h j (frns_told 0 (flags 64 a) (flags 64 b) (flags_length 64 a ∙ sym (flags_length 64 b)) e)

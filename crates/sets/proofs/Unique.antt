@@ -1,21 +1,24 @@
 -- For each function that another crate can call, no two distinct results meet its statement.
 --
--- In order: answers that are numbers or tests; a set; an FSPEC; a judgement. Assumes nothing.
+-- In order: answers that are numbers or tests; a set; its FRNs; an FSPEC; a judgement. Assumes nothing.
 use Prim.Native.Nat.{ℕ, ◌-◌, ◌^◌, ◌<◌, ◌≤◌, min}
-use mathlib.Core.Path.{◌≡◌, sym, ap, ap₂, ◌∙◌}
+use mathlib.Core.Path.{◌≡◌, refl, sym, ap, ap₂, ◌∙◌}
 use mathlib.Core.Bool.{Bool, true, false}
 use mathlib.Core.List.{List}
+use native.Mathlib.Omega.{arith}
 use lib.ListN.{length, get_or, set, replicate}
-use Rattle.std.specs.Prelude.{Result}
+use Rattle.std.specs.Prelude.{Option, Some, None, Result}
+use Rattle.std.specs.Iterator.{YieldsFirst}
 use Rattle.rules.specs.Presence.{flags}
 use Rattle.rules.specs.declared.faults.Fault.{Fault}
 use Rattle.rules.proofs.ToldLaws.{one_begun_as}
 use Rattle.sets.specs.declared.ItemSet.{ItemSet}
 use Rattle.sets.specs.declared.Fspec.{Fspec}
-use Rattle.sets.specs.Sets.{within, set_at, fspec_at}
+use Rattle.sets.specs.declared.Frns.{Frns}
+use Rattle.sets.specs.Sets.{within, frns_of, set_at, fspec_at}
 use Rattle.sets.specs.Steps.{usable_bits, type_frn, judge_set, rows_left}
 use Rattle.sets.specs.Answers.{set_of, judged_of}
-use Rattle.sets.proofs.FlagLaws.{flags_same}
+use Rattle.sets.proofs.FlagLaws.{flags_same, frns_same}
 
 -- ---- numbers and tests
 
@@ -60,6 +63,22 @@ pub one_with : (self : ItemSet) (frn : ℕ) (a b : ItemSet)
     → a.bits < 2 ^ 64 → b.bits < 2 ^ 64 → flags 64 a.bits ≡ set (flags 64 self.bits) (min frn 63) true
     → flags 64 b.bits ≡ set (flags 64 self.bits) (min frn 63) true → a ≡ b
 one_with self frn a b f g p q = same_set_lem a b (flags_same 64 a.bits b.bits f g (p ∙ sym q))
+
+-- ---- the FRNs of a set
+
+pub one_frns : (self : ItemSet) (a b : Frns) → a.left ≡ self → b.left ≡ self → a ≡ b
+one_frns self a b p q = ap (λ s. record { left = s }) (p ∙ sym q)
+
+same_frns : (a b : Frns) → a.left.bits < 2 ^ 64 → b.left.bits < 2 ^ 64 → frns_of a.left.bits ≡ frns_of b.left.bits → a ≡ b
+same_frns a b f g e = ap (λ s. record { left = s }) (same_set_lem a.left b.left (frns_same a.left.bits b.left.bits f g e))
+
+pub one_next : (old : Frns) (r s : Option ℕ) (a b : Frns)
+    → a.left.bits < 2 ^ 64 → b.left.bits < 2 ^ 64 → YieldsFirst (λ s. frns_of s.left.bits) old r a
+    → YieldsFirst (λ s. frns_of s.left.bits) old s b → (r ≡ s) × (a ≡ b)
+one_next old None None a b f g p q = (refl, same_frns a b f g (p.1 ∙ sym q.1))
+one_next old None (Some y) a b f g p q = let z : ◌≡◌ {A = ℕ} 0 1 = cc in absurd (omega arith)
+one_next old (Some x) None a b f g p q = let z : ◌≡◌ {A = ℕ} 0 1 = cc in absurd (omega arith)
+one_next old (Some x) (Some y) a b f g p q = let e : x ≡ y = cc in let h : frns_of a.left.bits ≡ frns_of b.left.bits = cc in (ap Some e, same_frns a b f g h)
 
 -- ---- an FSPEC
 

@@ -5,8 +5,9 @@
 mod messages;
 
 ghost use Rattle.std.specs.Prelude.{◌≡◌, true, false, ◌+◌, ◌-◌, ◌*◌, ◌/◌, ◌^◌, ◌<◌, ◌≤◌, min, length, get_or, set, replicate};
+ghost use Rattle.std.specs.Iterator.{YieldsFirst, item_count};
 ghost use Rattle.rules.specs.Presence.{flags};
-ghost use Rattle.sets.specs.Sets.{category_at, within, set_at, fspec_at};
+ghost use Rattle.sets.specs.Sets.{category_at, within, frns_of, set_at, fspec_at};
 ghost use Rattle.sets.specs.Steps.{usable_bits, ended, type_frn, judge_set, rows_left};
 ghost use Rattle.sets.specs.Answers.{set_of, judged_of};
 
@@ -93,6 +94,13 @@ impl ItemSet {
         }
     }
 
+    // Its FRNs, the lowest first.
+    pub fn frns(self) -> Frns
+        ensures { result.left ≡ self }
+    {
+        Frns { left: self }
+    }
+
     // Whether another set has every item of this one.
     pub fn is_within(self, other: ItemSet) -> bool
         ensures { result ≡ within (flags 64 self.bits) (flags 64 other.bits) }
@@ -133,6 +141,31 @@ impl ItemSet {
             }
         }
         Err(Fault::FxPastEnd)
+    }
+}
+
+// ---- the FRNs of a set
+
+// Those that are still to come.
+#[derive(Clone, Copy, Debug, PartialEq, Eq)]
+pub struct Frns {
+    pub left: ItemSet,
+}
+
+impl Iterator for Frns {
+    type Item = usize;
+
+    ghost next_gives = { YieldsFirst (λ s. frns_of s.left.bits) };
+
+    ghost remaining = { item_count (λ s. frns_of s.left.bits) };
+
+    fn next(&mut self) -> Option<usize> {
+        if self.left == ItemSet::EMPTY {
+            return None;
+        }
+        let frn = self.left.bits.leading_zeros() as usize;
+        self.left.bits -= weight(frn);
+        Some(frn)
     }
 }
 
