@@ -13,7 +13,7 @@ use lib.Seq.{drop_at}
 use mir.Syntax.{w8}
 use mir.Val.{Fits}
 use Rattle.std.specs.Prelude.{Result, Ok, Err, MatchResult, IsErrAnd}
-use Rattle.rules.specs.Told.{number_of, refusal_of}
+use Rattle.rules.specs.Told.{number_of}
 use Rattle.rules.specs.declared.faults.Fault.{Fault}
 use Rattle.rules.specs.declared.faults.Refusal.{Refusal}
 use Rattle.rules.specs.Answer.{Answer, ok, refused, octets_of}
@@ -172,10 +172,6 @@ record_read i k bs m o h =
     some_octet r rest (x ∷ out) w a = omega arith
 
 -- ---- the steps of checking a record: what each function answered, in the rules' terms
-
--- a refusal by its fault and its place
-pub told_at : {A : Type 0} {r : Refusal} {e : Fault} {p : ℕ} → r.fault ≡ e → r.place ≡ p → refusal_of {A = A} r ≡ refused (number_of e) p
-told_at f p = ap₂ (λ x y. refused (number_of x) y) f p
 
 -- what an answer was whose fault alone was said anew
 pub ok_of : {A E D : Type 0} (Q : E → D → Type 0) (x : Result A E) (y : Result A D) → MatchResult x (λ a. y ≡ Ok a) (λ e. IsErrAnd y (Q e)) → (a : A) → y ≡ Ok a → x ≡ Ok a

@@ -12,7 +12,7 @@ ghost use Rattle.records.specs.Answers.{came_of, begun, absent, end_of, Walked, 
 use items::check_item;
 use quick_items::Steps;
 use rules::{Fault, Refusal};
-use sets::{Fspec, ItemSet, judge, octets_of, type_frn, usable, weight};
+use sets::{Fspec, ItemSet, judge, octets_of, type_frn, usable};
 
 // ---- the items, and the record map
 
@@ -76,11 +76,9 @@ fn walk_items(
     ensures { came_of result map.new ≡ walk profile (flags 63 set.bits) 1 part.now (start_at map.old.end) }
 {
     let of = type_frn(profile);
-    let mut left = set.bits;
     let mut rest = part;
     let mut kind: u8 = 0;
-    while left != 0 {
-        let frn = left.leading_zeros() as usize;
+    for frn in set.frns() {
         let item = item_check(t, profile, frn, rest);
         let Ok(n) = item else {
             return Err(item.unwrap_err().later(map.end));
@@ -90,7 +88,6 @@ fn walk_items(
         rest = &rest[n..];
         map.end += n;
         map.count += 1;
-        left -= weight(frn);
     }
     Ok(kind)
 }

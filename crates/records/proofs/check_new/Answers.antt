@@ -5,19 +5,18 @@ use mathlib.Core.Bool.{not}
 use native.Mathlib.Omega.{arith}
 use borrow.Author.Rules.{rules}
 use borrow.Author.Tests.{eqb-true, eqb-false}
-use Rattle.std.proofs.lemmas.Result.{err_from_is_err_and}
+use Rattle.rules.proofs.ToldLaws.{refused_as, begun, handed}
 use Rattle.rules.specs.Presence.{flags}
 use Rattle.sets.proofs.FspecLaws.{set_low, set_within}
 use Rattle.records.specs.Walk.{walk, start_at}
 use Rattle.records.specs.Answers.{came_of}
-use Rattle.records.proofs.RecordLaws.{told_at}
 use Rattle.records.proofs.NewLaws.{new_empty, new_barred, new_stop, new_more, new_judged, new_whole}
 use Rattle.records.proofs.check_new.Goals as goal
 use Rattle.records.proofs.check_new.Goals.{After-walk_items, Else-eq, Else-not-is_within}
 
 -- the set is empty
 pub returns-then-eq : goal.returns-then-eq
-returns-then-eq c = told_at c.at.ensures.is c.at.ensures.place ∙ new_empty _ _ _ c.type_inv.items (search rules) (eqb-true _ _ (sym c.eq.ensures ∙ c.if-eq.true))
+returns-then-eq c = refused_as _ _ _ c.at.ensures.is c.at.ensures.place ∙ new_empty _ _ _ c.type_inv.items (search rules) (eqb-true _ _ (sym c.eq.ensures ∙ c.if-eq.true))
 
 some : (c : Else-eq) → c.args.set.bits ≡ 0 → ⊥
 some c = eqb-false _ _ (sym c.eq.ensures ∙ c.if-eq.false)
@@ -25,7 +24,7 @@ some c = eqb-false _ _ (sym c.eq.ensures ∙ c.if-eq.false)
 -- the profile lacks an FRN
 pub returns-then-not-is_within : goal.returns-then-not-is_within
 returns-then-not-is_within c =
-    told_at c.at-then-not-is_within.ensures.is c.at-then-not-is_within.ensures.place
+    refused_as _ _ _ c.at-then-not-is_within.ensures.is c.at-then-not-is_within.ensures.place
     ∙ new_barred _ _ _ c.type_inv.items (search rules) (some (goal.at.returns-then-not-is_within c).Else-eq) c.usable.ensures c.is_within.ensures (ap not c.if-not-is_within.true)
 
 low : (c : Else-not-is_within) → c.args.set.bits < 2 ^ 63
@@ -48,26 +47,23 @@ walked c = c.walk_items.ensures ∙ ap (λ m. walk c.args.profile (flags 63 c.ar
 -- an item is refused
 pub returns-in_err-kind : goal.returns-in_err-kind
 returns-in_err-kind c =
-    let p = err_from_is_err_and c.from_residual.result c.from_residual.ensures.1 in
-    rw (p.1, p.2)
-    (new_stop _ _ _ c.type_inv.items (search rules) (some (goal.at.returns-in_err-kind c).Else-eq) c.usable.ensures c.is_within.ensures (ap not c.if-not-is_within.false)
-    _ _ (walked (goal.at.returns-in_err-kind c).After-walk_items) _ c.in_err-kind.was)
+    handed _ _ c.from_residual.ensures.1
+    ∙ new_stop _ _ _ c.type_inv.items (search rules) (some (goal.at.returns-in_err-kind c).Else-eq) c.usable.ensures c.is_within.ensures (ap not c.if-not-is_within.false)
+    _ _ (walked (goal.at.returns-in_err-kind c).After-walk_items) _ c.in_err-kind.was
 
 -- octets after the last item
 pub returns-then-map-items : goal.returns-then-map-items
 returns-then-map-items c =
-    told_at c.at-then-map-items.ensures.is c.at-then-map-items.ensures.place
+    refused_as _ _ _ c.at-then-map-items.ensures.is c.at-then-map-items.ensures.place
     ∙ new_more _ _ _ c.type_inv.items (search rules) (some (goal.at.returns-then-map-items c).Else-eq) c.usable.ensures c.is_within.ensures (ap not c.if-not-is_within.false)
     _ _ (walked (goal.at.returns-then-map-items c).After-walk_items) _ c.in_ok-kind.was c.if-map-items.true
 
 -- the message type is not content
 pub returns-in_err-judge : goal.returns-in_err-judge
 returns-in_err-judge c =
-    let p = err_from_is_err_and c.from_residual-in_err-judge.result c.from_residual-in_err-judge.ensures.1 in
-    rw p.1
-    (told_at p.2.0 p.2.1
+    begun _ _ c.from_residual-in_err-judge.ensures.1
     ∙ new_judged _ _ _ c.type_inv.items (search rules) (some (goal.at.returns-in_err-judge c).Else-eq) c.usable.ensures c.is_within.ensures (ap not c.if-not-is_within.false)
-    _ _ (walked (goal.at.returns-in_err-judge c).After-walk_items) _ c.in_ok-kind.was c.if-map-items.false _ c.judge.ensures _ c.in_err-judge.was)
+    _ _ (walked (goal.at.returns-in_err-judge c).After-walk_items) _ c.in_ok-kind.was c.if-map-items.false _ c.judge.ensures _ c.in_err-judge.was
 
 -- it is whole
 pub returns : goal.returns

@@ -8,7 +8,7 @@ use Rattle.std.specs.Prelude.{Ok}
 use Rattle.rules.specs.Presence.{flags}
 use Rattle.records.specs.Walk.{walk, start_at}
 use Rattle.records.specs.Answers.{came_of}
-use Rattle.std.proofs.lemmas.Result.{err_from_is_err_and}
+use Rattle.rules.proofs.ToldLaws.{handed}
 use Rattle.rules.specs.Answer.{ok}
 use Rattle.rules.proofs.AnswerLaws.{to_end}
 use Rattle.sets.specs.Sets.{set_at}
@@ -21,9 +21,9 @@ use Rattle.records.proofs.check_record.Goals.{After-walk_items, In_ok-set}
 -- the FSPEC is refused
 pub returns-in_err-set : goal.returns-in_err-set
 returns-in_err-set c =
-    let p = err_from_is_err_and c.from_residual.result c.from_residual.ensures.1 in
     let e = err_of _ _ _ c.map_err.ensures.cases _ c.in_err-set.was in
-    rw (p.1, p.2) (step_set _ _ _ c.type_inv.part c.requires _ e.0 _ c.from_octets.ensures e.1 (let q = e.2 in search rules) (let q = e.2 in search rules))
+    handed _ _ c.from_residual.ensures.1
+    ∙ step_set _ _ _ c.type_inv.part c.requires _ e.0 _ c.from_octets.ensures e.1 (let q = e.2 in search rules) (let q = e.2 in search rules)
 
 read : (c : In_ok-set) → c.from_octets.result ≡ Ok c.in_ok-set.field-0
 read c = ok_of _ _ _ c.map_err.ensures.cases _ c.in_ok-set.was
@@ -60,19 +60,17 @@ started c = c.walk_items.ensures
 -- an item is refused
 pub returns-in_err-kind : goal.returns-in_err-kind
 returns-in_err-kind c =
-    let p = err_from_is_err_and c.from_residual-in_err-kind.result c.from_residual-in_err-kind.ensures.1 in
-    rw (p.1, p.2)
-    (step_walk _ _ _ c.type_inv.part c.requires _ _ _ c.from_octets.ensures (ap set_of (read (goal.at.returns-in_err-kind c).In_ok-set))
-    _ _ (started (goal.at.returns-in_err-kind c).After-walk_items) _ c.in_err-kind.was)
+    handed _ _ c.from_residual-in_err-kind.ensures.1
+    ∙ step_walk _ _ _ c.type_inv.part c.requires _ _ _ c.from_octets.ensures (ap set_of (read (goal.at.returns-in_err-kind c).In_ok-set))
+    _ _ (started (goal.at.returns-in_err-kind c).After-walk_items) _ c.in_err-kind.was
 
 -- the message type is not content
 pub returns-in_err-map_err : goal.returns-in_err-map_err
 returns-in_err-map_err c =
-    let p = err_from_is_err_and c.from_residual-in_err-map_err.result c.from_residual-in_err-map_err.ensures.1 in
     let e = err_of _ _ _ c.map_err-2.ensures.cases _ c.in_err-map_err.was in
-    rw (p.1, p.2)
-    (step_judge _ _ _ c.type_inv.part c.requires _ _ _ c.from_octets.ensures (ap set_of (read (goal.at.returns-in_err-map_err c).In_ok-set))
-    _ _ (started (goal.at.returns-in_err-map_err c).After-walk_items) _ c.in_ok-kind.was _ c.judge.ensures e.0 _ e.1 (let q = e.2 in search rules) (let q = e.2 in search rules))
+    handed _ _ c.from_residual-in_err-map_err.ensures.1
+    ∙ step_judge _ _ _ c.type_inv.part c.requires _ _ _ c.from_octets.ensures (ap set_of (read (goal.at.returns-in_err-map_err c).In_ok-set))
+    _ _ (started (goal.at.returns-in_err-map_err c).After-walk_items) _ c.in_ok-kind.was _ c.judge.ensures e.0 _ e.1 (let q = e.2 in search rules) (let q = e.2 in search rules)
 
 -- it is whole
 pub returns : goal.returns
