@@ -11,6 +11,8 @@ use mathlib.Core.Logic.{⊎_elim}
 use native.Mathlib.Omega.{arith}
 use native.Mathlib.Nat.{le_of_suc-le-suc, not-suc-le-zero, mul-le-mul_left, mul-zero}
 use Rattle.std.proofs.lemmas.Option.{none-some}
+use mir.Syntax.{w8}
+use mir.Val.{Fits}
 use lib.Dec.{leb, ltb, eqb, lit<, eqb-suc-zero}
 use lib.ListN.{length, get_or, take, drop, length-drop, get_or-eq_default}
 use lib.Seq.{slice, take_all}
@@ -88,6 +90,13 @@ word_sound t i k s h e d =
     subst (λ x. sound_by x t (get_or t i 0) (layout_at (place_row_at i).layout) ≡ true) (ap (λ w. w / 256 % 16) (sym e) ∙ d)
     (words_each t t (profile_rows 1 categories) i s (subst (λ x. i < x) (sym places_long) h))
 
+-- a part's octets, and the row of a place
+pub clean : (bs : List ℕ) → ((j : ℕ) → Fits w8 (get_or bs j 0)) → Octets bs
+clean bs f = octets_known bs (λ i. omega (arith, f i))
+
+pub sound_at : (k : ℕ) → row_sound (layout_at (place_row_at k).layout) ≡ true
+sound_at k = layout_sound (place_row_at k).layout (place_row_lem k)
+
 -- ---- a free item
 
 pub free_told : (l : LayoutRow) (w : ℕ) (bs : List ℕ) → row_sound l ≡ true → Octets bs → sound_free w l ≡ true → (w ≡ 0 → ⊥) → w < 8 → w ≤ length bs → whole_size l bs ≡ ok w
@@ -129,11 +138,11 @@ module _ (i f : ℕ) where
   place_is h k = sym (if_true _ (ap₂ ◌&&◌ (lt-ltb i profile_count h) (lt-ltb f frn_count k)) refl)
 
 -- what is told at a place is told of the item there, by a slice's octets
-pub at_place : (profile frn : ℕ) {p : ℕ} (r : Option ℕ) (bs : List ℕ) → Some p ≡ place_for profile frn → ((i : ℕ) → get_or bs i 0 < 256) → Plainly r (whole_size (layout_at (place_row_at p).layout) bs) → Plainly r (check_at profile frn bs)
+pub at_place : (profile frn : ℕ) {p : ℕ} (r : Option ℕ) (bs : List ℕ) → Some p ≡ place_for profile frn → ((j : ℕ) → Fits w8 (get_or bs j 0)) → Plainly r (whole_size (layout_at (place_row_at p).layout) bs) → Plainly r (check_at profile frn bs)
 at_place profile frn None bs e o h = tt
 at_place profile frn (Some n) bs e o h =
     let t = place_there profile frn e in
-    whole_check profile frn bs n t.0 t.1 (octets_known bs o) (subst (λ k. whole_size (layout_at (place_row_at k).layout) bs ≡ ok n) t.2 h)
+    whole_check profile frn bs n t.0 t.1 (clean bs o) (subst (λ k. whole_size (layout_at (place_row_at k).layout) bs ≡ ok n) t.2 h)
 
 -- ---- the first three octets of a part
 

@@ -2,7 +2,7 @@
 // many octets an item has that was checked, where its first octet tells.
 #![tactic(auto)]
 
-ghost use Rattle.std.specs.Prelude.{◌≡◌, true, ◌/◌, ◌%◌, ◌≤◌, ◌<◌, ◌^◌, length, get_or};
+ghost use Rattle.std.specs.Prelude.{◌≡◌, true, ◌/◌, ◌%◌, ◌≤◌, ◌<◌, ◌^◌, Some, None, MatchOption, length, get_or};
 ghost use Rattle.items.specs.Answers.{check_at};
 ghost use Rattle.quick_items.specs.Item.{Plainly, rule_rows, step_count, first_three, asks, asked, kind_by, place_for, sound_free, sound_ruled, sound_counted, sound_extended, sound_twice, sound_steps, exact_steps, word_for};
 ghost use Rattle.layouts.specs.Read.{whole_size};
@@ -169,15 +169,16 @@ static WORDS: [u32; HIGHS + RULES] = [
     // ---- end of what is made
 ];
 
-fn wide(x: u32) -> usize
-    ensures { result ≡ x }
-{
-    x as usize
+// A place of the tables.
+#[derive(Clone, Copy)]
+struct Place {
+    index: usize,
+    ghost known: { index < place_count },
 }
 
-// Where a profile's item at an FRN stands in the tables.
-fn place_of(profile: usize, frn: usize) -> Option<usize>
-    ensures { result ≡ place_for profile frn }
+// Where a profile's item at an FRN stands.
+fn place_of(profile: usize, frn: usize) -> Option<Place>
+    ensures { MatchOption result (None ≡ place_for profile frn) (λ place. Some place.index ≡ place_for profile frn) }
 {
     if PROFILES <= profile {
         return None;
@@ -185,7 +186,9 @@ fn place_of(profile: usize, frn: usize) -> Option<usize>
     if FRNS <= frn {
         return None;
     }
-    Some(profile * FRNS + frn)
+    Some(Place {
+        index: profile * FRNS + frn,
+    })
 }
 
 // How the parts of an item lie, by the second column of its word.
@@ -265,7 +268,7 @@ impl Steps {
         requires { at < step_count }
         ensures { result ≡ get_or self.now.words.now at 0 }
     {
-        wide(self.words[at])
+        self.words[at] as usize
     }
 
     // The word of a profile's item at an FRN, 0 where the tables have no such place.
@@ -274,7 +277,7 @@ impl Steps {
     {
         match place_of(profile, frn) {
             None => 0,
-            Some(place) => self.word_at(place),
+            Some(place) => self.word_at(place.index),
         }
     }
 
@@ -289,11 +292,11 @@ impl Steps {
     // ---- an item by the word of its place
 
     // One free part.
-    fn free_size(&self, place: usize, part: &[u8]) -> Option<usize>
-        requires { (place < place_count) × (get_or self.now.words.now place 0 < 8) × (sound_free (get_or self.now.words.now place 0) (layout_at (place_row_at place).layout) ≡ true) }
-        ensures { Plainly result (whole_size (layout_at (place_row_at place).layout) part.now) }
+    fn free_size(&self, place: Place, part: &[u8]) -> Option<usize>
+        requires { (get_or self.now.words.now place.index 0 < 8) × (sound_free (get_or self.now.words.now place.index 0) (layout_at (place_row_at place.index).layout) ≡ true) }
+        ensures { Plainly result (whole_size (layout_at (place_row_at place.index).layout) part.now) }
     {
-        let size = self.word_at(place);
+        let size = self.word_at(place.index);
         if size == 0 {
             return None;
         }
@@ -304,11 +307,11 @@ impl Steps {
     }
 
     // One part with a rule.
-    fn ruled_size(&self, place: usize, part: &[u8]) -> Option<usize>
-        requires { (place < place_count) × (1 ≤ length part.now) × (sound_ruled self.now.words.now (get_or self.now.words.now place 0) (layout_at (place_row_at place).layout) ≡ true) }
-        ensures { Plainly result (whole_size (layout_at (place_row_at place).layout) part.now) }
+    fn ruled_size(&self, place: Place, part: &[u8]) -> Option<usize>
+        requires { (1 ≤ length part.now) × (sound_ruled self.now.words.now (get_or self.now.words.now place.index 0) (layout_at (place_row_at place.index).layout) ≡ true) }
+        ensures { Plainly result (whole_size (layout_at (place_row_at place.index).layout) part.now) }
     {
-        let w = self.word_at(place);
+        let w = self.word_at(place.index);
         let size = w % 16;
         if part.len() < size {
             return None;
@@ -320,11 +323,11 @@ impl Steps {
     }
 
     // A count octet and free parts, or a length octet and contents.
-    fn counted_size(&self, place: usize, part: &[u8]) -> Option<usize>
-        requires { (place < place_count) × (1 ≤ length part.now) × (sound_counted (get_or self.now.words.now place 0) (layout_at (place_row_at place).layout) ≡ true) }
-        ensures { Plainly result (whole_size (layout_at (place_row_at place).layout) part.now) }
+    fn counted_size(&self, place: Place, part: &[u8]) -> Option<usize>
+        requires { (1 ≤ length part.now) × (sound_counted (get_or self.now.words.now place.index 0) (layout_at (place_row_at place.index).layout) ≡ true) }
+        ensures { Plainly result (whole_size (layout_at (place_row_at place.index).layout) part.now) }
     {
-        let w = self.word_at(place);
+        let w = self.word_at(place.index);
         let n = octet(part[0]);
         if n < w / 4096 % 16 {
             return None;
@@ -337,11 +340,11 @@ impl Steps {
     }
 
     // Parts as far as FX bits say, of one octet each and at most two.
-    fn extended_size(&self, place: usize, part: &[u8]) -> Option<usize>
-        requires { (place < place_count) × (1 ≤ length part.now) × (sound_extended self.now.words.now (get_or self.now.words.now place 0) (layout_at (place_row_at place).layout) ≡ true) }
-        ensures { Plainly result (whole_size (layout_at (place_row_at place).layout) part.now) }
+    fn extended_size(&self, place: Place, part: &[u8]) -> Option<usize>
+        requires { (1 ≤ length part.now) × (sound_extended self.now.words.now (get_or self.now.words.now place.index 0) (layout_at (place_row_at place.index).layout) ≡ true) }
+        ensures { Plainly result (whole_size (layout_at (place_row_at place.index).layout) part.now) }
     {
-        let w = self.word_at(place);
+        let w = self.word_at(place.index);
         if !self.is_asked(w / 4096 % RULES, first_three(part)) {
             return None;
         }
@@ -361,11 +364,11 @@ impl Steps {
     }
 
     // One part with two rules.
-    fn twice_size(&self, place: usize, part: &[u8]) -> Option<usize>
-        requires { (place < place_count) × (1 ≤ length part.now) × (sound_twice self.now.words.now (get_or self.now.words.now place 0) (layout_at (place_row_at place).layout) ≡ true) }
-        ensures { Plainly result (whole_size (layout_at (place_row_at place).layout) part.now) }
+    fn twice_size(&self, place: Place, part: &[u8]) -> Option<usize>
+        requires { (1 ≤ length part.now) × (sound_twice self.now.words.now (get_or self.now.words.now place.index 0) (layout_at (place_row_at place.index).layout) ≡ true) }
+        ensures { Plainly result (whole_size (layout_at (place_row_at place.index).layout) part.now) }
     {
-        let w = self.word_at(place);
+        let w = self.word_at(place.index);
         let size = w % 16;
         if part.len() < size {
             return None;
@@ -382,11 +385,10 @@ impl Steps {
 
     // How many octets the item at a place of the tables takes, where it is plainly legal: as most items are, in one part, or a count or length octet and
     // free parts. Short, so that it is compiled into both loops over a record's items.
-    fn told_at(&self, place: usize, part: &[u8]) -> Option<usize>
-        requires { place < place_count }
-        ensures { Plainly result (whole_size (layout_at (place_row_at place).layout) part.now) }
+    fn told_at(&self, place: Place, part: &[u8]) -> Option<usize>
+        ensures { Plainly result (whole_size (layout_at (place_row_at place.index).layout) part.now) }
     {
-        let w = self.word_at(place);
+        let w = self.word_at(place.index);
         if w < 8 {
             return self.free_size(place, part);
         }
@@ -401,9 +403,8 @@ impl Steps {
     }
 
     // The same, of any item.
-    fn quick_at(&self, place: usize, part: &[u8]) -> Option<usize>
-        requires { place < place_count }
-        ensures { Plainly result (whole_size (layout_at (place_row_at place).layout) part.now) }
+    fn quick_at(&self, place: Place, part: &[u8]) -> Option<usize>
+        ensures { Plainly result (whole_size (layout_at (place_row_at place.index).layout) part.now) }
     {
         let told = self.told_at(place, part);
         if told.is_some() {
@@ -412,7 +413,7 @@ impl Steps {
         if part.len() < 1 {
             return None;
         }
-        match kind_of(self.word_at(place)) {
+        match kind_of(self.word_at(place.index)) {
             Kind::Extended => self.extended_size(place, part),
             Kind::Twice => self.twice_size(place, part),
             _ => None,

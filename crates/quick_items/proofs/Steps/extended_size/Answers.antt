@@ -2,24 +2,16 @@
 use Prim.Native.Nat.{◌+◌, ◌/◌, ◌%◌}
 use mathlib.Core.Path.{◌≡◌}
 use mathlib.Core.Bool.{true}
-use native.Mathlib.Omega.{arith}
 use lib.ListN.{drop}
-use Rattle.rules.proofs.AnswerLaws.{Octets}
 use Rattle.quick_items.specs.Item.{first_three, asked, sound_extended}
 use Rattle.tables.specs.Tables.{layout_at, place_row_at}
-use Rattle.layouts.proofs.OctetLaws.{octets_known}
-use Rattle.quick_items.proofs.ItemLaws.{three_on, asked_first, extended_one, extended_two}
-use Rattle.layouts.proofs.SoundLaws.{layout_sound}
-use Rattle.tables.proofs.TableLaws.{place_row_lem}
+use Rattle.quick_items.proofs.ItemLaws.{clean, sound_at, three_on, asked_first, extended_one, extended_two}
 use Rattle.quick_items.proofs.Steps.extended_size.Goals as goal
-use Rattle.quick_items.proofs.Steps.extended_size.Goals.{After-shared_slice_known-1, After-word_at-w, Else-not-is_asked, Then-is_asked}
-
-octets_at_lem : (c : After-shared_slice_known-1) → Octets c.args.part.now
-octets_at_lem c = octets_known c.args.part.now (λ i. omega (arith, c.type_inv.part i))
+use Rattle.quick_items.proofs.Steps.extended_size.Goals.{After-word_at-w, Else-not-is_asked, Then-is_asked}
 
 -- the word is sound
-sound_at : (c : After-word_at-w) → sound_extended c.args.self.now.words.now c.word_at-w.result (layout_at (place_row_at c.args.place).layout) ≡ true
-sound_at c = rw c.word_at-w.ensures c.requires.2
+word_sound_lem : (c : After-word_at-w) → sound_extended c.args.self.now.words.now c.word_at-w.result (layout_at (place_row_at c.args.place.index).layout) ≡ true
+word_sound_lem c = rw c.word_at-w.ensures c.requires.1
 
 -- each part obeys its rule
 first_asked : (c : Else-not-is_asked) → asked c.args.self.now.words.now (c.word_at-w.result / 4096 % 16) (first_three c.args.part.now) ≡ true
@@ -29,7 +21,13 @@ second_asked : (c : Then-is_asked) → asked c.args.self.now.words.now ((c.word_
 second_asked c = asked_first _ _ _ (three_on c.args.part.now c.first_three-2.ensures.0) c.is_asked-2.ensures c.if-is_asked.true
 
 pub returns-then-part-eq0 : goal.returns-then-part-eq0
-returns-then-part-eq0 c = extended_one c.args.self.now.words.now _ _ _ (layout_sound _ (place_row_lem _)) (octets_at_lem (goal.at.returns-then-part-eq0 c).After-shared_slice_known-1) c.requires.1 (sound_at (goal.at.returns-then-part-eq0 c).After-word_at-w) (first_asked (goal.at.returns-then-part-eq0 c).Else-not-is_asked) c.if-part-eq0.true
+returns-then-part-eq0 c =
+    let at = goal.at.returns-then-part-eq0 c in
+    extended_one c.args.self.now.words.now _ _ _ (sound_at _) (clean c.args.part.now c.type_inv.part) c.requires.0 (word_sound_lem at.After-word_at-w) (first_asked at.Else-not-is_asked)
+    c.if-part-eq0.true
 
 pub returns-then-is_asked : goal.returns-then-is_asked
-returns-then-is_asked c = extended_two c.args.self.now.words.now _ _ _ (layout_sound _ (place_row_lem _)) (octets_at_lem (goal.at.returns-then-is_asked c).After-shared_slice_known-1) c.requires.1 (sound_at (goal.at.returns-then-is_asked c).After-word_at-w) (first_asked (goal.at.returns-then-is_asked c).Else-not-is_asked) c.if-part-eq0.false c.if-part-lt2.false (second_asked (goal.at.returns-then-is_asked c).Then-is_asked) c.if-part-ne0.false
+returns-then-is_asked c =
+    let at = goal.at.returns-then-is_asked c in
+    extended_two c.args.self.now.words.now _ _ _ (sound_at _) (clean c.args.part.now c.type_inv.part) c.requires.0 (word_sound_lem at.After-word_at-w) (first_asked at.Else-not-is_asked)
+    c.if-part-eq0.false c.if-part-lt2.false (second_asked at.Then-is_asked) c.if-part-ne0.false

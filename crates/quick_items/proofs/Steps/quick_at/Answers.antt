@@ -5,8 +5,8 @@ use Rattle.quick_items.proofs.Steps.quick_at.Goals as goal
 
 pub extended_size-requires : goal.extended_size-requires
 extended_size-requires c =
-    (c.requires, omega arith, word_sound _ _ 3 c.args.self.now.sound c.requires c.word_at.ensures (kind_digit _ c.in-Extended.ensures (omega arith)))
+    (omega arith, word_sound _ _ 3 c.args.self.now.sound c.args.place.known c.word_at.ensures (kind_digit _ c.in-Extended.ensures (omega arith)))
 
 pub twice_size-requires : goal.twice_size-requires
 twice_size-requires c =
-    (c.requires, omega arith, word_sound _ _ 4 c.args.self.now.sound c.requires c.word_at.ensures (kind_digit _ c.in-Twice.ensures (omega arith)))
+    (omega arith, word_sound _ _ 4 c.args.self.now.sound c.args.place.known c.word_at.ensures (kind_digit _ c.in-Twice.ensures (omega arith)))

@@ -1,12 +1,8 @@
 -- `quick_items::Steps::ruled_size` meets its contract. Assumes nothing.
-use native.Mathlib.Omega.{arith}
-use Rattle.layouts.proofs.OctetLaws.{octets_known}
-use Rattle.quick_items.proofs.ItemLaws.{asked_first, ruled_told}
-use Rattle.layouts.proofs.SoundLaws.{layout_sound}
-use Rattle.tables.proofs.TableLaws.{place_row_lem}
+use Rattle.quick_items.proofs.ItemLaws.{clean, sound_at, asked_first, ruled_told}
 use Rattle.quick_items.proofs.Steps.ruled_size.Goals as goal
 
 pub returns-then-is_asked : goal.returns-then-is_asked
 returns-then-is_asked c =
-    ruled_told _ _ _ (layout_sound _ (place_row_lem _)) (octets_known c.args.part.now (λ i. omega (arith, c.type_inv.part i))) c.if-part-size.false
-    _ _ (rw c.word_at-w.ensures c.requires.2) (asked_first _ _ _ c.first_three.ensures.0 c.is_asked.ensures c.if-is_asked.true)
+    ruled_told _ _ _ (sound_at _) (clean c.args.part.now c.type_inv.part) c.if-part-size.false
+    _ _ (rw c.word_at-w.ensures c.requires.1) (asked_first _ _ _ c.first_three.ensures.0 c.is_asked.ensures c.if-is_asked.true)

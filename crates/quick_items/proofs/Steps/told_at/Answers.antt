@@ -5,12 +5,12 @@ use Rattle.quick_items.proofs.Steps.told_at.Goals as goal
 
 pub free_size-requires : goal.free_size-requires
 free_size-requires c =
-    (c.requires, omega (arith, c.word_at-w.ensures), word_sound _ _ 0 c.args.self.now.sound c.requires c.word_at-w.ensures (omega arith))
+    (omega (arith, c.word_at-w.ensures), word_sound _ _ 0 c.args.self.now.sound c.args.place.known c.word_at-w.ensures (omega arith))
 
 pub counted_size-requires : goal.counted_size-requires
 counted_size-requires c =
-    (c.requires, omega arith, word_sound _ _ 2 c.args.self.now.sound c.requires c.word_at-w.ensures (kind_digit _ c.in-Counted.ensures (omega arith)))
+    (omega arith, word_sound _ _ 2 c.args.self.now.sound c.args.place.known c.word_at-w.ensures (kind_digit _ c.in-Counted.ensures (omega arith)))
 
 pub ruled_size-requires : goal.ruled_size-requires
 ruled_size-requires c =
-    (c.requires, omega arith, word_sound _ _ 1 c.args.self.now.sound c.requires c.word_at-w.ensures (kind_digit _ c.in-Ruled.ensures (omega arith)))
+    (omega arith, word_sound _ _ 1 c.args.self.now.sound c.args.place.known c.word_at-w.ensures (kind_digit _ c.in-Ruled.ensures (omega arith)))
