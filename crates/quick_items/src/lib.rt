@@ -271,7 +271,7 @@ impl Steps {
         self.words[at] as usize
     }
 
-    // The word of a profile's item at an FRN, 0 where the tables have no such place.
+    // The word of a profile's item at an FRN; where the tables have no such place 0, a word that tells nothing (`one_word_of`).
     pub fn word_of(&self, profile: usize, frn: usize) -> usize
         ensures { result ≡ word_for self.now.words.now profile frn }
     {

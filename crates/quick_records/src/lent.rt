@@ -698,7 +698,7 @@ impl Tables {
     }
 }
 
-// A number of a table, as a size.
+// A number of a table, as a size: `measuring` reads its own table by it.
 pub fn long(x: u64) -> usize
     ensures { result ≡ x }
 {

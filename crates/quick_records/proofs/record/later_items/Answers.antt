@@ -50,8 +50,5 @@ loop-left-smaller c = omega (arith, there (goal.at.loop-left-smaller c).After-we
 pub loop-left-preserved : goal.loop-left-preserved
 loop-left-preserved c = rw c.weight-left.ensures (stand_next _ _ _ _ _ c.loop-left.invariant _ (of (goal.at.loop-left-preserved c).In-loop-left) _ (item (goal.at.loop-left-preserved c).In_ok-n))
 
-pub overflow_sub-result : goal.overflow_sub-result
-overflow_sub-result c = omega (arith, c.loop-left.invariant.fewer)
-
 pub returns : goal.returns
 returns c = stand_end _ _ _ _ _ _ c.loop-left.invariant c.loop-left-test.false refl
