@@ -20,13 +20,8 @@ use Rattle.rules.specs.Catalogue.{categories}
 use Rattle.rules.specs.Entry.{check_block, Opened, open_block, old_block}
 use Rattle.rules.proofs.BlockLaws.{category_cat}
 use Rattle.rules.proofs.AnswerLaws.{refused_ok, ok_inj, later_inv, bind_elim, need_elim, expect_elim, expect_in, expect_out, bind_in, bind_out, bind_assoc, bind_cong, need_bind, need_in, need_out, T_true, Octets}
-use Rattle.tables.proofs.ProfileLaws.{index_is}
-use Rattle.sets.specs.Sets.{category_at}
-use Rattle.blocks.specs.declared.check.BlockChecked.{BlockChecked}
-use Rattle.blocks.specs.declared.check.BlockChecked.TheVariants as block_checked
-use Rattle.blocks.specs.Answers.{checked_of, opened_by, open_profile}
 use Rattle.blocks.proofs.LoopLaws.{octets_at_lem}
-use Rattle.blocks.specs.Read.{len_at, head_at, head_by, count_from, opening, open_from, body_at, check_front}
+use Rattle.blocks.specs.Read.{len_at, head_at, head_by, count_from, Opening, opening, open_from, body_at, check_front}
 
 -- ---- the head
 
@@ -74,19 +69,19 @@ module _ (bs : List ℕ) (three : 3 ≤ length bs) where
   unfolding head_at
   head_alien e = need_in _ 1 (le→leb 3 (length bs) three) (bind_out _ (expect_out 2 e))
 
-  pub head_less : (c : Category) (a b : ℕ) → category_of (get_or bs 0 0) categories ≡ some c → a ≡ get_or bs 1 0 → b ≡ get_or bs 2 0 → a * 256 + b < 3 → head_at bs ≡ refused 3 0
+  pub head_less : (c : Category) (n : ℕ) → category_of (get_or bs 0 0) categories ≡ some c → n ≡ len_at bs → n < 3 → head_at bs ≡ refused 3 0
   unfolding head_at
-  head_less c a b e p q l =
-      let m : len_at bs < 3 = rw (← p, ← q) l in
+  head_less c n e p l =
+      let m : len_at bs < 3 = rw (← p) l in
       need_in _ 1 (le→leb 3 (length bs) three) (bind_in _ (expect_in 2 e) (need_out 3 _ (lt-leb 3 (len_at bs) m)))
 
-  pub head_good : (c : Category) (a b : ℕ) → category_of (get_or bs 0 0) categories ≡ some c → a ≡ get_or bs 1 0 → b ≡ get_or bs 2 0 → 3 ≤ a * 256 + b
-      → head_at bs ≡ ok (record { category = c; len = a * 256 + b })
+  pub head_good : (c : Category) (n : ℕ) → category_of (get_or bs 0 0) categories ≡ some c → n ≡ len_at bs → 3 ≤ n
+      → head_at bs ≡ ok (record { category = c; len = n })
   unfolding head_at
-  head_good c a b e p q l =
-      let m : 3 ≤ len_at bs = rw (← p, ← q) l in
+  head_good c n e p l =
+      let m : 3 ≤ len_at bs = rw (← p) l in
       need_in _ 1 (le→leb 3 (length bs) three)
-      (bind_in _ (expect_in 2 e) (need_in _ 3 (le→leb 3 (len_at bs) m) (ap₂ (λ y z. ok (record { category = c; len = y * 256 + z })) (sym p) (sym q))))
+      (bind_in _ (expect_in 2 e) (need_in _ 3 (le→leb 3 (len_at bs) m) (ap (λ z. ok (record { category = c; len = z })) (sym p))))
 
 pub head_is : (fits : ℕ → ℕ → Bool) (bs : List ℕ)
     → read_head fits categories bs ≡ (head_at bs >>= λ h. need fits h.len (length bs) or 3 then ok (h, drop 3 bs))
@@ -189,15 +184,6 @@ unfolding ◌>>=◌
 count_opened c (ok rs) = ap (λ n. ok (opening c n)) (zero-add (length rs))
 count_opened c (refused n p) = refl
 
-pub opened_by_lem : (i : ℕ) (x : BlockChecked) → opened_by i x ≡ (checked_of x >>= λ n. ok (opening (category_at i) n))
-unfolding ◌>>=◌
-opened_by_lem i (block_checked.Accepted n) = refl
-opened_by_lem i (block_checked.Refused n p) = refl
-
--- a refusal says the same whatever the profile beside it
-pub opened_any : (i j n p : ℕ) (x : BlockChecked) → x ≡ block_checked.Refused n p → opened_by i x ≡ opened_by j x
-opened_any i j n p x e = ap (opened_by i) e ∙ sym (ap (opened_by j) e)
-
 module _ (bs : List ℕ) where
   -- LEN leaves all that is after the head
   pub body_all : (h : Head) → head_by eqb bs ≡ ok h → body_at h bs ≡ drop 3 bs
@@ -260,13 +246,22 @@ module _ (bs : List ℕ) where
   opened_body least h part e l q =
       bind_in _ e (need_in _ 4 (le→leb least h.len l) (ap (λ z. count_from h.category 0 3 z >>= λ n. ok (opening h.category n)) (sym q)))
 
-  -- the profile beside the answer
-  pub profile_refused : (least n p : ℕ) → open_from least bs ≡ refused n p → 0 ≡ open_profile (open_from least bs)
-  profile_refused least n p e = sym (ap open_profile e)
+  pub opened_stop : (least : ℕ) (h : Head) (part : List ℕ) (n p : ℕ) → head_by eqb bs ≡ ok h → least ≤ h.len → part ≡ drop 3 bs → count_from h.category 0 3 part ≡ refused n p
+      → open_from least bs ≡ refused n p
+  opened_stop least h part n p e l q r = opened_body least h part e l q ∙ bind_out _ r
 
-  pub profile_opened : (least i n m : ℕ) → head_by eqb bs ≡ ok (record { category = category_at i; len = m }) → open_from least bs ≡ ok (opening (category_at i) n)
-      → i ≡ open_profile (open_from least bs)
-  profile_opened least i n m h e = sym (ap open_profile e ∙ index_is i (headed eqb bs _ h).named)
+  pub opened_all : (least : ℕ) (h : Head) (part : List ℕ) (n : ℕ) → head_by eqb bs ≡ ok h → least ≤ h.len → part ≡ drop 3 bs → count_from h.category 0 3 part ≡ ok n
+      → open_from least bs ≡ ok (opening h.category n)
+  opened_all least h part n e l q r = opened_body least h part e l q ∙ bind_in _ r refl
+
+  -- a block that is opened has one of the categories
+  pub opened_named : (least : ℕ) (o : Opening) → open_from least bs ≡ ok o → category_of o.category.cat categories ≡ some o.category
+  unfolding open_from
+  opened_named least o e =
+      bind_elim _ _ e λ h p e₁.
+      need_elim _ _ _ e₁ λ t e₂.
+      bind_elim _ _ e₂ λ n q e₃.
+      subst (λ z. category_of z.category.cat categories ≡ some z.category) (ok_inj e₃) (headed eqb bs h p).named
 
   -- a single block as the rules open it
   pub opened_is : open_from 4 bs ≡ (open_block categories bs >>= λ b. ok (opening b.category (length b.records)))
@@ -295,9 +290,12 @@ module _ (bs : List ℕ) where
           let (c, f) = block_category eqb bs rest b e in
           bind_in _ e refl ∙ sym (bind_in _ (h ∙ bind_in _ (bind_in _ e (bind_in _ (expect_in 2 f) refl)) refl) refl)
 
-  pub check_is : (i : ℕ) (x : BlockChecked) → opened_by i x ≡ open_from 4 bs → checked_of x ≡ check_block categories bs
-  check_is i (block_checked.Accepted n) h = sym (opened_checked opened_is ∙ bind_in _ (sym h) refl)
-  check_is i (block_checked.Refused n p) h = sym (opened_checked opened_is ∙ bind_out _ (sym h))
+  -- checking a block is opening it
+  pub check_stop : (n p : ℕ) → open_from 4 bs ≡ refused n p → check_block categories bs ≡ refused n p
+  check_stop n p h = opened_checked opened_is ∙ bind_out _ h
+
+  pub check_all : (o : Opening) → open_from 4 bs ≡ ok o → check_block categories bs ≡ ok o.count
+  check_all o h = opened_checked opened_is ∙ bind_in _ h refl
 
   -- ---- the front of a recording
 

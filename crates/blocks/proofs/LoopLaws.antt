@@ -5,6 +5,10 @@
 use Prim.Native.Nat.{ℕ, zero, suc, ◌+◌, ◌-◌, ◌≤◌, ◌<◌}
 use mathlib.Core.Path.{◌≡◌, refl, sym, ap, ◌∙◌, subst}
 use mathlib.Core.List.{List, [], ◌∷◌}
+use mathlib.Core.Bool.{Bool, true, false}
+use Rattle.std.specs.Bool.{◌==◌}
+use Rattle.std.specs.Prelude.{◌≢◌}
+use borrow.Author.Tests.{eqb-true, eqb-false}
 use native.Mathlib.Omega.{arith}
 use native.Mathlib.Nat.{add_assoc, zero-add, le_refl}
 use lib.ListN.{length, drop, get_or, length-append}
@@ -47,6 +51,13 @@ bind_on (ok a) f g h = h a refl
 bind_on (refused n p) f g h = refl
 
 -- ---- octets of a list
+
+-- whether any are left
+pub some_left : (t : Bool) (n : ℕ) → t ≡ (n == 0) → t ≡ false → 0 < n
+some_left t n e f = let h : n ≢ 0 = eqb-false n 0 (sym e ∙ f) in omega arith
+
+pub none_left : (t : Bool) (n : ℕ) → t ≡ (n == 0) → t ≡ true → n ≡ 0
+none_left t n e f = eqb-true n 0 (sym e ∙ f)
 
 -- the bytes of a slice are octets
 pub octets_each : (bs : List ℕ) → ((i : ℕ) → Fits w8 (get_or bs i 0)) → Octets bs

@@ -14,12 +14,11 @@ use Rattle.rules.specs.Entry.{RecordMap, map_of}
 use Rattle.rules.proofs.AnswerLaws.{refused_ok, ok_inj, bind_in, bind_elim, bind_cong, later_inv, later_in, octets_of-ok, Octets, Split, octets_drop}
 use Rattle.rules.proofs.RecordLaws.{record_laws, record_starts}
 use Rattle.sets.specs.Sets.{category_at}
-use Rattle.records.specs.declared.RecordChecked.TheVariants as recordChecked
-use Rattle.records.specs.declared.RecordChecked.{RecordChecked}
-use Rattle.records.specs.Answers.{end_of, record_at}
+use Rattle.records.specs.declared.RecordMap as Code
+use Rattle.records.specs.Answers.{map_by, record_at}
 use Rattle.quick_records.specs.Record.{end_at}
 use Rattle.blocks.specs.Read.{count_from, Records}
-use Rattle.blocks.proofs.LoopLaws.{Taken, taken_out, all_end, all_stop, all_turn}
+use Rattle.blocks.proofs.LoopLaws.{Taken, taken_out, made_refused, all_end, all_stop, all_turn}
 
 -- ---- one record
 
@@ -76,25 +75,31 @@ record_refusal c k bs n q h =
 
 -- ---- by the answer of the record's check
 
-made_ok : {A B : Type 0} (x : Answer A) (f : A → B) (b : B) → ok b ≡ (x >>= λ a. ok (f a)) → (a : A) × (x ≡ ok a) × (f a ≡ b)
-unfolding ◌>>=◌
-made_ok (ok a) f b h = (a, refl, sym (ok_inj h))
-made_ok (refused n p) f b h = refused_ok (sym h)
-
-made_refused : {A B : Type 0} (x : Answer A) (f : A → B) (n p : ℕ) → refused n p ≡ (x >>= λ a. ok (f a)) → x ≡ refused n p
-unfolding ◌>>=◌
-made_refused (ok a) f n p h = refused_ok h
-made_refused (refused m q) f n p h = (cc)
-
-module _ (i k : ℕ) (bs : List ℕ) (x : RecordChecked) (ended : end_of x ≡ end_at i k bs) where
-  pub ended_accepted : (e : ℕ) → Octets bs → x ≡ recordChecked.Ends e → Accepted (category_at i) k bs e
+module _ (i k : ℕ) (bs : List ℕ) where
+  pub ended_accepted : (e : ℕ) → Octets bs → ok e ≡ end_at i k bs → Accepted (category_at i) k bs e
   ended_accepted e o h =
-      let (m, p, q) = made_ok (record_at i k bs) (λ m. m.end) e (ap end_of (sym h) ∙ ended) in
-      record_accepted (category_at i) k bs m e o (sym (record_is i k bs) ∙ p) q
+      bind_elim _ _ (sym h) λ m p q.
+      record_accepted (category_at i) k bs m e o (sym (record_is i k bs) ∙ p) (ok_inj q)
 
-  pub ended_refused : (n q : ℕ) → x ≡ recordChecked.Refused n q → Refusal (category_at i) k bs n q
+  pub ended_refused : (n q : ℕ) → refused n q ≡ end_at i k bs → Refusal (category_at i) k bs n q
   ended_refused n q h =
-      record_refusal (category_at i) k bs n q (sym (record_is i k bs) ∙ made_refused (record_at i k bs) (λ m. m.end) n q (ap end_of (sym h) ∙ ended))
+      record_refusal (category_at i) k bs n q (sym (record_is i k bs) ∙ made_refused (record_at i k bs) (λ m. m.end) n q (sym h))
+
+-- ---- by its map, as the code has it
+
+pub record MapTaken (i k : ℕ) (bs : List ℕ) (map : Code.RecordMap) : Type 0 where
+  pub accepted : Accepted (category_at i) k bs map.end
+  pub map_is : map ≡ map_by (map_of (category_at i) (record { start = k; value = accepted.value }))
+
+pub map_taken : (i k : ℕ) (bs : List ℕ) (map : Code.RecordMap) → Octets bs → ok map ≡ (record_at i k bs >>= λ m. ok (map_by m)) → MapTaken i k bs map
+map_taken i k bs map o h =
+    bind_elim _ _ (sym h) λ m p q.
+    let z : map_by m ≡ map = ok_inj q in
+    let a : Accepted (category_at i) k bs map.end = record_accepted (category_at i) k bs m map.end o (sym (record_is i k bs) ∙ p) (ap (λ y. y.end) z) in
+    record { accepted = a; map_is = sym z ∙ ap map_by (ok_inj (sym p ∙ record_is i k bs ∙ a.mapped)) }
+
+pub map_refused : (i k : ℕ) (bs : List ℕ) (n q : ℕ) → refused n q ≡ (record_at i k bs >>= λ m. ok (map_by m)) → Refusal (category_at i) k bs n q
+map_refused i k bs n q h = record_refusal (category_at i) k bs n q (sym (record_is i k bs) ∙ made_refused (record_at i k bs) map_by n q (sym h))
 
 -- ---- how many there are
 

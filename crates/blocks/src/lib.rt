@@ -3,7 +3,7 @@
 #![tactic(auto)]
 
 mod check;
-mod head;
+mod heads;
 
-pub use check::{BlockChecked, BlockOpened, FrontChecked, check_block, check_front, open_block};
-pub use head::{HEAD, HeadRead, LEAST, front_head};
+pub use check::{Front, Opened, check_block, check_front, open_block};
+pub use heads::{HEAD, Head, LEAST, front_head};

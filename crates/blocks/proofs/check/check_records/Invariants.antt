@@ -2,7 +2,7 @@
 use lib.ListN.{length}
 use Rattle.sets.specs.Sets.{category_at}
 use Rattle.blocks.proofs.RecordLaws.{Counting}
-use Rattle.blocks.proofs.check.check_records_by.Given as goal
+use Rattle.blocks.proofs.check.check_records.Given as goal
 
 abbrev pub invariant-loop-rest : goal.invariant-loop-rest
 invariant-loop-rest l = Counting (category_at l.profile) l.part l.from l.rest l.at l.n
