@@ -8,7 +8,7 @@ use mathlib.Core.Logic.{⊎_elim}
 use mathlib.Core.Bool.{Bool, true, false}
 use mathlib.Core.List.{List, [], ◌∷◌, ◌++◌, append-nil, append_assoc}
 use native.Mathlib.Omega.{arith}
-use native.Mathlib.Nat.{zero-add, le_refl, le-max_left, min-eq_left, min-eq_right, max-eq_left, max-eq_right}
+use native.Mathlib.Nat.{zero-add, le_refl, le-max_left, min-eq_left, min-eq_right, max-eq_right}
 use lib.Dec.{leb, ltb, eqb, le→leb}
 use borrow.Author.Tests.{le-leb, lt-leb, leb-true, leb-false, ltb-true, eqb-true, eqb-false}
 use lib.ListN.{length, take, drop, get_or, length-append, length-drop, take-append-drop, get_or-append}
@@ -30,19 +30,7 @@ pub length_short : (bs : List ℕ) → length bs < 3 → block_length bs ≡ 3
 unfolding block_length
 length_short bs l = if_false _ (lt-leb 3 (length bs) l) refl
 
-pub length_less : (bs : List ℕ) {a b : ℕ} → 3 ≤ length bs → a ≡ get_or bs 1 0 → b ≡ get_or bs 2 0 → a * 256 + b < 3 → block_length bs ≡ 3
-unfolding block_length
-length_less bs l p q m =
-    let e : len_at bs < 3 = rw (← p, ← q) m in
-    if_true _ (le-leb 3 (length bs) l) (max-eq_left (omega arith))
-
-pub length_good : (bs : List ℕ) {a b : ℕ} → 3 ≤ length bs → a ≡ get_or bs 1 0 → b ≡ get_or bs 2 0 → 3 ≤ a * 256 + b → block_length bs ≡ a * 256 + b
-unfolding block_length
-length_good bs l p q m =
-    let e : 3 ≤ len_at bs = rw (← p, ← q) m in
-    if_true _ (le-leb 3 (length bs) l) (max-eq_right e ∙ ap₂ (λ x y. x * 256 + y) (sym p) (sym q))
-
-length_by : (bs : List ℕ) → 3 ≤ length bs → block_length bs ≡ max 3 (len_at bs)
+pub length_by : (bs : List ℕ) → 3 ≤ length bs → block_length bs ≡ max 3 (len_at bs)
 unfolding block_length
 length_by bs l = if_true 3 (le-leb 3 (length bs) l) refl
 

@@ -1,29 +1,26 @@
 -- What each answer of this crate says, in the rules' words: a refusal's number and place (document 01, "Refusal numbers and their order"), or what
 -- was found. Assumes nothing.
-use Rattle.std.specs.Prelude.{ℕ}
-use Rattle.rules.specs.Answer.{Answer, ok, refused}
+use Rattle.std.specs.Prelude.{Result}
+use Rattle.rules.specs.Answer.{Answer}
 use Rattle.rules.specs.Entry.{Counts}
-use Rattle.blocks.specs.declared.check.FrontChecked.{FrontChecked}
-use Rattle.blocks.specs.declared.check.FrontChecked.TheVariants as frontChecked
-use Rattle.recordings.specs.declared.RecordingChecked.{RecordingChecked}
-use Rattle.recordings.specs.declared.RecordingChecked.TheVariants as recording_checked
+use Rattle.rules.specs.Told.{told_as}
+use Rattle.rules.specs.declared.faults.Refusal.{Refusal}
+use Rattle.recordings.specs.declared.Counts as code
+use Rattle.recordings.specs.declared.SoFar as codeSoFar
 use Rattle.recordings.specs.declared.RecordingState.{RecordingState}
-use Rattle.recordings.specs.declared.RecordingState.TheVariants as recordingState
 use Rattle.recordings.specs.Feed.{SoFar}
 
-abbrev pub counts_of : RecordingChecked → Answer Counts
-counts_of (recording_checked.Accepted b r) = ok (record { blocks = b; records = r })
-counts_of (recording_checked.Refused n p) = refused n p
+abbrev pub counts_said : code.Counts → Counts
+counts_said k = record { blocks = k.blocks; records = k.records }
+
+abbrev pub counts_of : Result code.Counts Refusal → Answer Counts
+counts_of r = told_as counts_said r
+
+abbrev pub so_far_said : codeSoFar.SoFar → SoFar
+so_far_said a = record { place = a.place; blocks = a.counts.blocks; records = a.counts.records }
+
+abbrev pub so_far_of : Result codeSoFar.SoFar Refusal → Answer SoFar
+so_far_of r = told_as so_far_said r
 
 abbrev pub state_of : RecordingState → Answer SoFar
-state_of (recordingState.SoFar k b r) = ok (record { place = k; blocks = b; records = r })
-state_of (recordingState.Refused n p) = refused n p
-
--- the number of a refusal and its place, 0 where there is none
-abbrev pub front_number : FrontChecked → ℕ
-front_number (frontChecked.Block l n) = 0
-front_number (frontChecked.Refused n p) = n
-
-abbrev pub front_place : FrontChecked → ℕ
-front_place (frontChecked.Block l n) = 0
-front_place (frontChecked.Refused n p) = p
+state_of s = so_far_of s.so_far

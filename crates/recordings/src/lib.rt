@@ -1,80 +1,46 @@
 // A recording: blocks end to end, checked whole, or block by block as it is read (document 01, "What the reader and writer cover").
 #![tactic(auto)]
 
-ghost use Rattle.std.specs.Prelude.{◌≡◌, true, ◌+◌};
+ghost use Rattle.std.specs.Prelude.{◌≡◌};
 ghost use Rattle.rules.specs.Catalogue.{categories};
 ghost use Rattle.rules.specs.Entry.{check_recording};
-ghost use Rattle.quick_items.specs.Item.{sound_steps};
-ghost use Rattle.quick_records.specs.Record.{sound_types};
-ghost use Rattle.quick_records.specs.Shape.{sound_sets};
-ghost use Rattle.recordings.specs.Feed.{capped, started, fed, finished, block_length};
-ghost use Rattle.recordings.specs.Answers.{counts_of, front_number, front_place, state_of};
+ghost use Rattle.recordings.specs.Feed.{started, fed, finished, block_length};
+ghost use Rattle.recordings.specs.Answers.{counts_of, so_far_of, state_of};
 
-use blocks::FrontChecked;
-use numbers::octet;
-use quick_items::Steps;
-use quick_records::{Sets, Types};
+use blocks::HEAD;
+use quick_records::Tables;
+use rules::Refusal;
 
-// A recording's counts of blocks and records, or a refusal's number and place, counted from the recording's start.
-#[derive(Drop)]
-pub enum RecordingChecked {
-    Accepted { blocks: u64, records: u64 },
-    Refused { number: u8, place: u64 },
+// How many blocks a recording has, and how many records.
+#[derive(Clone, Copy)]
+pub struct Counts {
+    pub blocks: u64,
+    pub records: u64,
 }
 
-fn front_number(front: FrontChecked) -> u8
-    ensures { result ≡ front_number front }
-{
-    match front {
-        FrontChecked::Block { len: _, records: _ } => 0,
-        FrontChecked::Refused { number, place: _ } => number,
-    }
-}
-
-fn front_place(front: FrontChecked) -> usize
-    ensures { result ≡ front_place front }
-{
-    match front {
-        FrontChecked::Block { len: _, records: _ } => 0,
-        FrontChecked::Refused { number: _, place } => place,
-    }
-}
-
-// All of a recording, which may be empty. The tables are lent, so that its blocks share them.
-fn check_blocks(steps: &Steps, types: &Types, sets: &Sets, recording: &[u8]) -> RecordingChecked
-    requires { (sound_steps steps.now ≡ true) × (sound_types types.now ≡ true) × (sound_sets sets.now ≡ true) }
+// All of a recording, which may be empty. A refusal's place is counted from the recording's start.
+pub fn check_recording(recording: &[u8]) -> Result<Counts, Refusal>
     ensures { counts_of result ≡ check_recording categories recording.now }
 {
     let mut rest = recording;
     let mut place: usize = 0;
-    let mut count: usize = 0;
-    let mut total: usize = 0;
-    while 0 < rest.len() {
-        let front = blocks::check_front(steps, types, sets, rest);
-        let FrontChecked::Block { len, records } = front else {
-            return RecordingChecked::Refused {
-                number: front_number(front),
-                place: (place + front_place(front)) as u64,
-            };
+    let mut counts = Counts {
+        blocks: 0,
+        records: 0,
+    };
+    let tables = Tables::new();
+    // No `for`: where a block ends is known once its head is read.
+    while !rest.is_empty() {
+        let front = match blocks::check_front(&tables, rest) {
+            Ok(front) => front,
+            Err(refusal) => return Err(refusal.later(place)),
         };
-        rest = &rest[len..];
-        place = place + len;
-        count = count + 1;
-        total = total + records;
+        rest = &rest[front.len..];
+        place += front.len;
+        counts.blocks += 1;
+        counts.records += front.records as u64;
     }
-    RecordingChecked::Accepted {
-        blocks: count as u64,
-        records: total as u64,
-    }
-}
-
-pub fn check_recording(recording: &[u8]) -> RecordingChecked
-    ensures { counts_of result ≡ check_recording categories recording.now }
-{
-    let steps = quick_items::steps();
-    let types = quick_records::type_table();
-    let sets = quick_records::set_table();
-    check_blocks(&steps, &types, &sets, recording)
+    Ok(counts)
 }
 
 // ---- block by block
@@ -83,38 +49,41 @@ pub fn check_recording(recording: &[u8]) -> RecordingChecked
 pub fn block_length(head: &[u8]) -> usize
     ensures { result ≡ block_length head.now }
 {
-    if head.len() < 3 {
-        return 3;
+    if head.len() < HEAD {
+        return HEAD;
     }
-    let len = octet(head[1]) * 256 + octet(head[2]);
-    if len < 3 {
-        return 3;
-    }
-    len
+    let len = u16::from_be_bytes([head[1], head[2]]) as usize;
+    HEAD.max(len)
 }
 
-// A sum, as far as 64 bits go.
-fn add(a: u64, b: u64) -> u64
-    ensures { result ≡ capped (a + b) }
-{
-    if u64::MAX - a < b {
-        return u64::MAX;
-    }
-    a + b
-}
-
-// What is known of a recording so far: how many bytes, blocks and records came; or the first refusal.
+// How many bytes came, and their blocks and records, as far as the greatest number.
 #[derive(Clone, Copy)]
-pub enum RecordingState {
-    SoFar {
-        place: u64,
-        blocks: u64,
-        records: u64,
-    },
-    Refused {
-        number: u8,
-        place: u64,
-    },
+pub struct SoFar {
+    pub place: usize,
+    pub counts: Counts,
+}
+
+// What is known with a piece more.
+fn feed_on(so_far: Result<SoFar, Refusal>, piece: &[u8]) -> Result<SoFar, Refusal>
+    ensures { so_far_of result ≡ fed (so_far_of so_far) piece.now }
+{
+    let known = so_far?;
+    match check_recording(piece) {
+        Ok(more) => Ok(SoFar {
+            place: known.place.saturating_add(piece.len()),
+            counts: Counts {
+                blocks: known.counts.blocks.saturating_add(more.blocks),
+                records: known.counts.records.saturating_add(more.records),
+            },
+        }),
+        Err(refusal) => Err(refusal.fault.at(known.place.saturating_add(refusal.place))),
+    }
+}
+
+// What is known of a recording so far, or the first refusal.
+#[derive(Clone, Copy)]
+pub struct RecordingState {
+    pub so_far: Result<SoFar, Refusal>,
 }
 
 impl RecordingState {
@@ -122,10 +91,14 @@ impl RecordingState {
     pub fn start() -> RecordingState
         ensures { state_of result ≡ started }
     {
-        RecordingState::SoFar {
-            place: 0,
-            blocks: 0,
-            records: 0,
+        RecordingState {
+            so_far: Ok(SoFar {
+                place: 0,
+                counts: Counts {
+                    blocks: 0,
+                    records: 0,
+                },
+            }),
         }
     }
 
@@ -133,46 +106,16 @@ impl RecordingState {
     pub fn feed(self, piece: &[u8]) -> RecordingState
         ensures { state_of result ≡ fed (state_of self) piece.now }
     {
-        let state = self;
-        let RecordingState::SoFar {
-            place,
-            blocks,
-            records,
-        } = state
-        else {
-            return state;
-        };
-        let checked = check_recording(piece);
-        match checked {
-            RecordingChecked::Accepted {
-                blocks: more,
-                records: others,
-            } => RecordingState::SoFar {
-                place: add(place, piece.len() as u64),
-                blocks: add(blocks, more),
-                records: add(records, others),
-            },
-            RecordingChecked::Refused { number, place: at } => RecordingState::Refused {
-                number,
-                place: add(place, at),
-            },
+        RecordingState {
+            so_far: feed_on(self.so_far, piece),
         }
     }
 
     // What the whole recording is, once all of it is fed.
-    pub fn finish(self) -> RecordingChecked
+    pub fn finish(self) -> Result<Counts, Refusal>
         ensures { counts_of result ≡ finished (state_of self) }
     {
-        match self {
-            RecordingState::SoFar {
-                place: _,
-                blocks,
-                records,
-            } => RecordingChecked::Accepted { blocks, records },
-            RecordingState::Refused { number, place } => RecordingChecked::Refused {
-                number,
-                place,
-            },
-        }
+        let known = self.so_far?;
+        Ok(known.counts)
     }
 }

@@ -1,14 +1,15 @@
 -- `RecordingState::finish` meets its contract. Assumes nothing.
-use mathlib.Core.Path.{refl, sym, ap}
+use mathlib.Core.Path.{refl, sym, ap, ◌∙◌}
 use Rattle.rules.proofs.AnswerLaws.{bind_in, bind_out}
+use Rattle.blocks.proofs.ExitLaws.{told_as-exit}
 use Rattle.recordings.specs.Feed.{finished}
-use Rattle.recordings.specs.Answers.{state_of}
+use Rattle.recordings.specs.Answers.{so_far_of}
 use Rattle.recordings.proofs.RecordingState.finish.Goals as goal
 
-pub returns-in-SoFar : goal.returns-in-SoFar
+pub returns-in_err-known : goal.returns-in_err-known
 unfolding finished
-returns-in-SoFar c = sym (bind_in _ (ap state_of c.in-SoFar.is) refl)
+returns-in_err-known c = told_as-exit _ _ _ c.from_residual.ensures.1 ∙ sym (bind_out _ (ap so_far_of c.in_err-known.was))
 
-pub returns-in-Refused : goal.returns-in-Refused
+pub returns : goal.returns
 unfolding finished
-returns-in-Refused c = sym (bind_out _ (ap state_of c.in-Refused.is))
+returns c = sym (bind_in _ (ap so_far_of c.in_ok-known.was) refl)
