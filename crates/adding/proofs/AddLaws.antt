@@ -2,12 +2,15 @@
 --
 -- In order: a loop that lays octets; the whole of what is laid; the answers of adding; by what the code answers; what the answer says. Assumes nothing.
 use Prim.Native.Nat.{ℕ, zero, suc, ◌+◌, ◌-◌, ◌/◌, ◌%◌, ◌≤◌, ◌<◌}
+use Rattle.std.specs.Prelude.{Result, Ok, Err}
+use Rattle.std.specs.Result.{MatchResult}
 use mathlib.Core.Path.{◌≡◌, refl, sym, ap, ap₂, ◌∙◌}
 use mathlib.Core.Bool.{Bool, true, false}
 use mathlib.Core.List.{List, [], ◌∷◌, ◌++◌, append_assoc}
 use native.Mathlib.Omega.{arith}
 use native.Mathlib.Nat.{div-one, le_refl}
 use native.Mathlib.Numerals.{add-one}
+use borrow.Rule.Slice.PartMut.{put_mid}
 use lib.ListN.{length, take, drop, get_or, set, length-append, length-set, length-drop}
 use lib.Seq.{paste, paste-zero, paste-suc, length-paste, take-paste, drop-paste, take-length, drop-drop, drop-set-lt, length-take-le}
 use lib.Dec.{eqb, le→leb, eqb→eq}
@@ -16,7 +19,7 @@ use Rattle.rules.specs.Answer.{Answer, ok, refused, ◌>>=◌}
 use Rattle.rules.specs.Chain.{octets}
 use Rattle.rules.specs.Catalogue.{categories}
 use Rattle.rules.specs.Entry.{over, new_record, join_record, added, refused_old, refused_new, in_new, in_old, Added, add_record, leaves_added}
-use Rattle.rules.proofs.AnswerLaws.{refused_ok, ok_inj, bind_in, bind_out, bind_elim, need_in, need_out, Octets}
+use Rattle.rules.proofs.AnswerLaws.{ok_inj, bind_in, bind_out, bind_elim, need_in, need_out, Octets}
 use Rattle.rules.proofs.EntryLaws.{over_is}
 use Rattle.blocks.specs.Read.{Opening, open_from}
 use Rattle.blocks.proofs.HeadLaws.{headed, len_few, old_none, old_is}
@@ -25,9 +28,7 @@ use Rattle.rules.proofs.ChainLaws.{octets_take}
 use Rattle.sets.specs.Sets.{category_at, frns_of, fspec_at}
 use Rattle.records.specs.Answers.{new_at}
 use Rattle.records.proofs.NewLaws.{new_octets}
-use Rattle.adding.specs.declared.add.RecordAdded.{RecordAdded}
-use Rattle.adding.specs.declared.add.RecordAdded.TheVariants as record_added
-use Rattle.adding.specs.Added.{added_of, added_as, laid}
+use Rattle.adding.specs.Added.{added_as, laid}
 
 -- ---- a loop that lays octets: so many of s stand in d, from a place on
 
@@ -71,6 +72,15 @@ renewed (a ∷ (b ∷ (d ∷ out))) (suc (suc (suc used))) x y u l = refl
 two_octets : (n : ℕ) → octets 2 n ≡ n / 256 ∷ (n % 256 ∷ [])
 unfolding octets
 two_octets n = ap (λ z. n / 256 ∷ (z ∷ [])) (div-one (n % 256))
+
+-- LEN as it is laid
+pub len_laid : (out mid : List ℕ) (n : ℕ) → 3 ≤ length out → n < 65_536 → mid ≡ n / 256 % 256 ∷ (n % 256 ∷ []) → put_mid 1 2 out mid ≡ set (set out 1 (n / 256)) 2 (n % 256)
+len_laid [] mid n l m e = absurd (omega arith)
+len_laid (a ∷ []) mid n l m e = absurd (omega arith)
+len_laid (a ∷ (b ∷ [])) mid n l m e = absurd (omega arith)
+len_laid (a ∷ (b ∷ (d ∷ out))) mid n l m e =
+    let h : n / 256 % 256 ≡ n / 256 = omega arith in
+    ap (put_mid 1 2 (a ∷ (b ∷ (d ∷ out)))) e ∙ ap (λ z. a ∷ (z ∷ (n % 256 ∷ out))) h
 
 -- what is after a part that was pasted
 drop_after : (d : List ℕ) (at : ℕ) (s : List ℕ) (j : ℕ) → at ≤ length d → drop (at + length s + j) (paste d at s (length s)) ≡ drop (at + length s + j) d
@@ -168,10 +178,14 @@ module _ (out : List ℕ) (used : ℕ) (fs items : List ℕ) where
 
 -- ---- by what the code answers
 
-pub old_both : {x : Added} (out : List ℕ) {n p : ℕ} → x ≡ refused_old n p → (added_of (record_added.RefusedOld n p) ≡ added_as x) × (out ≡ leaves_added x out)
+-- what is said of adding where it says this, and what the output then holds
+abbrev pub Both : Added → List ℕ → Answer ℕ × Bool → List ℕ → Type 0
+Both x out said left = (said ≡ added_as x) × (left ≡ leaves_added x out)
+
+pub old_both : {x : Added} (out : List ℕ) {n p : ℕ} → x ≡ refused_old n p → Both x out (refused n p, false) out
 old_both out e = (ap added_as (sym e), sym (ap (λ z. leaves_added z out) e))
 
-pub new_both : {x : Added} (out : List ℕ) {n p : ℕ} → x ≡ refused_new n p → (added_of (record_added.RefusedNew n p) ≡ added_as x) × (out ≡ leaves_added x out)
+pub new_both : {x : Added} (out : List ℕ) {n p : ℕ} → x ≡ refused_new n p → Both x out (refused n p, true) out
 new_both out e = (ap added_as (sym e), sym (ap (λ z. leaves_added z out) e))
 
 -- the octets in use are a block: LEN is how many they are
@@ -204,16 +218,18 @@ module _ (out : List ℕ) (used i bits n : ℕ) (items : List ℕ) (o : Opening)
   pub whole_length : used + length (fspec_at i bits ++ items) ≡ used + n
   whole_length = ap (λ k. used + k) (length-append (fspec_at i bits) items ∙ sym (new_whole i bits items n is-new).1)
 
-  pub long_both : 65_535 < used + n → (added_of (record_added.RefusedNew 17 0) ≡ added_as (add_record categories out used (frns_of bits) items)) × (out ≡ leaves_added (add_record categories out used (frns_of bits) items) out)
+  abbrev Added_both : Answer ℕ × Bool → List ℕ → Type 0
+  Added_both said left = Both (add_record categories out used (frns_of bits) items) out said left
+
+  pub long_both : 65_535 < used + n → Added_both (refused 17 0, true) out
   long_both l = new_both out (add_long out used (frns_of bits) items room o (fspec_at i bits ++ items) is_open new_record_lem (rw whole_length l))
 
-  pub full_both : used + n ≤ 65_535 → length out < used + n
-      → (added_of (record_added.RefusedNew 16 0) ≡ added_as (add_record categories out used (frns_of bits) items)) × (out ≡ leaves_added (add_record categories out used (frns_of bits) items) out)
+  pub full_both : used + n ≤ 65_535 → length out < used + n → Added_both (refused 16 0, true) out
   full_both l m = new_both out (add_full out used (frns_of bits) items room o (fspec_at i bits ++ items) is_open new_record_lem (rw whole_length l) (rw whole_length m))
 
   -- the block with the record, and the output then
   pub added_both : (left : List ℕ) → 3 ≤ used → used + n ≤ 65_535 → used + n ≤ length out → left ≡ laid out used (used + n) (fspec_at i bits) items
-      → (added_of (record_added.Length (used + n)) ≡ added_as (add_record categories out used (frns_of bits) items)) × (left ≡ leaves_added (add_record categories out used (frns_of bits) items) out)
+      → Added_both (ok (used + n), false) left
   added_both left three l m z =
       let a : add_record categories out used (frns_of bits) items ≡ added (with_record (take used out) (used + length (fspec_at i bits ++ items)) (fspec_at i bits ++ items)) =
       add_all out used (frns_of bits) items room o (fspec_at i bits ++ items) is_open new_record_lem (rw whole_length l) (rw whole_length m) in (
@@ -224,26 +240,12 @@ module _ (out : List ℕ) (used i bits n : ℕ) (items : List ℕ) (o : Opening)
             ∙ sym (ap (λ y. leaves_added y out) a),
       )
 
--- ---- what the answer says is what the rules answer
+-- ---- what was answered before a refusal is said to be of one of the two
 
-pub told_length : (x : Added) {r : RecordAdded} (n : ℕ) → added_of r ≡ added_as x → r ≡ record_added.Length n → (bs : List ℕ) × (x ≡ added bs) × (length bs ≡ n)
-told_length (added bs) n h e = (bs, refl, ok_inj (ap (λ z. z.0) (sym h ∙ ap added_of e)))
-told_length (refused_old m q) n h e = refused_ok (ap (λ z. z.0) (sym h ∙ ap added_of e))
-told_length (refused_new m q) n h e = refused_ok (ap (λ z. z.0) (sym h ∙ ap added_of e))
+pub mapped_ok : {T E : Type 0} (D : Type 0) (r : Result T E) (Q : E → Type 0) (a : T) → ((e : E) → Q e → ⊥) → MatchResult r (λ x. ◌≡◌ {A = Result T D} (Ok a) (Ok x)) Q → r ≡ Ok a
+mapped_ok D (Ok b) Q a n h = ap Ok (cc)
+mapped_ok D (Err e) Q a n h = absurd (n e h)
 
--- the refusal of which this is said; of a length any
-abbrev refused_by : Answer ℕ × Bool → Added
-refused_by (ok n, t) = added []
-refused_by (refused n p, false) = refused_old n p
-refused_by (refused n p, true) = refused_new n p
-
-told_refused : (x : Added) (n p : ℕ) (t : Bool) → added_as x ≡ (refused n p, t) → x ≡ refused_by (refused n p, t)
-told_refused (added bs) n p t h = refused_ok (ap (λ z. z.0) (sym h))
-told_refused (refused_old m q) n p t h = ap refused_by h
-told_refused (refused_new m q) n p t h = ap refused_by h
-
-pub told_old : (x : Added) {r : RecordAdded} (n p : ℕ) → added_of r ≡ added_as x → r ≡ record_added.RefusedOld n p → x ≡ refused_old n p
-told_old x n p h e = told_refused x n p false (sym h ∙ ap added_of e)
-
-pub told_new : (x : Added) {r : RecordAdded} (n p : ℕ) → added_of r ≡ added_as x → r ≡ record_added.RefusedNew n p → x ≡ refused_new n p
-told_new x n p h e = told_refused x n p true (sym h ∙ ap added_of e)
+pub mapped_err : {T E D : Type 0} (r : Result T E) (Q : E → Type 0) (d : D) → MatchResult r (λ x. ◌≡◌ {A = Result T D} (Err d) (Ok x)) Q → (e : E) × (r ≡ Err e) × Q e
+mapped_err (Ok b) Q d h = let z : ◌≡◌ {A = ℕ} 0 1 = cc in absurd (omega arith)
+mapped_err (Err e) Q d h = (e, refl, h)

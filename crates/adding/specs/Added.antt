@@ -1,17 +1,18 @@
 -- What the answer of adding says, case by case: the block's new length, or a refusal's number and place (document 01, "Refusal numbers and their order"); and
 -- whether that place lies in the new items, or else in the old block. Beside it, what the rules add, said so. Assumes nothing.
-use Rattle.std.specs.Prelude.{ℕ, ◌+◌, ◌/◌, ◌%◌, Bool, true, false, List, length, set}
+use Rattle.std.specs.Prelude.{ℕ, ◌+◌, ◌/◌, ◌%◌, Bool, true, false, List, length, set, Result, Ok, Err}
 use Rattle.std.proofs.Math.Seq.{paste}
 use Rattle.rules.specs.Answer.{Answer, ok, refused}
 use Rattle.rules.specs.Entry.{Added, added, refused_old, refused_new}
-use Rattle.adding.specs.declared.add.RecordAdded.{RecordAdded}
-use Rattle.adding.specs.declared.add.RecordAdded.TheVariants as record_added
+use Rattle.rules.specs.Told.{refusal_of}
+use Rattle.adding.specs.declared.add.AddRefusal.{AddRefusal}
+use Rattle.adding.specs.declared.add.AddRefusal.TheVariants.{Old, New}
 
 -- what an answer says; true where the place lies in the new items
-abbrev pub added_of : RecordAdded → Answer ℕ × Bool
-added_of (record_added.Length n) = (ok n, false)
-added_of (record_added.RefusedOld n p) = (refused n p, false)
-added_of (record_added.RefusedNew n p) = (refused n p, true)
+abbrev pub added_of : Result ℕ AddRefusal → Answer ℕ × Bool
+added_of (Ok n) = (ok n, false)
+added_of (Err (Old r)) = (refusal_of r, false)
+added_of (Err (New r)) = (refusal_of r, true)
 
 -- what the rules answer, said so
 abbrev pub added_as : Added → Answer ℕ × Bool

@@ -3,4 +3,4 @@
 
 mod add;
 
-pub use add::{RecordAdded, add_record};
+pub use add::{AddRefusal, add_record};

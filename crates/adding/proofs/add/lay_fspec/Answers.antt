@@ -1,4 +1,4 @@
--- `add::lay_fspec` meets its contract. The loop's invariant: so many octets are laid. The measure is how many are left. Assumes nothing.
+-- `add::lay_fspec` meets its contract. The loop's invariant: so many octets are laid. Assumes nothing.
 use native.Mathlib.Omega.{arith}
 use Rattle.adding.proofs.AddLaws.{lay_start, lay_length, lay_again, lay_end}
 use Rattle.adding.proofs.add.lay_fspec.Goals as goal
@@ -7,19 +7,16 @@ pub loop-k-init : goal.loop-k-init
 loop-k-init c = lay_start _ _ _ c.requires
 
 pub overflow_add-out : goal.overflow_add-out
-overflow_add-out c = omega (arith, c.fspec_octets-count.ensures)
+overflow_add-out c = omega (arith, c.fspec_octets-k-end.ensures)
 
 pub bounds-out-at : goal.bounds-out-at
-bounds-out-at c = omega (arith, c.fspec_octets-count.ensures, lay_length c.loop-k.invariant)
-
-pub overflow_add-k : goal.overflow_add-k
-overflow_add-k c = omega (arith, c.fspec_octets-count.ensures)
+bounds-out-at c = omega (arith, c.fspec_octets-k-end.ensures, lay_length c.loop-k.invariant)
 
 pub loop-k-preserved : goal.loop-k-preserved
-loop-k-preserved c = lay_again c.loop-k.invariant (omega (arith, c.fspec_octets-count.ensures)) c.fspec_octet.ensures
+loop-k-preserved c = lay_again c.loop-k.invariant (omega (arith, c.fspec_octets-k-end.ensures)) c.fspec_octet.ensures
 
 pub shape_of-out : goal.shape_of-out
 shape_of-out c = lay_length c.loop-k.invariant
 
 pub returns : goal.returns
-returns c = lay_end c.loop-k.invariant (omega (arith, c.fspec_octets-count.ensures))
+returns c = lay_end c.loop-k.invariant (omega (arith, c.fspec_octets-k-end.ensures, c.loop-k.auto.k-end))
