@@ -32,11 +32,8 @@ use Rattle.items.specs.Answers.{size_of, check_at}
 use Rattle.tables.proofs.ProfileLaws.{profile_at_lem}
 use Rattle.sets.specs.Sets.{category_at}
 use Rattle.records.specs.Answers.{map_in}
-use Rattle.finding.specs.declared.find.RecordPlace.TheVariants as recordPlace
-use Rattle.finding.specs.declared.find.RecordLocated.{RecordLocated}
-use Rattle.finding.specs.declared.find.ItemLocated.{ItemLocated}
-use Rattle.finding.specs.declared.find.ItemLocated.TheVariants as itemLocated
-use Rattle.finding.specs.Found.{seek_at, place_of, record_span, Located, item_place_of, item_span, span_in}
+use Rattle.finding.specs.declared.find.RecordFound as code
+use Rattle.finding.specs.Found.{seek_at, record_span, found_in, item_span, span_in}
 use Rattle.blocks.specs.Read.{Opening, open_from}
 use Rattle.blocks.proofs.HeadLaws.{opened_is}
 use Rattle.blocks.proofs.LoopLaws.{made_refused}
@@ -305,28 +302,33 @@ item_inside bs ref n l b h =
 
 -- ---- by what the code answers
 
-pub record LocatedAt (x : Answer RecordMap) (r : RecordLocated) (s l : ℕ) : Type 0 where
+pub record LocatedAt (x : Answer RecordMap) (r : code.RecordFound) : Type 0 where
   pub map : RecordMap
   pub found : x ≡ ok map
-  pub start_is : map.start ≡ s
-  pub length_is : map.end - map.start ≡ l
+  pub start_is : map.start ≡ r.start
+  pub length_is : map.end - map.start ≡ r.length
   pub map_is : r.map ≡ map_in (ok map)
-  pub span_is : span_in (record_span x) ≡ (s, l)
+  pub span_is : span_in (record_span x) ≡ (r.start, r.length)
 
-pub located : (x : Answer RecordMap) (r : RecordLocated) (s l : ℕ) → Located r x → r.answer ≡ recordPlace.At s l → LocatedAt x r s l
-located (ok m) r s l h f =
-    let e : ◌≡◌ {A = ℕ × ℕ} (m.start, m.end - m.start) (s, l) = ok_inj (sym h.answer ∙ ap place_of f) in
-    record { map = m; found = refl; start_is = ap (λ z. z.0) e; length_is = ap (λ z. z.1) e; map_is = h.map; span_is = e }
-located (refused n p) r s l h f = refused_ok (sym h.answer ∙ ap place_of f)
+pub located : (x : Answer RecordMap) (r : code.RecordFound) → ok r ≡ found_in x → LocatedAt x r
+located (ok m) r h =
+    let e : r ≡ record { start = m.start; length = m.end - m.start; map = map_in (ok m) } = ok_inj h in
+    record {
+      map = m;
+      found = refl;
+      start_is = ap (λ z. z.start) (sym e);
+      length_is = ap (λ z. z.length) (sym e);
+      map_is = ap (λ z. z.map) e;
+      span_is = ap (λ z. (z.start, z.length)) (sym e);
+    }
+located (refused n p) r h = refused_ok (sym h)
 
-pub record_inside_at : (bs : List ℕ) (n : ℕ) {r : RecordLocated} (s l : ℕ) → Octets bs → LocatedAt (find_record categories bs n) r s l → s + l ≤ length bs
-record_inside_at bs n s l b a = omega (arith, record_inside bs n a.map b a.found, a.start_is, a.length_is)
+pub record_inside_at : (bs : List ℕ) (n : ℕ) {r : code.RecordFound} → Octets bs → LocatedAt (find_record categories bs n) r → r.start + r.length ≤ length bs
+record_inside_at bs n b a = omega (arith, record_inside bs n a.map b a.found, a.start_is, a.length_is)
 
-pub lost : (x : Answer RecordMap) (r : RecordLocated) (n p : ℕ) → Located r x → r.answer ≡ recordPlace.Refused n p → x ≡ refused n p
-lost (ok m) r n p h f = refused_ok (ap place_of (sym f) ∙ h.answer)
-lost (refused m q) r n p h f =
-    let g : ◌≡◌ {A = Answer (ℕ × ℕ)} (refused m q) (refused n p) = sym h.answer ∙ ap place_of f in
-    (cc)
+pub lost : (x : Answer RecordMap) (n p : ℕ) → refused n p ≡ found_in x → x ≡ refused n p
+lost (ok m) n p h = refused_ok h
+lost (refused m q) n p h = cc
 
 pub record ItemSpan (x : Answer Laid) (s l : ℕ) : Type 0 where
   pub item : Laid
@@ -335,37 +337,23 @@ pub record ItemSpan (x : Answer Laid) (s l : ℕ) : Type 0 where
   pub size_is : item.size ≡ l
   pub span_is : span_in (item_span x) ≡ (s, l)
 
-pub item_located : (x : Answer Laid) {r : ItemLocated} (s l : ℕ) → item_place_of r ≡ item_span x → r ≡ itemLocated.At s l → ItemSpan x s l
-item_located (ok m) s l h f =
-    let e : ◌≡◌ {A = ℕ × ℕ} (m.start, m.size) (s, l) = ok_inj (sym h ∙ ap item_place_of f) in
+pub item_located : (x : Answer Laid) (s l : ℕ) → ok (s, l) ≡ item_span x → ItemSpan x s l
+item_located (ok m) s l h =
+    let e : ◌≡◌ {A = ℕ × ℕ} (m.start, m.size) (s, l) = ok_inj (sym h) in
     record { item = m; found = refl; start_is = ap (λ z. z.0) e; size_is = ap (λ z. z.1) e; span_is = e }
-item_located (refused n p) s l h f = refused_ok (sym h ∙ ap item_place_of f)
+item_located (refused n p) s l h = refused_ok (sym h)
 
-pub item_lost : (x : Answer Laid) {r : ItemLocated} (n p : ℕ) → item_place_of r ≡ item_span x → r ≡ itemLocated.Refused n p → x ≡ refused n p
-item_lost (ok m) n p h f = refused_ok (ap item_place_of (sym f) ∙ h)
-item_lost (refused m q) n p h f =
-    let g : ◌≡◌ {A = Answer (ℕ × ℕ)} (refused m q) (refused n p) = sym h ∙ ap item_place_of f in
-    (cc)
+pub item_lost : (x : Answer Laid) (n p : ℕ) → refused n p ≡ item_span x → x ≡ refused n p
+item_lost (ok m) n p h = refused_ok h
+item_lost (refused m q) n p h = cc
 
 pub item_inside_at : (bs : List ℕ) (ref n s l : ℕ) → Octets bs → ItemSpan (find_item categories bs ref n) s l → s + l ≤ length bs
 item_inside_at bs ref n s l b a = omega (arith, item_inside bs ref n a.item b a.found, a.start_is, a.size_is)
 
--- there is no record with a number only for the reason 19
-numbered_refused : (c : Category) (k : ℕ) (rs : List Record) (n m p : ℕ) → numbered c k rs n ≡ refused m p → ◌≡◌ {A = Answer Numbered} (refused m p) (refused 19 0)
-unfolding numbered
-numbered_refused c k [] n m p h = sym h
-numbered_refused c k (r ∷ rs) zero m p h = refused_ok (sym h)
-numbered_refused c k (r ∷ rs) (suc n) m p h = numbered_refused c (k + length (octets_of (write_record c r))) rs n m p h
-
 -- the item of a block that is opened, by its FRN and the map of its record
 module _ (bs : List ℕ) (ref n i count : ℕ) (k : Opens bs (record { category = category_at i; count = count })) where
-  pub no_record_at : (f m p : ℕ) → NamedAt ref 1 (places (category_at i)) f → seek_at (category_at i) 3 (drop 3 bs) n ≡ refused m p → find_item categories bs ref n ≡ refused 19 0
-  unfolding seek_at
-  no_record_at f m p named h =
-      let e : numbered (category_at i) 3 k.block.records n ≡ refused m p =
-      made_refused (numbered (category_at i) 3 k.block.records n) (map_of (category_at i)) m p (sym (bind_in _ k.reads refl) ∙ h) in
-      let g : ◌≡◌ {A = Answer Numbered} (refused m p) (refused 19 0) = numbered_refused (category_at i) 3 k.block.records n m p e in
-      item_nowhere bs ref n _ k named.is_item m p h ∙ (cc)
+  pub no_record_is : (f m p : ℕ) → NamedAt ref 1 (places (category_at i)) f → seek_at (category_at i) 3 (drop 3 bs) n ≡ refused m p → find_item categories bs ref n ≡ refused m p
+  no_record_is f m p named h = item_nowhere bs ref n _ k named.is_item m p h
 
   -- the map has a place for it
   pub index_in : (f : ℕ) → NamedAt ref 1 (places (category_at i)) f → f - 1 < map_places

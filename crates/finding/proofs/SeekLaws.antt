@@ -5,20 +5,24 @@ use Prim.Native.Nat.{ℕ, suc, ◌+◌, ◌-◌, ◌<◌}
 use mathlib.Core.Path.{◌≡◌, refl, sym, ap, ap₂, ◌∙◌, subst}
 use mathlib.Core.List.{List, [], ◌∷◌}
 use native.Mathlib.Omega.{arith}
+use Rattle.std.specs.Prelude.{◌≢◌}
+use mathlib.Core.Logic.{⊎_elim}
+use lib.Dec.{eqb}
+use borrow.Author.Tests.{eq-eqb, ne_eqb, eqb-true, eqb-false}
 use lib.ListN.{length, drop, length-drop}
 use Rattle.rules.specs.Answer.{Answer, ok, refused, ◌>>=◌}
 use Rattle.rules.specs.Record.{Category}
 use Rattle.rules.specs.Block.{read_up_to, read_all}
 use Rattle.rules.specs.Entry.{RecordMap, map_of, numbered}
-use Rattle.rules.proofs.AnswerLaws.{bind_in, Octets, octets_drop}
+use Rattle.rules.proofs.AnswerLaws.{refused_ok, ok_inj, bind_in, bind_out, bind_elim, if_inv, if_true, if_false, Octets, octets_drop}
 use Rattle.sets.specs.Sets.{category_at}
 use Rattle.records.specs.declared.RecordMap.{RecordMap as RecordMap'}
-use Rattle.records.specs.declared.RecordWalked.{RecordWalked}
-use Rattle.records.specs.Answers.{map_in, Walked, record_at}
+use Rattle.records.specs.Answers.{map_in, record_at}
 use Rattle.blocks.specs.Read.{Records}
-use Rattle.blocks.proofs.RecordLaws.{record_is, Accepted, records_turn}
-use Rattle.finding.specs.declared.find.RecordPlace.TheVariants.{At}
-use Rattle.finding.specs.Found.{seek_at, record_span, Located}
+use Rattle.blocks.proofs.LoopLaws.{made_refused}
+use Rattle.blocks.proofs.RecordLaws.{record_is, Accepted, ended_accepted, ended_refused, records_turn, seek_stop}
+use Rattle.finding.specs.declared.find.RecordFound.{RecordFound}
+use Rattle.finding.specs.Found.{first_at, seek_at, found_in}
 
 -- ---- where it is, turn by turn
 
@@ -60,26 +64,69 @@ pub record Seeking (c : Category) (part : List ℕ) (from n : ℕ) (rest : List 
   pub records : Records c rest
   pub same : seek_at c at rest left ≡ seek_at c from part n
 
-pub seek_again : (c : Category) (part : List ℕ) (from n : ℕ) (bs rest : List ℕ) (k left e : ℕ) → Seeking c part from n bs k left → Accepted c k bs e
-    → rest ≡ drop (e - k) bs → (left ≡ 0 → ⊥) → Seeking c part from n rest e (left - 1)
-seek_again c part from n bs rest k left e s a d z =
+pub seek_again : (c : Category) (part : List ℕ) (from n : ℕ) (bs rest : List ℕ) (k left e less : ℕ) → Seeking c part from n bs k left → Accepted c k bs e
+    → rest ≡ drop (e - k) bs → (left ≡ 0 → ⊥) → less ≡ left - 1 → Seeking c part from n rest e less
+seek_again c part from n bs rest k left e less s a d z f =
     let l : length rest ≡ length bs - (e - k) = ap length d ∙ length-drop (e - k) bs in
     record {
       room = omega (arith, s.room, a.low, a.high);
       octets = subst Octets (sym d) (octets_drop (e - k) bs s.octets);
       records = seek_left c k bs rest e s.octets s.records a d;
-      same = sym (seek_turn c k bs rest left e s.octets s.records a d z) ∙ s.same;
+      same = ap (seek_at c e rest) f ∙ sym (seek_turn c k bs rest left e s.octets s.records a d z) ∙ s.same;
     }
+
+-- ---- the first record of what is left
+
+pub first_none : (i k : ℕ) (bs : List ℕ) → length bs ≡ 0 → first_at i k bs ≡ refused 19 0
+unfolding first_at
+first_none i k bs e = if_true _ (eq-eqb (length bs) 0 e) refl
+
+pub first_some : (i k : ℕ) (bs : List ℕ) → 0 < length bs → first_at i k bs ≡ record_at i k bs
+unfolding first_at
+first_some i k bs l = if_false _ (ne_eqb (length bs) 0 (omega arith)) refl
+
+-- with its map, as the code has it
+pub record First (i k : ℕ) (bs : List ℕ) (map : RecordMap') : Type 0 where
+  pub in_rules : RecordMap
+  pub mapped : record_at i k bs ≡ ok in_rules
+  pub map_is : map_in (ok in_rules) ≡ map
+  pub accepted : Accepted (category_at i) k bs map.end
+
+pub first_of : (i k : ℕ) (bs : List ℕ) (map : RecordMap') → Octets bs → ok map ≡ (first_at i k bs >>= λ m. ok (map_in (ok m))) → First i k bs map
+unfolding first_at
+first_of i k bs map o h =
+    bind_elim _ _ (sym h) λ m p q.
+    ⊎_elim
+    (λ (t, e). refused_ok e)
+    (λ (t, e).
+    let z : map_in (ok m) ≡ map = ok_inj q in
+    record {
+      in_rules = m;
+      mapped = e;
+      map_is = z;
+      accepted = ended_accepted i k bs map.end o (ap (λ y. ok y.end) (sym z) ∙ sym (bind_in _ e refl));
+    })
+    (if_inv (eqb (length bs) 0) (refused 19 0) (record_at i k bs) p)
+
+-- where all of them are accepted there is none only at their end
+pub first_bad : (i k : ℕ) (bs : List ℕ) (n p : ℕ) → Records (category_at i) bs → refused n p ≡ (first_at i k bs >>= λ m. ok (map_in (ok m)))
+    → (length bs ≡ 0) × (◌≡◌ {A = Answer RecordMap} (refused n p) (refused 19 0))
+unfolding first_at
+first_bad i k bs n p r h =
+    let f : first_at i k bs ≡ refused n p = made_refused (first_at i k bs) (λ m. map_in (ok m)) n p (sym h) in
+    ⊎_elim
+    (λ (t, e). (eqb-true (length bs) 0 t, sym e))
+    (λ (t, e). seek_stop _ k bs n p r (let z : length bs ≢ 0 = eqb-false (length bs) 0 t in omega arith) (ended_refused i k bs n p (sym (bind_out _ e))))
+    (if_inv (eqb (length bs) 0) (refused 19 0) (record_at i k bs) f)
 
 -- ---- its map
 
-pub walked_map : (i k : ℕ) (bs : List ℕ) (w : RecordWalked) → Walked w (record_at i k bs) → (e : ℕ) (a : Accepted (category_at i) k bs e)
-    → w.map ≡ map_in (ok (map_of (category_at i) (record { start = k; value = a.value })))
-walked_map i k bs w walked e a = walked.map ∙ ap map_in (record_is i k bs ∙ a.mapped)
-
 -- the record that was sought, with its map
-pub located_at : {x : Answer RecordMap} {c : Category} {k : ℕ} {bs : List ℕ} {e : ℕ} (a : Accepted c k bs e) (m : RecordMap')
-    → m ≡ map_in (ok (map_of c (record { start = k; value = a.value }))) → x ≡ ok (map_of c (record { start = k; value = a.value }))
-    → Located (record { answer = At k (e - k); map = m }) x
+pub located_at : {x : Answer RecordMap} {i k : ℕ} {bs : List ℕ} {map : RecordMap'} (f : First i k bs map)
+    → x ≡ ok (map_of (category_at i) (record { start = k; value = f.accepted.value }))
+    → ◌≡◌ {A = Answer RecordFound} (ok (record { start = k; length = map.end - k; map = map })) (found_in x)
 unfolding map_of
-located_at {k = k} a m h q = record { answer = ap (λ y. ok (k, y - k)) (sym a.ends) ∙ ap record_span (sym q); map = h ∙ ap map_in (sym q) }
+located_at {i = i} {k} {bs} {map} f q =
+    let m : map ≡ map_in (ok (map_of (category_at i) (record { start = k; value = f.accepted.value }))) =
+    sym f.map_is ∙ ap map_in (sym f.mapped ∙ record_is i k bs ∙ f.accepted.mapped) in
+    ap₂ (λ y z. ok (record { start = k; length = y - k; map = z })) (sym f.accepted.ends) m ∙ ap found_in (sym q)

@@ -1,54 +1,31 @@
--- No two distinct results satisfy the statement of a public function; of a part that is returned, no two that differ in place or bytes. Of an answer that
--- is an enum: what it says determines it. Assumes nothing.
-use Prim.Native.Nat.{ℕ}
-use mathlib.Core.Path.{◌≡◌, refl, sym, ap, ap₂, ◌∙◌}
+-- No two distinct results satisfy the statement of a public function; of a part that is returned, no two that differ in place or bytes. Assumes nothing.
+use Rattle.std.specs.Prelude.{ℕ, Result}
+use mathlib.Core.Path.{◌≡◌, sym, ap, ap₂, ◌∙◌}
 use mathlib.Core.List.{List}
 use denote.Ref.{Bor}
-use Rattle.rules.specs.Answer.{Answer, ok, refused}
 use Rattle.rules.specs.Catalogue.{categories}
 use Rattle.rules.specs.Entry.{find_record, find_item}
-use Rattle.finding.specs.declared.find.RecordPlace.{RecordPlace}
-use Rattle.finding.specs.declared.find.RecordPlace.TheVariants as recordPlace
-use Rattle.finding.specs.declared.find.RecordLocated.{RecordLocated}
-use Rattle.finding.specs.declared.find.ItemLocated.{ItemLocated}
-use Rattle.finding.specs.declared.find.ItemLocated.TheVariants as itemLocated
+use Rattle.rules.specs.declared.faults.Refusal.{Refusal}
+use Rattle.rules.proofs.ToldLaws.{one_told, one_told_as}
+use Rattle.finding.specs.declared.find.RecordFound.{RecordFound}
+use Rattle.finding.specs.declared.find.Span.{Span}
 use Rattle.finding.specs.Part.{VeryPart}
-use Rattle.finding.specs.Found.{place_of, record_span, Located, item_place_of, item_span, span_in}
+use Rattle.finding.specs.Found.{record_span, Located, span_said, item_place_of, item_span, span_in}
 
 -- ---- `locate_record`
 
--- the answer that says so
-abbrev place_from : Answer (ℕ × ℕ) → RecordPlace
-place_from (ok s) = recordPlace.At s.0 s.1
-place_from (refused n p) = recordPlace.Refused n p
-
-place_back : (a : RecordPlace) → place_from (place_of a) ≡ a
-place_back (recordPlace.At s l) = refl
-place_back (recordPlace.Refused n p) = refl
-
-pub place_told : (a b : RecordPlace) → place_of a ≡ place_of b → a ≡ b
-place_told a b e = sym (place_back a) ∙ ap place_from e ∙ place_back b
-
-pub one_locate_record : (block : List ℕ) (n : ℕ) (a b : RecordLocated) → Located a (find_record categories block n) → Located b (find_record categories block n) → a ≡ b
-one_locate_record block n a b p q =
-    ap₂ (λ x m. record { answer = x; map = m }) (place_told a.answer b.answer (p.answer ∙ sym q.answer)) (p.map ∙ sym q.map)
+pub one_locate_record : (block : List ℕ) (n : ℕ) (a b : Result RecordFound Refusal)
+    → Located a (find_record categories block n) → Located b (find_record categories block n) → a ≡ b
+one_locate_record block n a b p q = one_told a b (p ∙ sym q)
 
 -- ---- `locate_item`
 
-abbrev item_from : Answer (ℕ × ℕ) → ItemLocated
-item_from (ok s) = itemLocated.At s.0 s.1
-item_from (refused n p) = itemLocated.Refused n p
+span_one : (a b : Span) → span_said a ≡ span_said b → a ≡ b
+span_one a b e = ap₂ (λ s l. record { start = s; length = l }) (ap (λ z. z.0) e) (ap (λ z. z.1) e)
 
-item_back : (a : ItemLocated) → item_from (item_place_of a) ≡ a
-item_back (itemLocated.At s l) = refl
-item_back (itemLocated.Refused n p) = refl
-
-pub item_told : (a b : ItemLocated) → item_place_of a ≡ item_place_of b → a ≡ b
-item_told a b e = sym (item_back a) ∙ ap item_from e ∙ item_back b
-
-pub one_locate_item : (block : List ℕ) (reference n : ℕ) (a b : ItemLocated)
+pub one_locate_item : (block : List ℕ) (reference n : ℕ) (a b : Result Span Refusal)
     → item_place_of a ≡ item_span (find_item categories block reference n) → item_place_of b ≡ item_span (find_item categories block reference n) → a ≡ b
-one_locate_item block reference n a b p q = item_told a b (p ∙ sym q)
+one_locate_item block reference n a b p q = one_told_as span_said span_one a b (p ∙ sym q)
 
 -- ---- `part_of`, `find_record`, `find_item`: that very part
 

@@ -1,39 +1,39 @@
 -- What the answers of finding say, case by case: where what was found lies, its first byte counted from the block's start and how many it has; or a
 -- refusal's number and place (document 01, "Refusal numbers and their order"). Beside each, what the rules find, said so. Assumes nothing.
-use Rattle.std.specs.Prelude.{ℕ, ◌-◌, ◌≡◌, List}
-use Rattle.rules.specs.Answer.{Answer, ok, refused, ◌>>=◌}
+use Rattle.std.specs.Prelude.{ℕ, ◌-◌, ◌≡◌, List, Result, length, eqb}
+use Rattle.rules.specs.Answer.{Answer, ok, refused, ◌>>=◌, when◌then◌else◌}
 use Rattle.rules.specs.Record.{Category, read_record}
 use Rattle.rules.specs.Block.{read_all}
 use Rattle.rules.specs.Entry.{RecordMap, Laid, map_of, numbered}
-use Rattle.records.specs.Answers.{map_in}
-use Rattle.finding.specs.declared.find.RecordPlace.{RecordPlace}
-use Rattle.finding.specs.declared.find.RecordPlace.TheVariants as recordPlace
-use Rattle.finding.specs.declared.find.RecordLocated.{RecordLocated}
-use Rattle.finding.specs.declared.find.ItemLocated.{ItemLocated}
-use Rattle.finding.specs.declared.find.ItemLocated.TheVariants as itemLocated
+use Rattle.rules.specs.Told.{told, told_as}
+use Rattle.rules.specs.declared.faults.Refusal.{Refusal}
+use Rattle.records.specs.Answers.{map_in, record_at}
+use Rattle.finding.specs.declared.find.RecordFound.{RecordFound}
+use Rattle.finding.specs.declared.find.Span.{Span}
 
 -- ---- a record
 
--- what an answer says
-abbrev pub place_of : RecordPlace → Answer (ℕ × ℕ)
-place_of (recordPlace.At s l) = ok (s, l)
-place_of (recordPlace.Refused n p) = refused n p
-
--- what a rule answers, said so
+-- what a rule answers: where the record lies
 abbrev pub record_span : Answer RecordMap → Answer (ℕ × ℕ)
 record_span (ok m) = ok (m.start, m.end - m.start)
 record_span (refused n p) = refused n p
 
--- what the code answers is what a rule answers: where the record lies and its map; or the refusal, and every place absent
-pub record Located (r : RecordLocated) (a : Answer RecordMap) : Type 0 where
-  pub answer : place_of r.answer ≡ record_span a
-  pub map : r.map ≡ map_in a
+-- and its map beside it
+abbrev pub found_in : Answer RecordMap → Answer RecordFound
+found_in (ok m) = ok (record { start = m.start; length = m.end - m.start; map = map_in (ok m) })
+found_in (refused n p) = refused n p
+
+-- what the code answers is what a rule answers: where the record lies, and its map
+abbrev pub Located : Result RecordFound Refusal → Answer RecordMap → Type 0
+Located r a = told r ≡ found_in a
 
 -- ---- an item
 
-abbrev pub item_place_of : ItemLocated → Answer (ℕ × ℕ)
-item_place_of (itemLocated.At s l) = ok (s, l)
-item_place_of (itemLocated.Refused n p) = refused n p
+abbrev pub span_said : Span → ℕ × ℕ
+span_said s = (s.start, s.length)
+
+abbrev pub item_place_of : Result Span Refusal → Answer (ℕ × ℕ)
+item_place_of r = told_as span_said r
 
 abbrev pub item_span : Answer Laid → Answer (ℕ × ℕ)
 item_span (ok l) = ok (l.start, l.size)
@@ -53,3 +53,7 @@ seek_at c k bs n = do
   rs ← read_all (read_record c) bs
   r ← numbered c k rs n
   ok (map_of c r)
+
+-- the map of the record that starts octets, of a category by its profile
+unfoldable pub first_at : ℕ → ℕ → List ℕ → Answer RecordMap
+first_at i k bs = when eqb (length bs) 0 then refused 19 0 else record_at i k bs

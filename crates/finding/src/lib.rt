@@ -4,7 +4,4 @@
 
 mod find;
 
-pub use find::{
-    ItemLocated, RecordLocated, RecordPlace, find_item, find_record, locate_item, locate_record,
-    part_of,
-};
+pub use find::{RecordFound, Span, find_item, find_record, locate_item, locate_record, part_of};

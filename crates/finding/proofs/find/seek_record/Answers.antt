@@ -1,59 +1,60 @@
--- `find::seek_record` meets its contract. The loop's invariant: the rule on what is left, with as many fewer to pass, is the rule on the whole. The measure is
--- the length of what is left. Assumes nothing.
-use Prim.Native.Nat.{◌-◌}
-use mathlib.Core.Path.{refl, sym, ◌∙◌, subst}
+-- `find::seek_record` meets its contract. The loop's invariant: the rule on what is left, with as many fewer to pass, is the rule on the whole. Assumes nothing.
+use Rattle.std.specs.Prelude.{◌≢◌}
+use Prim.Native.Nat.{◌+◌, ◌-◌}
+use mathlib.Core.Path.{◌≡◌, sym, ap, ◌∙◌}
 use native.Mathlib.Omega.{arith}
-use Rattle.sets.specs.Sets.{category_at}
-use Rattle.blocks.proofs.LoopLaws.{octets_each}
-use Rattle.blocks.proofs.RecordLaws.{Accepted, ended_accepted, ended_refused, seek_stop}
-use Rattle.finding.specs.Found.{Located}
-use Rattle.finding.proofs.SeekLaws.{seek_end, seek_here, seek_again, walked_map, located_at}
+use native.Mathlib.Nat.{sub-zero}
 use Rattle.rules.proofs.AnswerLaws.{to_end}
+use Rattle.rules.proofs.ToldLaws.{handed}
+use Rattle.blocks.proofs.LoopLaws.{octets_each}
+use Rattle.finding.specs.Found.{seek_at, found_in}
+use Rattle.finding.proofs.SeekLaws.{First, first_of, first_bad, seek_end, seek_here, seek_again, located_at}
 use Rattle.finding.proofs.find.seek_record.Goals as goal
-use Rattle.finding.proofs.find.seek_record.Goals.{In-Ends}
+use Rattle.finding.proofs.find.seek_record.Goals.{In_ok-end, In_ok-map}
 
 -- the record of this turn
-accepted : (c : In-Ends)
-    → Accepted (category_at c.args.profile) c.loop-rest.at
-    c.loop-rest.rest.now c.in-Ends.end
-accepted c =
-    ended_accepted _ _ c.loop-rest.rest.now c.check_record-walked.result.checked c.check_record-walked.ensures.answer _
-    c.loop-rest.invariant.octets c.in-Ends.is
+passed : (c : In_ok-end) → First c.args.profile c.loop-passed.at c.loop-passed.rest.now c.in_ok-end.field-0
+passed c = first_of _ _ c.loop-passed.rest.now _ c.loop-passed.invariant.octets c.in_ok-end.ensures
 
-pub loop-rest-init : goal.loop-rest-init
-loop-rest-init c = record { room = c.requires.0; octets = octets_each c.args.part.now c.type_inv.part; records = c.requires.1; same = refl }
+-- the record that is sought
+here : (c : In_ok-map) → First c.args.profile c.loop-passed.at c.loop-passed.rest.now c.in_ok-map.map
+here c = first_of _ _ c.loop-passed.rest.now _ c.loop-passed.invariant.octets c.in_ok-map.ensures
 
-pub check_record-walked-requires : goal.check_record-walked-requires
-check_record-walked-requires c = (c.requires.2, omega arith)
+pub loop-passed-init : goal.loop-passed-init
+loop-passed-init c = record { room = c.requires.0; octets = octets_each c.args.part.now c.type_inv.part; records = c.requires.1; same = ap (seek_at _ c.args.from c.args.part.now) (sub-zero c.args.n) }
 
-pub returns-in_default : goal.returns-in_default
-returns-in_default c =
-    seek_stop _ _ c.loop-rest.rest.now _ _ c.loop-rest.invariant.records c.loop-rest-test.true
-    (ended_refused _ _ _ c.check_record-walked.result.checked c.check_record-walked.ensures.answer _ _ c.in_default.is)
+-- none is left
+pub returns-in_err-end : goal.returns-in_err-end
+returns-in_err-end c =
+    let b = first_bad _ _ c.loop-passed.rest.now _ _ c.loop-passed.invariant.records c.in_err-end.ensures in
+    handed _ _ c.from_residual.ensures.1 ∙ ap found_in (b.1 ∙ sym (seek_end _ _ _ _ b.0) ∙ c.loop-passed.invariant.same)
 
-pub overflow_sub-used : goal.overflow_sub-used
-overflow_sub-used c = omega (arith, (accepted (goal.at.overflow_sub-used c).In-Ends).low)
+pub returns-in_err-map : goal.returns-in_err-map
+returns-in_err-map c =
+    let b = first_bad _ _ c.loop-passed.rest.now _ _ c.loop-passed.invariant.records c.in_err-map.ensures in
+    handed _ _ c.from_residual-in_err-map.ensures.1 ∙ ap found_in (b.1 ∙ sym (seek_end _ _ _ _ b.0) ∙ c.loop-passed.invariant.same)
 
-pub returns-then-left-eq0 : goal.returns-then-left-eq0
-returns-then-left-eq0 c =
-    located_at (accepted (goal.at.returns-then-left-eq0 c).In-Ends) c.check_record-walked.result.map (walked_map _ _ _ c.check_record-walked.result c.check_record-walked.ensures _ (accepted (goal.at.returns-then-left-eq0 c).In-Ends))
-    (sym c.loop-rest.invariant.same ∙ seek_here _ _ c.loop-rest.rest.now _ _ c.loop-rest.invariant.octets c.loop-rest.invariant.records (accepted (goal.at.returns-then-left-eq0 c).In-Ends) c.if-left-eq0.true)
+pub overflow_sub-rest : goal.overflow_sub-rest
+overflow_sub-rest c = omega (arith, (passed (goal.at.overflow_sub-rest c).In_ok-end).accepted.low)
 
 pub slice_bounds-rest-count : goal.slice_bounds-rest-count
-slice_bounds-rest-count c = omega (arith, (accepted (goal.at.slice_bounds-rest-count c).In-Ends).low, (accepted (goal.at.slice_bounds-rest-count c).In-Ends).high)
+slice_bounds-rest-count c = omega (arith, (passed (goal.at.slice_bounds-rest-count c).In_ok-end).accepted.high)
 
 pub slice_bounds-rest-start : goal.slice_bounds-rest-start
-slice_bounds-rest-start c = omega (arith, (accepted (goal.at.slice_bounds-rest-start c).In-Ends).low, (accepted (goal.at.slice_bounds-rest-start c).In-Ends).high)
+slice_bounds-rest-start c = omega (arith, (passed (goal.at.slice_bounds-rest-start c).In_ok-end).accepted.high)
 
-pub slice_bounds-rest-end : goal.slice_bounds-rest-end
-slice_bounds-rest-end c = omega (arith, (accepted (goal.at.slice_bounds-rest-end c).In-Ends).low, (accepted (goal.at.slice_bounds-rest-end c).In-Ends).high)
+pub loop-passed-preserved : goal.loop-passed-preserved
+loop-passed-preserved c =
+    let left : c.args.n - c.loop-passed._passed ≢ 0 = omega arith in
+    let less : c.args.n - (c.loop-passed._passed + 1) ≡ c.args.n - c.loop-passed._passed - 1 = omega arith in
+    seek_again _ _ _ _ c.loop-passed.rest.now _ _ _ _ _ c.loop-passed.invariant (passed (goal.at.loop-passed-preserved c).In_ok-end).accepted
+    (to_end c.loop-passed.rest.now (c.in_ok-end.field-0.end - c.loop-passed.at)) left less
 
-pub loop-rest-smaller : goal.loop-rest-smaller
-loop-rest-smaller c = omega (arith, (accepted (goal.at.loop-rest-smaller c).In-Ends).low, (accepted (goal.at.loop-rest-smaller c).In-Ends).high)
-
-pub loop-rest-preserved : goal.loop-rest-preserved
-loop-rest-preserved c =
-    seek_again _ _ _ _ c.loop-rest.rest.now _ _ _ _ c.loop-rest.invariant (accepted (goal.at.loop-rest-preserved c).In-Ends) (to_end c.loop-rest.rest.now (c.in-Ends.end - c.loop-rest.at)) c.if-left-eq0.false
+pub overflow_sub-result : goal.overflow_sub-result
+overflow_sub-result c = omega (arith, (here (goal.at.overflow_sub-result c).In_ok-map).accepted.low)
 
 pub returns : goal.returns
-returns c = subst (Located c.record_lost-2.result) (sym (seek_end _ _ _ _ (omega arith)) ∙ c.loop-rest.invariant.same) c.record_lost-2.ensures
+returns c =
+    let n : c.args.n - c.loop-passed._passed ≡ 0 = omega arith in
+    located_at (here (goal.at.returns c).In_ok-map)
+    (sym c.loop-passed.invariant.same ∙ seek_here _ _ c.loop-passed.rest.now _ _ c.loop-passed.invariant.octets c.loop-passed.invariant.records (here (goal.at.returns c).In_ok-map).accepted n)
