@@ -2,17 +2,19 @@
 // first record (document 01, "Block, record, item" and "Refusal numbers and their order"). No block is checked as a whole.
 #![tactic(auto)]
 
-ghost use Rattle.std.specs.Prelude.{◌≡◌, true, ◌≤◌, length};
-ghost use Rattle.quick_items.specs.Item.{sound_steps};
-ghost use Rattle.walking.specs.Walk.{begin, more, Stands, stays, answered, open_at, block_at, record_at, next_record};
-ghost use Rattle.walking.specs.Answers.{found_of};
+ghost use Rattle.std.specs.Prelude.{◌≡◌, ◌≤◌, length};
+ghost use Rattle.walking.specs.Walk.{begin, more, Stands, open_at, block_at, record_at, next_record};
+ghost use Rattle.walking.specs.Answers.{found_of, met_of, walked_of};
 
-use blocks::{HEAD, HeadRead};
-use quick_items::{Steps, steps};
-use records::{RecordChecked, RecordMap};
+use blocks::HEAD;
+use quick_items::Steps;
+use records::RecordMap;
+use rules::{Fault, Refusal};
 use tables::PROFILES;
 
-// Where a walk stands: in the block that starts at `block` and ends before `end`, of a category, at `place`; all counted from the recording's start.
+// Where a walk stands: in the block that starts at `block` and ends before `end`, of a category, at `place`; all counted from the recording's start. Laid
+// out as C has it, which keeps it between steps.
+#[repr(C)]
 #[derive(Clone, Copy)]
 pub struct Cursor {
     pub block: usize,
@@ -54,157 +56,93 @@ impl Cursor {
     }
 }
 
-// What a step meets.
+// A record: its category, its first byte, counted from the recording's start, and how many bytes it has; its map, whose places are counted from the start
+// of its block, which is `next.block`; and where the walk goes on.
 #[derive(Drop)]
-pub enum Met {
-    // A record: its category, its first byte, counted from the recording's start, and how many bytes it has. The octet first, so that no gap is left
-    // behind the variant, which would shift the map in every copy of what a step answers.
-    Record {
-        category: u8,
-        start: usize,
-        length: usize,
-    },
-    // Nothing more: the recording's end, or a cursor that stands in no block of it.
-    Finished,
-    // The number of the refusal and its place, counted from the recording's start.
-    Refused {
-        number: u8,
-        place: usize,
-    },
-}
-
-// What it meets; the record's map, its places counted from the start of the record's block, which is `next.block`, and every place of it absent where there is no record;
-// and where the walk goes on: the cursor given where there is no record.
-#[derive(Drop)]
-pub struct Walked {
-    pub met: Met,
+pub struct Met {
+    pub category: u8,
+    pub start: usize,
+    pub length: usize,
     pub map: RecordMap,
     pub next: Cursor,
 }
 
-fn stayed(cursor: Cursor, met: Met) -> Walked
-    ensures { result ≡ stays cursor met }
-{
-    Walked {
-        met,
-        map: RecordMap::absent(),
-        next: cursor,
-    }
-}
-
 // ---- a block's head
 
-// A cursor at a record of a block, or a refusal's number and place.
-#[derive(Drop)]
-pub enum BlockFound {
-    At(Cursor),
-    Refused { number: u8, place: usize },
-}
-
 // The block that starts at a place.
-fn open_at(recording: &[u8], start: usize) -> BlockFound
+fn open_at(recording: &[u8], start: usize) -> Result<Cursor, Refusal>
     requires { start ≤ length recording.now }
     ensures { found_of result ≡ open_at recording.now start }
 {
     let part = &recording[start..];
-    let head = blocks::front_head(part);
-    let HeadRead::Head { profile: _, len } = head else {
-        return BlockFound::Refused {
-            number: head.number(),
-            place: start,
-        };
+    let head = match blocks::front_head(part) {
+        Ok(head) => head,
+        Err(fault) => return Err(fault.at(start)),
     };
-    if len == HEAD {
-        return BlockFound::Refused {
-            number: 4,
-            place: start,
-        };
+    if head.len == HEAD {
+        return Err(Fault::BlockEmpty.at(start));
     }
-    BlockFound::At(Cursor {
+    Ok(Cursor {
         block: start,
         place: start + HEAD,
-        end: start + len,
+        end: start + head.len,
         category: part[0],
     })
 }
 
 // The block that the next record lies in: the cursor's own, or where that is at its end the one that starts there.
-pub fn block_at(recording: &[u8], cursor: Cursor) -> BlockFound
+pub fn block_at(recording: &[u8], cursor: Cursor) -> Result<Cursor, Refusal>
     requires { cursor.end ≤ length recording.now }
     ensures { found_of result ≡ block_at recording.now cursor }
 {
     if cursor.place < cursor.end {
-        return BlockFound::At(cursor);
+        return Ok(cursor);
     }
     open_at(recording, cursor.end)
 }
 
 // ---- a record
 
-// The record that a cursor stands at, in a step from another cursor, by a table that is lent.
-fn record_by(t: &Steps, recording: &[u8], from: Cursor, at: Cursor) -> Walked
-    requires stands { Stands (length recording.now) at }
-    requires t_value { sound_steps t.now ≡ true }
-    ensures { result ≡ answered from (record_at recording.now at) }
+// The record that a cursor stands at.
+fn record_at(recording: &[u8], at: Cursor) -> Result<Met, Refusal>
+    requires { Stands (length recording.now) at }
+    ensures { met_of result ≡ record_at recording.now at }
 {
-    let block = at.block;
-    let place = at.place;
-    let end = at.end;
-    let category = at.category;
-    let profile = tables::profile_of(category);
+    let profile = tables::profile_of(at.category);
     if PROFILES <= profile {
-        return stayed(from, Met::Refused { number: 2, place });
+        return Err(Fault::CategoryUnknown.at(at.place));
     }
-    let offset = place - block;
-    let walked = records::check_record(t, profile, &recording[place..end], offset);
-    let checked = walked.checked;
-    let RecordChecked::Ends { end: stop } = checked else {
-        return stayed(
-            from,
-            Met::Refused {
-                number: records::checked_number(checked),
-                place: block + records::checked_place(checked),
-            },
-        );
+    let offset = at.place - at.block;
+    let steps = Steps::new();
+    let map = match records::check_record(&steps, profile, &recording[at.place..at.end], offset) {
+        Ok(map) => map,
+        Err(refusal) => return Err(refusal.later(at.block)),
     };
-    let map = walked.map;
-    Walked {
-        met: Met::Record {
-            category,
-            start: place,
-            length: stop - offset,
+    Ok(Met {
+        category: at.category,
+        start: at.place,
+        length: map.end - offset,
+        next: Cursor {
+            block: at.block,
+            place: at.block + map.end,
+            end: at.end,
+            category: at.category,
         },
         map,
-        next: Cursor {
-            block,
-            place: block + stop,
-            end,
-            category,
-        },
-    }
-}
-
-// The same, with a table of its own.
-fn record_at(recording: &[u8], from: Cursor, at: Cursor) -> Walked
-    requires { Stands (length recording.now) at }
-    ensures { result ≡ answered from (record_at recording.now at) }
-{
-    let t = steps();
-    record_by(&t, recording, from, at)
+    })
 }
 
 // ---- a step
 
-// The next record of a recording: the one at the cursor's place, or the first of the next block where the cursor's block is at its end.
-pub fn next_record(recording: &[u8], cursor: Cursor) -> Walked
-    ensures { result ≡ next_record recording.now cursor }
+// The next record of a recording: the one at the cursor's place, or the first of the next block where the cursor's block is at its end. None: the recording's
+// end, or a cursor that stands in no block of it. A refusal's place is counted from the recording's start.
+pub fn next_record(recording: &[u8], cursor: Cursor) -> Result<Option<Met>, Refusal>
+    ensures { walked_of cursor result ≡ next_record recording.now cursor }
 {
     if !cursor.has_more(recording.len()) {
-        return stayed(cursor, Met::Finished);
+        return Ok(None);
     }
-    let found = block_at(recording, cursor);
-    match found {
-        BlockFound::At(at) => record_at(recording, cursor, at),
-        BlockFound::Refused { number, place } => stayed(cursor, Met::Refused { number, place }),
-    }
+    let at = block_at(recording, cursor)?;
+    let met = record_at(recording, at)?;
+    Ok(Some(met))
 }
