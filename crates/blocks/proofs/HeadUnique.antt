@@ -16,9 +16,10 @@ use Rattle.tables.specs.Profiles.{profile_in}
 use Rattle.tables.proofs.ProfileLaws.{index_is}
 use Rattle.sets.specs.Sets.{category_at}
 use Rattle.blocks.specs.declared.heads.Head.{Head}
-use Rattle.blocks.specs.Read.{head_by}
-use Rattle.blocks.specs.Answers.{head_said, head_of}
-use Rattle.blocks.proofs.HeadLaws.{headed}
+use Rattle.blocks.specs.declared.check.Opened.{Opened}
+use Rattle.blocks.specs.Read.{head_by, open_from}
+use Rattle.blocks.specs.Answers.{head_said, head_of, opened_of}
+use Rattle.blocks.proofs.HeadLaws.{headed, opened_named}
 
 -- ---- profiles
 
@@ -27,6 +28,10 @@ pub one_index : (i j : ℕ) → category_of (category_at i).cat categories ≡ s
 one_index i j h e =
     let k : category_of (category_at j).cat categories ≡ some (category_at j) = rw (← e) h in
     sym (index_is i h) ∙ ap (λ c. profile_in c.cat categories) e ∙ index_is j k
+
+-- the profile of a block that is opened is its category's
+pub opened_profile : (bs : List ℕ) (least : ℕ) (o : Opened) → opened_of (Ok o) ≡ open_from least bs → o.profile ≡ profile_in (category_at o.profile).cat categories
+opened_profile bs least o h = sym (index_is o.profile (opened_named bs least _ (sym h)))
 
 -- ---- `front_head`
 
