@@ -31,7 +31,7 @@ use Rattle.tables.specs.Places.{is_named, frn_as}
 use Rattle.items.specs.Answers.{size_of, check_at}
 use Rattle.tables.proofs.ProfileLaws.{profile_at_lem}
 use Rattle.sets.specs.Sets.{category_at}
-use Rattle.records.specs.Answers.{map_in}
+use Rattle.records.specs.Answers.{map_by}
 use Rattle.finding.specs.declared.find.RecordFound as code
 use Rattle.finding.specs.Found.{seek_at, record_span, found_in, item_span, span_in}
 use Rattle.blocks.specs.Read.{Opening, open_from}
@@ -307,12 +307,12 @@ pub record LocatedAt (x : Answer RecordMap) (r : code.RecordFound) : Type 0 wher
   pub found : x ≡ ok map
   pub start_is : map.start ≡ r.start
   pub length_is : map.end - map.start ≡ r.length
-  pub map_is : r.map ≡ map_in (ok map)
+  pub map_is : r.map ≡ map_by map
   pub span_is : span_in (record_span x) ≡ (r.start, r.length)
 
 pub located : (x : Answer RecordMap) (r : code.RecordFound) → ok r ≡ found_in x → LocatedAt x r
 located (ok m) r h =
-    let e : r ≡ record { start = m.start; length = m.end - m.start; map = map_in (ok m) } = ok_inj h in
+    let e : r ≡ record { start = m.start; length = m.end - m.start; map = map_by m } = ok_inj h in
     record {
       map = m;
       found = refl;

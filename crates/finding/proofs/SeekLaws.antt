@@ -6,7 +6,7 @@ use mathlib.Core.Path.{◌≡◌, refl, sym, ap, ap₂, ◌∙◌, subst}
 use mathlib.Core.List.{List, [], ◌∷◌}
 use native.Mathlib.Omega.{arith}
 use Rattle.std.specs.Prelude.{◌≢◌}
-use mathlib.Core.Logic.{⊎_elim}
+use mathlib.Core.Bool.{Bool, true, false}
 use lib.Dec.{eqb}
 use borrow.Author.Tests.{eq-eqb, ne_eqb, eqb-true, eqb-false}
 use lib.ListN.{length, drop, length-drop}
@@ -14,13 +14,13 @@ use Rattle.rules.specs.Answer.{Answer, ok, refused, ◌>>=◌}
 use Rattle.rules.specs.Record.{Category}
 use Rattle.rules.specs.Block.{read_up_to, read_all}
 use Rattle.rules.specs.Entry.{RecordMap, map_of, numbered}
-use Rattle.rules.proofs.AnswerLaws.{refused_ok, ok_inj, bind_in, bind_out, bind_elim, if_inv, if_true, if_false, Octets, octets_drop}
+use Rattle.rules.proofs.AnswerLaws.{refused_ok, bind_in, bind_out, if_true, if_false, Octets, octets_drop}
 use Rattle.sets.specs.Sets.{category_at}
 use Rattle.records.specs.declared.RecordMap.{RecordMap as RecordMap'}
-use Rattle.records.specs.Answers.{map_in, record_at}
+use Rattle.records.specs.Answers.{map_by, record_at}
 use Rattle.blocks.specs.Read.{Records}
 use Rattle.blocks.proofs.LoopLaws.{made_refused}
-use Rattle.blocks.proofs.RecordLaws.{record_is, Accepted, ended_accepted, ended_refused, records_turn, seek_stop}
+use Rattle.blocks.proofs.RecordLaws.{Accepted, MapTaken, map_taken, map_refused, records_turn, seek_stop}
 use Rattle.finding.specs.declared.find.RecordFound.{RecordFound}
 use Rattle.finding.specs.Found.{first_at, seek_at, found_in}
 
@@ -85,48 +85,33 @@ pub first_some : (i k : ℕ) (bs : List ℕ) → 0 < length bs → first_at i k 
 unfolding first_at
 first_some i k bs l = if_false _ (ne_eqb (length bs) 0 (omega arith)) refl
 
--- with its map, as the code has it
-pub record First (i k : ℕ) (bs : List ℕ) (map : RecordMap') : Type 0 where
-  pub in_rules : RecordMap
-  pub mapped : record_at i k bs ≡ ok in_rules
-  pub map_is : map_in (ok in_rules) ≡ map
-  pub accepted : Accepted (category_at i) k bs map.end
-
-pub first_of : (i k : ℕ) (bs : List ℕ) (map : RecordMap') → Octets bs → ok map ≡ (first_at i k bs >>= λ m. ok (map_in (ok m))) → First i k bs map
-unfolding first_at
-first_of i k bs map o h =
-    bind_elim _ _ (sym h) λ m p q.
-    ⊎_elim
-    (λ (t, e). refused_ok e)
-    (λ (t, e).
-    let z : map_in (ok m) ≡ map = ok_inj q in
-    record {
-      in_rules = m;
-      mapped = e;
-      map_is = z;
-      accepted = ended_accepted i k bs map.end o (ap (λ y. ok y.end) (sym z) ∙ sym (bind_in _ e refl));
-    })
-    (if_inv (eqb (length bs) 0) (refused 19 0) (record_at i k bs) p)
+pub first_of : (i k : ℕ) (bs : List ℕ) (map : RecordMap') → Octets bs → ok map ≡ (first_at i k bs >>= λ m. ok (map_by m)) → MapTaken i k bs map
+first_of i k bs map o h = go (eqb (length bs) 0) refl
+  where
+    go : (t : Bool) → eqb (length bs) 0 ≡ t → MapTaken i k bs map
+    go true t = refused_ok (sym (h ∙ bind_out _ (first_none i k bs (eqb-true (length bs) 0 t))))
+    go false t =
+        let z : length bs ≢ 0 = eqb-false (length bs) 0 t in
+        map_taken i k bs map o (h ∙ ap (λ x. x >>= λ m. ok (map_by m)) (first_some i k bs (omega arith)))
 
 -- where all of them are accepted there is none only at their end
-pub first_bad : (i k : ℕ) (bs : List ℕ) (n p : ℕ) → Records (category_at i) bs → refused n p ≡ (first_at i k bs >>= λ m. ok (map_in (ok m)))
+pub first_bad : (i k : ℕ) (bs : List ℕ) (n p : ℕ) → Records (category_at i) bs → refused n p ≡ (first_at i k bs >>= λ m. ok (map_by m))
     → (length bs ≡ 0) × (◌≡◌ {A = Answer RecordMap} (refused n p) (refused 19 0))
-unfolding first_at
-first_bad i k bs n p r h =
-    let f : first_at i k bs ≡ refused n p = made_refused (first_at i k bs) (λ m. map_in (ok m)) n p (sym h) in
-    ⊎_elim
-    (λ (t, e). (eqb-true (length bs) 0 t, sym e))
-    (λ (t, e). seek_stop _ k bs n p r (let z : length bs ≢ 0 = eqb-false (length bs) 0 t in omega arith) (ended_refused i k bs n p (sym (bind_out _ e))))
-    (if_inv (eqb (length bs) 0) (refused 19 0) (record_at i k bs) f)
+first_bad i k bs n p r h = go (eqb (length bs) 0) refl
+  where
+    go : (t : Bool) → eqb (length bs) 0 ≡ t → (length bs ≡ 0) × (◌≡◌ {A = Answer RecordMap} (refused n p) (refused 19 0))
+    go true t =
+        let z : length bs ≡ 0 = eqb-true (length bs) 0 t in
+        (z, sym (made_refused (first_at i k bs) map_by n p (sym h)) ∙ first_none i k bs z)
+    go false t =
+        let z : length bs ≢ 0 = eqb-false (length bs) 0 t in
+        seek_stop _ k bs n p r (omega arith) (map_refused i k bs n p (h ∙ ap (λ x. x >>= λ m. ok (map_by m)) (first_some i k bs (omega arith))))
 
 -- ---- its map
 
 -- the record that was sought, with its map
-pub located_at : {x : Answer RecordMap} {i k : ℕ} {bs : List ℕ} {map : RecordMap'} (f : First i k bs map)
+pub located_at : {x : Answer RecordMap} {i k : ℕ} {bs : List ℕ} {map : RecordMap'} (f : MapTaken i k bs map)
     → x ≡ ok (map_of (category_at i) (record { start = k; value = f.accepted.value }))
     → ◌≡◌ {A = Answer RecordFound} (ok (record { start = k; length = map.end - k; map = map })) (found_in x)
 unfolding map_of
-located_at {i = i} {k} {bs} {map} f q =
-    let m : map ≡ map_in (ok (map_of (category_at i) (record { start = k; value = f.accepted.value }))) =
-    sym f.map_is ∙ ap map_in (sym f.mapped ∙ record_is i k bs ∙ f.accepted.mapped) in
-    ap₂ (λ y z. ok (record { start = k; length = y - k; map = z })) (sym f.accepted.ends) m ∙ ap found_in (sym q)
+located_at {k = k} f q = ap₂ (λ y z. ok (record { start = k; length = y - k; map = z })) (sym f.accepted.ends) f.map_is ∙ ap found_in (sym q)

@@ -7,7 +7,7 @@ use Rattle.rules.specs.Block.{read_all}
 use Rattle.rules.specs.Entry.{RecordMap, Laid, map_of, numbered}
 use Rattle.rules.specs.Told.{told, told_as}
 use Rattle.rules.specs.declared.faults.Refusal.{Refusal}
-use Rattle.records.specs.Answers.{map_in, record_at}
+use Rattle.records.specs.Answers.{map_by, record_at}
 use Rattle.finding.specs.declared.find.RecordFound.{RecordFound}
 use Rattle.finding.specs.declared.find.Span.{Span}
 
@@ -20,7 +20,7 @@ record_span (refused n p) = refused n p
 
 -- and its map beside it
 abbrev pub found_in : Answer RecordMap → Answer RecordFound
-found_in (ok m) = ok (record { start = m.start; length = m.end - m.start; map = map_in (ok m) })
+found_in (ok m) = ok (record { start = m.start; length = m.end - m.start; map = map_by m })
 found_in (refused n p) = refused n p
 
 -- what the code answers is what a rule answers: where the record lies, and its map

@@ -2,7 +2,7 @@
 use mathlib.Core.Path.{sym, ap, ◌∙◌}
 use Rattle.rules.specs.Answer.{ok, ◌>>=◌}
 use Rattle.rules.proofs.AnswerLaws.{bind_out}
-use Rattle.records.specs.Answers.{map_in}
+use Rattle.records.specs.Answers.{map_by}
 use Rattle.rules.proofs.ToldLaws.{refused_as}
 use Rattle.blocks.proofs.LoopLaws.{some_left, none_left}
 use Rattle.finding.proofs.SeekLaws.{first_none, first_some}
@@ -14,4 +14,4 @@ returns-then-is_empty c =
     ∙ sym (bind_out _ (first_none _ _ _ (none_left _ _ c.is_empty.ensures c.if-is_empty.true)))
 
 pub returns : goal.returns
-returns c = c.check_record.ensures ∙ sym (ap (λ x. x >>= λ m. ok (map_in (ok m))) (first_some _ _ _ (some_left _ _ c.is_empty.ensures c.if-is_empty.false)))
+returns c = c.check_record.ensures ∙ sym (ap (λ x. x >>= λ m. ok (map_by m)) (first_some _ _ _ (some_left _ _ c.is_empty.ensures c.if-is_empty.false)))

@@ -1,6 +1,6 @@
 -- `find::locate_record` meets its contract: a block that is refused is not searched; else the record is sought among those after the head.
 -- Assumes nothing.
-use mathlib.Core.Path.{◌≡◌, sym, ap, ◌∙◌}
+use mathlib.Core.Path.{sym, ap, ◌∙◌}
 use native.Mathlib.Omega.{arith}
 use Rattle.rules.proofs.AnswerLaws.{to_end}
 use Rattle.blocks.specs.Answers.{opened_said}

@@ -7,17 +7,18 @@ use native.Mathlib.Nat.{sub-zero}
 use Rattle.rules.proofs.AnswerLaws.{to_end}
 use Rattle.rules.proofs.ToldLaws.{handed}
 use Rattle.blocks.proofs.LoopLaws.{octets_each}
+use Rattle.blocks.proofs.RecordLaws.{MapTaken}
 use Rattle.finding.specs.Found.{seek_at, found_in}
-use Rattle.finding.proofs.SeekLaws.{First, first_of, first_bad, seek_end, seek_here, seek_again, located_at}
+use Rattle.finding.proofs.SeekLaws.{first_of, first_bad, seek_end, seek_here, seek_again, located_at}
 use Rattle.finding.proofs.find.seek_record.Goals as goal
 use Rattle.finding.proofs.find.seek_record.Goals.{In_ok-end, In_ok-map}
 
 -- the record of this turn
-passed : (c : In_ok-end) → First c.args.profile c.loop-passed.at c.loop-passed.rest.now c.in_ok-end.field-0
+passed : (c : In_ok-end) → MapTaken c.args.profile c.loop-passed.at c.loop-passed.rest.now c.in_ok-end.field-0
 passed c = first_of _ _ c.loop-passed.rest.now _ c.loop-passed.invariant.octets c.in_ok-end.ensures
 
 -- the record that is sought
-here : (c : In_ok-map) → First c.args.profile c.loop-passed.at c.loop-passed.rest.now c.in_ok-map.map
+here : (c : In_ok-map) → MapTaken c.args.profile c.loop-passed.at c.loop-passed.rest.now c.in_ok-map.map
 here c = first_of _ _ c.loop-passed.rest.now _ c.loop-passed.invariant.octets c.in_ok-map.ensures
 
 pub loop-passed-init : goal.loop-passed-init
