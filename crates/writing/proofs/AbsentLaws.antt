@@ -1,14 +1,13 @@
 -- The number that says that something is absent, by its bits; and the values before those that say so, number by number from the end. Assumes nothing.
-use Prim.Native.Nat.{ℕ, suc, ◌-◌, ◌^◌, ◌<◌, ◌≤◌}
-use mathlib.Core.Path.{◌≡◌, refl, sym, ap, ap₂, ◌∙◌}
+use Prim.Native.Nat.{ℕ, zero, suc, ◌+◌, ◌-◌, ◌^◌, ◌<◌, ◌≤◌}
+use mathlib.Core.Path.{◌≡◌, refl, ap, ap₂, ◌∙◌}
 use mathlib.Core.Bool.{Bool, true, false, ◌&&◌}
-use mathlib.Core.List.{List}
+use mathlib.Core.List.{List, [], ◌∷◌}
 use native.Mathlib.Omega.{arith}
 use borrow.Author.Tests.{eqb-true, eqb-false, eq-eqb, ne_eqb}
 use lib.Dec.{eqb}
 use lib.IntN.{ℤ, pos, negsuc}
-use lib.ListN.{length, get_or, drop, drop_of_length-le}
-use lib.Seq.{drop-cons}
+use lib.ListN.{length, get_or, drop}
 use mir.Syntax.{w64}
 use mir.Val.{to_z, of_z, SFits}
 use mir.ValLaws.{to_z-of_z}
@@ -31,27 +30,19 @@ absent_again v f e = e ∙ ap is_absent (to_z-of_z w64 v f)
 
 -- ---- from the end
 
-pub record Trimming (vs : List ℤ) (n : ℕ) : Type 0 where
-  pub few : n ≤ length vs
-  pub absent : all_absent (drop n vs) ≡ true
+all_from : (vs : List ℤ) (n : ℕ) → ((k : ℕ) → n ≤ k → k < length vs → is_absent (get_or vs k (pos 0)) ≡ true) → all_absent (drop n vs) ≡ true
+all_from [] zero h = refl
+all_from [] (suc n) h = refl
+all_from (v ∷ vs) zero h = ap₂ ◌&&◌ (h 0 (omega arith) (omega arith)) (all_from vs zero (λ k p q. h (suc k) (omega arith) (omega arith)))
+all_from (v ∷ vs) (suc n) h = all_from vs n (λ k p q. h (suc k) (omega arith) (omega arith))
 
-pub trimming : (vs : List ℤ) → Trimming vs (length vs)
-trimming vs = let h : length vs ≤ length vs = omega arith in record { few = h; absent = ap all_absent (drop_of_length-le vs h) }
+-- the last value stands at i
+pub front_last : (vs : List ℤ) (i : ℕ) → i < length vs → is_absent (get_or vs i (pos 0)) ≡ false
+    → ((k : ℕ) → i < k → k < length vs → is_absent (get_or vs k (pos 0)) ≡ true) → Front vs (i + 1)
+front_last vs i l here h =
+    let m : i + 1 - 1 ≡ i = omega arith in
+    record { few = omega arith; absent = all_from vs (i + 1) (λ k p q. h k (omega arith) q); last = λ z. rw m here }
 
-pub trimmed : (vs : List ℤ) (n : ℕ) → Trimming vs n → 0 < n → is_absent (get_or vs (n - 1) (pos 0)) ≡ true → Trimming vs (n - 1)
-trimmed vs n t h e =
-    let m : suc (n - 1) ≡ n = omega arith in
-    record {
-      few = omega (arith, t.few);
-      absent = ap all_absent (drop-cons vs (n - 1) (pos 0) (omega (arith, t.few))) ∙ ap₂ ◌&&◌ e (ap (λ x. all_absent (drop x vs)) m ∙ t.absent);
-    }
-
--- the last of them is a value
-pub trim_end : (vs : List ℤ) (n : ℕ) → Trimming vs n → is_absent (get_or vs (n - 1) (pos 0)) ≡ false → Front vs n
-trim_end vs n t e = record { few = t.few; absent = t.absent; last = λ h. e }
-
--- none of them is
-pub trim_none : (vs : List ℤ) (n : ℕ) → Trimming vs n → n ≤ 0 → Front vs 0
-trim_none vs n t h =
-    let z : n ≡ 0 = omega arith in
-    record { few = omega arith; absent = ap (λ x. all_absent (drop x vs)) (sym z) ∙ t.absent; last = λ l. absurd (omega arith) }
+-- there is none
+pub front_none : (vs : List ℤ) → ((k : ℕ) → k < length vs → is_absent (get_or vs k (pos 0)) ≡ true) → Front vs 0
+front_none vs h = record { few = omega arith; absent = all_from vs 0 (λ k p q. h k q); last = λ z. absurd (omega arith) }

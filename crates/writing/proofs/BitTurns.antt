@@ -1,6 +1,7 @@
 -- What the two walks over the bits of a primary octet do, turn by turn: the first sizes each subfield, the second lays it.
 --
 -- In order: a bit and those after it; the first walk; the second walk. Assumes nothing.
+use Rattle.tables.specs.Tables.{kind_digit}
 use Prim.Native.Nat.{ℕ, suc, ◌+◌, ◌-◌, ◌*◌, ◌^◌, ◌<◌, ◌≤◌}
 use mathlib.Core.Path.{◌≡◌, refl, sym, ap, ap₂, ◌∙◌, subst}
 use mathlib.Core.Bool.{Bool, true, false}
@@ -15,28 +16,29 @@ use lib.Seq.{sets, length-sets}
 use Rattle.rules.specs.Answer.{Answer, ok, refused, ◌>>=◌}
 use Rattle.rules.specs.Presence.{number}
 use Rattle.rules.specs.Catalogue.{categories}
-use Rattle.rules.proofs.AnswerLaws.{refused_ok, ok_inj, bind_in, bind_out, bind_elim, bind_cong, bind_assoc}
+use Rattle.rules.proofs.AnswerLaws.{ok_inj, bind_in, bind_out, bind_elim, bind_cong, bind_assoc}
 use Rattle.tables.specs.Tables.{subfield_count, layouts, layout_at, subfields_in, subfield_at}
 use Rattle.layouts.proofs.Stores.{sets_append}
 use Rattle.writing.specs.Write.{marked}
-use Rattle.writing.specs.Compound.{Place, place_from, Row, join_row, row_from, PlaceSized, place_size, RowSized, row_size, place_of, row_of}
+use Rattle.writing.specs.Compound.{Place, place_from, Row, join_row, row_from, place_size, RowSized, row_size, place_of, row_of}
 use Rattle.writing.proofs.Sound.{every, every_at}
 use Rattle.writing.proofs.LaidLaws.{marked_lt}
+use Rattle.writing.proofs.Handed.{refused_before}
 use Rattle.writing.proofs.PlaceLaws.{place_facts}
 
 -- ---- a bit and those after it
 
 -- a subfield is fixed or a list
-subs_few : T (every (λ i. leb (layout_at i).kind 2) subfields_in)
+subs_few : T (every (λ i. leb (kind_digit (layout_at i).kind) 2) subfields_in)
 unfolding subfields_in layout_at layouts categories
 subs_few = tt
 
-pub sub_few : (i : ℕ) → (layout_at (subfield_at i)).kind ≤ 2
+pub sub_few : (i : ℕ) → kind_digit (layout_at (subfield_at i)).kind ≤ 2
 unfolding subfield_at subfields_in layout_at layouts categories
-sub_few i = leb→le _ _ (every_at (λ i. leb (layout_at i).kind 2) subfields_in 0 subs_few tt i)
+sub_few i = leb→le _ _ (every_at (λ i. leb (kind_digit (layout_at i).kind) 2) subfields_in 0 subs_few tt i)
 
-pub kind_few : (i : ℕ) {s : ℕ} → s ≡ subfield_at i → (layout_at s).kind ≤ 2
-kind_few i e = subst (λ x. (layout_at x).kind ≤ 2) (sym e) (sub_few i)
+pub kind_few : (i : ℕ) {s : ℕ} → s ≡ subfield_at i → kind_digit (layout_at s).kind ≤ 2
+kind_few i e = subst (λ x. kind_digit (layout_at x).kind ≤ 2) (sym e) (sub_few i)
 
 pub sub_many : subfield_count ≤ 10_000
 unfolding subfields_in layouts categories
@@ -75,13 +77,9 @@ size_ok i vs k t s n h =
     let d = ok_inj h₁ in
     (p, q, (ap (λ x. x.there) d, (ap (λ x. x.size) d, ap (λ x. x.next) d)))
 
-size_no : (i : ℕ) (vs : List ℤ) (k : ℕ) → refused 11 0 ≡ place_size i vs k → place_from i vs k ≡ refused 11 0
-unfolding place_size ◌>>=◌
-size_no i vs k h = go (place_from i vs k) h
-  where
-    go : (m : Answer Place) → ◌≡◌ {A = Answer PlaceSized} (refused 11 0) (m >>= (λ x. ok (record { there = x.there; size = length x.octets; next = x.next }))) → m ≡ refused 11 0
-    go (ok p) e = refused_ok e
-    go (refused a b) e = cc
+size_no : (i : ℕ) (vs : List ℤ) (k : ℕ) {x y : ℕ} → refused x y ≡ place_size i vs k → place_from i vs k ≡ refused x y
+unfolding place_size
+size_no i vs k h = refused_before _ (place_from i vs k) h
 
 -- ---- the first walk
 
@@ -134,7 +132,7 @@ module _ (first : ℕ) (vs : List ℤ) (at e i n s k : ℕ) (c : Summing first v
 
   module _ (h : i < e) where
     -- no values of it
-    pub sum_no : refused 11 0 ≡ place_size (subfield_at i) vs k → refused 11 0 ≡ row_size first vs at
+    pub sum_no : {x y : ℕ} → refused x y ≡ place_size (subfield_at i) vs k → refused x y ≡ row_size first vs at
     sum_no d = sym (bind_out _ (row_cons e i vs k h ∙ bind_out _ (size_no (subfield_at i) vs k d))) ∙ c.same
 
     pub mark_fits_lem : (t : Bool) → marked true t n < 2 ^ 64

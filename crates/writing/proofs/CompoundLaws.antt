@@ -1,6 +1,7 @@
 -- A compound item by the rows of the tables is what the rules' `write_fields` writes: bit by bit, primary octet by primary octet, and the whole.
 --
 -- In order: one bit; the bits of a primary octet; all primary octets; the primary octets themselves; the item. Assumes nothing.
+use Rattle.tables.specs.Tables.{kind_digit}
 use Prim.Native.Nat.{ℕ, zero, suc, ◌+◌, ◌-◌, ◌*◌, ◌^◌, ◌<◌, ◌≤◌}
 use mathlib.Core.Path.{◌≡◌, refl, sym, ap, ap₂, ◌∙◌, subst}
 use mathlib.Core.Logic.{⊎_elim}
@@ -187,7 +188,7 @@ module _ (i : ℕ) (vs : List ℤ) (at : ℕ) (s : Format) (f : format_is (layou
       }
 
 -- from the rules: what they take and write
-place_to : (i : ℕ) (vs : List ℤ) (at : ℕ) (v : Option PartValues) (rest : List ℤ) (os : List ℕ) → (layout_at i).kind ≤ 2
+place_to : (i : ℕ) (vs : List ℤ) (at : ℕ) (v : Option PartValues) (rest : List ℤ) (os : List ℕ) → kind_digit (layout_at i).kind ≤ 2
     → take_place (format_is (layout_at i)) (drop at vs) ≡ ok (v, rest) → write_opt (format_is (layout_at i)) v ≡ ok os → (t : Took i vs at v os) × (rest ≡ drop t.next vs)
 unfolding take_place write_opt take_sub
 place_to i vs at v rest os few h w = go (sub_row (layout_at i) few)
@@ -254,7 +255,7 @@ took_placed i vs at p v os t h =
       flag = ap (λ x. x.there) d;
     }
 
-place_from_lem : (i : ℕ) (vs : List ℤ) (at : ℕ) (p : Place) → (layout_at i).kind ≤ 2 → place_from i vs at ≡ ok p → Placed i vs at p
+place_from_lem : (i : ℕ) (vs : List ℤ) (at : ℕ) (p : Place) → kind_digit (layout_at i).kind ≤ 2 → place_from i vs at ≡ ok p → Placed i vs at p
 unfolding place_from place_in span_from span_to used fixed_runs list_runs
 place_from_lem i vs at p few h = go (sub_row (layout_at i) few)
   where

@@ -1,14 +1,17 @@
 -- The answers of `write_item`, by what was tested on the way, and what the output then holds.
 --
 -- In order: a refusal, and an item; an item that is not compound; a compound one; the layout of a reference. Assumes nothing.
+use Rattle.tables.specs.declared.tables.Kind.TheVariants.{Compound}
+use Rattle.tables.specs.Tables.{same_kind}
+use Rattle.tables.proofs.KindLaws.{kind_same, kind_other, kind_true}
 use Prim.Native.Nat.{ℕ, zero, suc, ◌+◌, ◌-◌, ◌<◌, ◌≤◌}
 use mathlib.Core.Path.{◌≡◌, refl, sym, ap, ◌∙◌, subst}
 use mathlib.Core.Bool.{Bool, true, false, cond, false≢true}
 use mathlib.Core.Option.{Option, none, some}
 use mathlib.Core.List.{List}
 use native.Mathlib.Omega.{arith}
-use borrow.Author.Tests.{lt-leb, eqb-true, eq-eqb, ne_eqb}
-use lib.Dec.{leb, eqb, le→leb}
+use borrow.Author.Tests.{lt-leb}
+use lib.Dec.{leb, le→leb}
 use lib.IntN.{ℤ}
 use lib.ListN.{length, take}
 use lib.Seq.{sets}
@@ -19,15 +22,16 @@ use Rattle.rules.specs.FieldList.{write_fields}
 use Rattle.rules.specs.Presence.{present}
 use Rattle.rules.specs.Catalogue.{categories}
 use Rattle.rules.specs.Entry.{layout_of, write_one, leaves}
-use Rattle.rules.proofs.AnswerLaws.{refused_ok, none_some, bind_in, bind_out, need_in, need_out, T_true}
+use Rattle.rules.proofs.AnswerLaws.{none_some, bind_in, bind_out, need_in, need_out, T_true}
 use Rattle.tables.specs.declared.tables.LayoutRow.{LayoutRow}
 use Rattle.tables.specs.Tables.{layout_count, primaries_is, as_plain, layout_at, format_by, format_is, layout_is}
-use Rattle.tables.proofs.TableLaws.{layout_none, layout_some}
+use Rattle.tables.proofs.TableLaws.{layout_some}
 use Rattle.layouts.proofs.Stores.{sets_over}
-use Rattle.items.specs.Answers.{row_named, count_of}
-use Rattle.writing.specs.Write.{parts_at, Parts, parts, cut_at, size_at, octets_at}
-use Rattle.writing.specs.Compound.{Rows, all_rows, item_octets, compound_at, rows_size, compound_octets}
+use Rattle.items.specs.Answers.{count_of}
+use Rattle.writing.specs.Write.{parts_at, parts, cut_at, size_at, octets_at}
+use Rattle.writing.specs.Compound.{all_rows, compound_at, rows_size, compound_octets}
 use Rattle.writing.specs.Item.{FrontAt, told_at, plain_at, write_at}
+use Rattle.writing.proofs.Handed.{refused_before}
 use Rattle.writing.proofs.RowLaws.{Sized, sized, size_refused}
 use Rattle.writing.proofs.PlainLaws.{plain_at_lem}
 use Rattle.writing.proofs.PrimaryTurns.{Whole, whole}
@@ -65,16 +69,16 @@ module _ {m w : Answer (List ℕ)} (out : List ℕ) (e : m ≡ fitted (length ou
 
 -- ---- an item that is not compound
 
-no_format : (r : LayoutRow) → r.kind ≡ 5 → format_is r ≡ none
+no_format : (r : LayoutRow) → r.kind ≡ Compound → format_is r ≡ none
 unfolding format_is format_by
 no_format r e = rw e
 
 row_plain : (r : LayoutRow) (s : Format) → format_is r ≡ some s → layout_is r ≡ some (plain s)
 unfolding layout_is
-row_plain r s e = go (eqb r.kind 5) refl
+row_plain r s e = go (same_kind r.kind Compound) refl
   where
-    go : (t : Bool) → eqb r.kind 5 ≡ t → cond t (some (compound (primaries_is (r.end - r.first) r.first))) (as_plain (format_is r)) ≡ some (plain s)
-    go true d = none_some (sym (no_format r (eqb-true r.kind 5 d)) ∙ e)
+    go : (t : Bool) → same_kind r.kind Compound ≡ t → cond t (some (compound (primaries_is (r.end - r.first) r.first))) (as_plain (format_is r)) ≡ some (plain s)
+    go true d = none_some (sym (no_format r (kind_true r.kind Compound d)) ∙ e)
     go false d = ap as_plain e
 
 pub present_elim : {A C : Type 0} (m : Option A) → present m ≡ true → ((a : A) → m ≡ some a → C) → C
@@ -129,23 +133,19 @@ module _ (i : ℕ) (vs : List ℤ) (out : List ℕ) (h : present (format_is (lay
 
 -- ---- a compound item
 
-module _ (i : ℕ) (vs : List ℤ) (out : List ℕ) (h : (layout_at i).kind ≡ 5) where
+module _ (i : ℕ) (vs : List ℤ) (out : List ℕ) (h : (layout_at i).kind ≡ Compound) where
   row_compound : layout_is (layout_at i) ≡ some (compound (primaries_is ((layout_at i).end - (layout_at i).first) (layout_at i).first))
   unfolding layout_is
   row_compound =
-      ap (λ t. cond t (some (compound (primaries_is ((layout_at i).end - (layout_at i).first) (layout_at i).first))) (as_plain (format_is (layout_at i)))) (eq-eqb (layout_at i).kind 5 h)
+      ap (λ t. cond t (some (compound (primaries_is ((layout_at i).end - (layout_at i).first) (layout_at i).first))) (as_plain (format_is (layout_at i)))) (kind_same (layout_at i).kind Compound h)
 
   by_rows : write_at i vs (length out) ≡ fitted (length out) (compound_at i vs)
   unfolding write_at expect◌or◌
   by_rows = bind_in _ (ap (λ x. expect x or 21) row_compound) (ap (fitted (length out)) (compound_at_lem i vs))
 
-  pub compound_no : refused 11 0 ≡ rows_size i vs → Answers (refused 11 0) out (write_at i vs (length out)) out
+  pub compound_no : {x y : ℕ} → refused x y ≡ rows_size i vs → Answers (refused x y) out (write_at i vs (length out)) out
   unfolding rows_size compound_at ◌>>=◌
-  compound_no e = no_item out by_rows (bind_out _ (go (all_rows i vs) e))
-    where
-      go : (m : Answer Rows) → ◌≡◌ {A = Answer Parts} (refused 11 0) (m >>= (λ y. ok (parts (length y.numbers) (length (item_octets y))))) → m ≡ refused 11 0
-      go (ok y) e = refused_ok e
-      go (refused a b) e = cc
+  compound_no e = no_item out by_rows (bind_out _ (refused_before _ (all_rows i vs) e))
 
   module _ (k s : ℕ) (e : ok (parts k s) ≡ rows_size i vs) where
     whole_as : Whole i vs k × (s ≡ length (compound_octets i vs))
@@ -170,27 +170,27 @@ module _ (i : ℕ) (vs : List ℤ) (out : List ℕ) (h : (layout_at i).kind ≡ 
 -- ---- the layout of a reference
 
 -- a row that is not compound has a format
-pub has_format : (i : ℕ) {r : LayoutRow} → i < layout_count → (i ≡ 0 → ⊥) → r ≡ layout_at i → (r.kind ≡ 5 → ⊥) → present (format_is (layout_at i)) ≡ true
+pub has_format : (i : ℕ) {r : LayoutRow} → i < layout_count → 0 < i → r ≡ layout_at i → (r.kind ≡ Compound → ⊥) → present (format_is (layout_at i)) ≡ true
 unfolding layout_is
-has_format zero h z er e = absurd (z refl)
+has_format zero h z er e = absurd (omega arith)
 has_format (suc i) {r} h z er e =
     go (format_is (layout_at (suc i)))
     (ap (λ t. present (cond t (some (compound (primaries_is ((layout_at (suc i)).end - (layout_at (suc i)).first) (layout_at (suc i)).first))) (as_plain (format_is (layout_at (suc i))))))
-    (sym (ne_eqb (layout_at (suc i)).kind 5 (λ d. e (ap (λ x. x.kind) er ∙ d))))
+    (sym (kind_other (layout_at (suc i)).kind Compound (λ d. e (ap (λ x. x.kind) er ∙ d))))
     ∙ layout_some i h)
   where
     go : (o : Option Format) → present (as_plain o) ≡ true → present o ≡ true
     go none d = d
     go (some s) d = refl
 
-module _ (cat ref i : ℕ) (vs : List ℤ) (out : List ℕ) (h : (i < layout_count) × ((expect layout_is (layout_at i) or 21) ≡ layout_of categories cat ref) × (i ≡ row_named cat ref)) where
+module _ (cat ref i : ℕ) (vs : List ℤ) (out : List ℕ) (h : (expect layout_is (layout_at i) or 21) ≡ layout_of categories cat ref) where
   one_by : write_at i vs (length out) ≡ write_one categories cat ref vs (length out)
   unfolding write_one write_at
-  one_by = ap (λ m. m >>= (λ l. write_fields l vs >>= (λ bs. need leb (length bs) (length out) or 16 then ok bs))) h.1
+  one_by = ap (λ m. m >>= (λ l. write_fields l vs >>= (λ bs. need leb (length bs) (length out) or 16 then ok bs))) h
 
   pub one_layout : {r : Answer ℕ} {out' : List ℕ} → Answers r out' (write_at i vs (length out)) out → Answers r out' (write_one categories cat ref vs (length out)) out
   one_layout {r} {out'} a = subst (λ m. Answers r out' m out) one_by a
 
-  pub no_layout : i ≡ 0 → Answers (refused 21 0) out (write_one categories cat ref vs (length out)) out
-  unfolding write_at expect◌or◌
-  no_layout z = one_layout (refusal 21 0 out (bind_out _ (ap (λ x. expect x or 21) (ap (λ x. layout_is (layout_at x)) z ∙ layout_none))))
+pub no_layout : (cat ref : ℕ) (vs : List ℤ) (out : List ℕ) → refused 21 0 ≡ layout_of categories cat ref → Answers (refused 21 0) out (write_one categories cat ref vs (length out)) out
+unfolding write_one
+no_layout cat ref vs out h = refusal 21 0 out (bind_out _ (sym h))

@@ -1,3 +1,4 @@
+pub mod Handed
 pub mod Refusals
 pub mod Sound
 pub mod FormatLaws

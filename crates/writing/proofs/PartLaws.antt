@@ -1,23 +1,28 @@
 -- What the functions that lay and pack one part do, turn by turn.
 --
 -- In order: the FX bit; the octets of a number; the fields of a part. Assumes nothing.
+use Rattle.tables.specs.declared.tables.Holds.TheVariants.{Spare}
+use Rattle.tables.specs.Tables.{holds_digit}
+use Rattle.std.specs.Int.{w64, byte_at, bytes_high_first, to_be_bytes}
+use borrow.Rule.Slice.PartMut.{put_mid}
 use Prim.Native.Nat.{ℕ, zero, suc, ◌+◌, ◌-◌, ◌*◌, ◌/◌, ◌%◌, ◌^◌, ◌<◌, ◌≤◌}
-use mathlib.Core.Path.{◌≡◌, refl, sym, ap, ◌∙◌, subst}
+use mathlib.Core.Path.{◌≡◌, refl, sym, ap, ap₂, ◌∙◌, subst}
 use mathlib.Core.Bool.{Bool, true, false, not}
-use mathlib.Core.List.{List, [], ◌∷◌}
+use mathlib.Core.List.{List, [], ◌∷◌, ◌++◌, append_assoc}
 use native.Mathlib.Omega.{arith}
-use native.Mathlib.Nat.{not-suc-le-zero, mod-eq_of_lt, add-mul, mul_assoc, lt_of_lt_of_le}
+use native.Mathlib.Nat.{mod-eq_of_lt, add-mul, div-one, mul_assoc, lt_of_lt_of_le}
 use native.Mathlib.Numerals.{add-one}
 use borrow.Author.Tests.{not-true, not-false}
-use lib.ListN.{length, take, drop, set, length-set, length-drop, drop_of_length-le}
+use lib.ListN.{length, take, drop, length-drop, drop_of_length-le}
 use lib.Arith.{digits_lt}
 use lib.Pow.{pow_pos, pow_mono, pow-add, field, mod-mod-pow}
-use lib.Seq.{sets, slice, slice-cons, drop-drop, length-take-le}
+use lib.Seq.{sets, sets-eq, take_all, slice, slice-cons, drop-drop, length-take-le}
 use lib.Dec.{ltb→lt}
 use lib.IntN.{ℤ}
 use Rattle.rules.specs.Answer.{Answer, ok, refused, ◌>>=◌}
 use Rattle.rules.specs.Field.{Kind, unsigned, signed, Field, spare, value, bits, arity, put, pack}
 use Rattle.rules.specs.Chain.{octets}
+use Rattle.rules.proofs.ChainLaws.{octets_length}
 use Rattle.rules.proofs.AnswerLaws.{refused_ok, ok_inj, bind_elim, need_elim, bind_cong, bind_assoc, need_bind}
 use Rattle.tables.specs.Tables.{field_count, fields, field_row, field_at, group_at}
 use Rattle.tables.specs.declared.tables.FieldRow.{FieldRow}
@@ -48,41 +53,40 @@ last_all : (k n : ℕ) → n < 2 ^ (8 * k) → last_octets k n ≡ octets k n
 unfolding last_octets
 last_all k n h = ap (octets k) (mod-eq_of_lt h)
 
-last_cons : (k n : ℕ) → 0 < k → last_octets k n ≡ n / 2 ^ (8 * (k - 1)) % 256 ∷ last_octets (k - 1) n
+last_cons : (k n : ℕ) → last_octets (suc k) n ≡ n / 2 ^ (8 * k) % 256 ∷ last_octets k n
 unfolding last_octets octets
-last_cons zero n h = absurd (not-suc-le-zero h)
-last_cons (suc k) n h =
-    let e : suc k - 1 ≡ k = omega arith in
+last_cons k n =
     let d : 8 * suc k ≡ 8 + 8 * k = omega arith in
-    rw (e, d, pow_256 k, field n 8 (8 * k), mod-mod-pow n 8 (8 * k))
+    rw (d, pow_256 k, field n 8 (8 * k), mod-mod-pow n 8 (8 * k))
 
-pub record Laying (n size at : ℕ) (out₀ : List ℕ) (k i : ℕ) (out : List ℕ) : Type 0 where
-  pub place : i + k ≡ at + size
-  pub few : k ≤ size
-  pub long : length out ≡ length out₀
-  pub same : sets out i (last_octets k n) ≡ sets out₀ at (octets size n)
+byte_is : (k n : ℕ) → byte_at k n ≡ n / 2 ^ (8 * k) % 256
+byte_is zero n = rw div-one
+byte_is (suc k) n = ap (λ x. n / x % 256) (pow_256 (suc k))
 
-pub laying : (n size at : ℕ) (out : List ℕ) → n < 2 ^ (8 * size) → Laying n size at out size at out
-laying n size at out h = record { place = refl; few = omega arith; long = refl; same = ap (sets out at) (last_all size n h) }
-
-pub laid : (n size at : ℕ) (out₀ : List ℕ) (k i : ℕ) (out : List ℕ) → Laying n size at out₀ k i out → 0 < k
-    → Laying n size at out₀ (k - 1) (i + 1) (set out i (n / 2 ^ (8 * (k - 1)) % 256))
-laid n size at out₀ k i out l h =
-    record {
-      place = omega (arith, l.place);
-      few = omega (arith, l.few);
-      long = length-set out i _ ∙ l.long;
-      same =
-          ap (λ x. sets (set out i (n / 2 ^ (8 * (k - 1)) % 256)) x (last_octets (k - 1) n)) (add-one i)
-          ∙ ap (sets out i) (sym (last_cons k n h))
-          ∙ l.same;
-    }
-
-pub all_laid : (n size at : ℕ) (out₀ : List ℕ) (k i : ℕ) (out : List ℕ) → Laying n size at out₀ k i out → k ≤ 0 → out ≡ sets out₀ at (octets size n)
+last_bytes : (k n : ℕ) → bytes_high_first k n ≡ last_octets k n
 unfolding last_octets octets
-all_laid n size at out₀ k i out l h =
-    let z : k ≡ 0 = omega arith in
-    sym (ap (λ x. sets out i (last_octets x n)) z) ∙ l.same
+last_bytes zero n = refl
+last_bytes (suc k) n = ap₂ ◌∷◌ (byte_is k n) (last_bytes k n) ∙ sym (last_cons k n)
+
+past_bytes : (j k m n : ℕ) → m ≡ j + k → drop j (bytes_high_first m n) ≡ bytes_high_first k n
+past_bytes zero k m n e = let d : m ≡ k = omega arith in ap (λ x. bytes_high_first x n) d
+past_bytes (suc j) k zero n e = absurd (omega arith)
+past_bytes (suc j) k (suc m) n e = past_bytes j k m n (omega arith)
+
+pub number_octets : (n size : ℕ) → size ≤ 8 → n < 2 ^ (8 * size) → drop (8 - size) (to_be_bytes w64 n) ≡ octets size n
+number_octets n size k h = past_bytes (8 - size) size 8 n (omega arith) ∙ last_bytes size n ∙ last_all size n h
+
+-- the last of its octets stand where they were copied to
+pub copied : (n size at : ℕ) (out bs : List ℕ) → size ≤ 8 → n < 2 ^ (8 * size) → at + size ≤ length out → bs ≡ take (8 - (8 - size)) (drop (8 - size) (to_be_bytes w64 n))
+    → put_mid at (at + size - at) out bs ≡ sets out at (octets size n)
+copied n size at out bs k h r e =
+    let m : at + size - at ≡ size = omega arith in
+    let l : at + length (octets size n) ≡ at + size = ap (λ x. at + x) (octets_length size n) in
+    ap (λ x. put_mid at x out bs) m
+    ∙ ap (λ x. put_mid at size out x) (e ∙ ap (take (8 - (8 - size))) (number_octets n size k h) ∙ take_all _ (octets size n) (omega (arith, octets_length size n)))
+    ∙ ap (λ x. take at out ++ (octets size n ++ x)) (drop-drop size at out ∙ ap (λ x. drop x out) (sym l))
+    ∙ sym (append_assoc (take at out) (octets size n) _)
+    ∙ sym (sets-eq (octets size n) out at (omega arith))
 
 -- ---- the fields of a part
 
@@ -166,12 +170,12 @@ field_cons : (i e : ℕ) → i < e → e ≤ field_count → slice i e fields �
 unfolding field_in
 field_cons i e h t = rw add-one (slice-cons i e fields (value 0 (unsigned 0 0)) h t)
 
-spare_is : (f : Field) → (field_row f).holds ≡ 2 → f ≡ spare (field_row f).bits
+spare_is : (f : Field) → (field_row f).holds ≡ Spare → f ≡ spare (field_row f).bits
 spare_is (spare w) h = refl
-spare_is (value w (unsigned lo hi)) h = absurd (omega arith)
-spare_is (value w (signed lo hi)) h = absurd (omega arith)
+spare_is (value w (unsigned lo hi)) h = absurd (omega (arith, ap holds_digit h))
+spare_is (value w (signed lo hi)) h = absurd (omega (arith, ap holds_digit h))
 
-value_is : (f : Field) → ((field_row f).holds ≡ 2 → ⊥) → f ≡ value (field_row f).bits (kind_of f)
+value_is : (f : Field) → ((field_row f).holds ≡ Spare → ⊥) → f ≡ value (field_row f).bits (kind_of f)
 value_is (spare w) h = absurd (h refl)
 value_is (value w (unsigned lo hi)) h = refl
 value_is (value w (signed lo hi)) h = refl
@@ -217,13 +221,13 @@ module _ (fs : List Field) (vs : List ℤ) (at e i n k : ℕ) (p : Packing fs vs
       }
 
   -- a spare field
-  add_spare : (field_row (field_in i)).holds ≡ 2 → Added fs vs at e i n k (field_row (field_in i)).bits 0 k
+  add_spare : (field_row (field_in i)).holds ≡ Spare → Added fs vs at e i n k (field_row (field_in i)).bits 0 k
   add_spare y =
       let w = (field_row (field_in i)).bits in
       added (spare w) 0 0 k (spare_is (field_in i) y) refl (omega arith) (omega arith) (pow_pos w) (join_spare n w (slice (i + 1) e fields) (drop k vs))
 
   -- a value, whose code is c
-  add_value : {c : ℕ} → ((field_row (field_in i)).holds ≡ 2 → ⊥) → code_for (field_in i) (drop k vs) ≡ ok c → (k < length vs) × Added fs vs at e i n k (field_row (field_in i)).bits c (k + 1)
+  add_value : {c : ℕ} → ((field_row (field_in i)).holds ≡ Spare → ⊥) → code_for (field_in i) (drop k vs) ≡ ok c → (k < length vs) × Added fs vs at e i n k (field_row (field_in i)).bits c (k + 1)
   add_value {c} y ec =
       let w = (field_row (field_in i)).bits in
       let v = value_is (field_in i) y in
@@ -235,7 +239,7 @@ module _ (fs : List Field) (vs : List ℤ) (at e i n k : ℕ) (p : Packing fs vs
       )
 
   -- no value, or one outside its range
-  pack_no : {x q : ℕ} → ((field_row (field_in i)).holds ≡ 2 → ⊥) → code_for (field_in i) (drop k vs) ≡ refused x q → pack_from fs vs at ≡ refused x q
+  pack_no : {x q : ℕ} → ((field_row (field_in i)).holds ≡ Spare → ⊥) → code_for (field_in i) (drop k vs) ≡ refused x q → pack_from fs vs at ≡ refused x q
   unfolding pack_from ◌>>=◌
   pack_no {x} {q} y ec =
       let w = (field_row (field_in i)).bits in
@@ -250,13 +254,13 @@ module _ (fs : List Field) (vs : List ℤ) (at e i n k : ℕ) (p : Packing fs vs
     row_is : field_row (field_in i) ≡ r
     row_is = sym (er ∙ field_row_lem i)
 
-    pub turn_spare : r.holds ≡ 2 → Added fs vs at e i n k r.bits 0 k
+    pub turn_spare : r.holds ≡ Spare → Added fs vs at e i n k r.bits 0 k
     turn_spare y = subst (λ x. Added fs vs at e i n k x.bits 0 k) row_is (add_spare (ap (λ x. x.holds) row_is ∙ y))
 
-    pub turn_value : {c : ℕ} → (r.holds ≡ 2 → ⊥) → ok c ≡ code_for (field_in i) (drop k vs) → (k < length vs) × Added fs vs at e i n k r.bits c (k + 1)
+    pub turn_value : {c : ℕ} → (r.holds ≡ Spare → ⊥) → ok c ≡ code_for (field_in i) (drop k vs) → (k < length vs) × Added fs vs at e i n k r.bits c (k + 1)
     turn_value {c} y ec = subst (λ x. (k < length vs) × Added fs vs at e i n k x.bits c (k + 1)) row_is (add_value (λ z. y (sym (ap (λ x. x.holds) row_is) ∙ z)) (sym ec))
 
-    pub turn_no : {x q : ℕ} → (r.holds ≡ 2 → ⊥) → refused x q ≡ code_for (field_in i) (drop k vs) → refused x q ≡ pack_from fs vs at
+    pub turn_no : {x q : ℕ} → (r.holds ≡ Spare → ⊥) → refused x q ≡ code_for (field_in i) (drop k vs) → refused x q ≡ pack_from fs vs at
     turn_no y ec = sym (pack_no (λ z. y (sym (ap (λ x. x.holds) row_is) ∙ z)) (sym ec))
 
 field_nil : (i e : ℕ) → e ≤ i → e ≤ field_count → slice i e fields ≡ []

@@ -1,6 +1,8 @@
 -- What the two passes over the parts of an item do, turn by turn: the first packs each part and counts, the second packs it again and lays it.
 --
 -- In order: a part and those after it; the first pass; the second pass. Assumes nothing.
+use Rattle.tables.specs.declared.tables.Kind.TheVariants.{Extended}
+use Rattle.tables.specs.Tables.{same_kind}
 use Prim.Native.Nat.{ℕ, zero, suc, ◌+◌, ◌*◌, ◌^◌, ◌<◌, ◌≤◌}
 use mathlib.Core.Path.{◌≡◌, refl, sym, ap, ap₂, ◌∙◌, subst}
 use mathlib.Core.Bool.{Bool, true, false}
@@ -9,7 +11,7 @@ use native.Mathlib.Omega.{arith}
 use native.Mathlib.Nat.{lt_of_lt_of_le}
 use native.Mathlib.Numerals.{add-one}
 use borrow.Author.Tests.{ltb-true, ltb-false, lt-ltb, le-ltb}
-use lib.Dec.{ltb, eqb}
+use lib.Dec.{ltb}
 use lib.IntN.{ℤ}
 use lib.ListN.{length, get_or, drop, length-append, length-drop, drop_of_length-le}
 use lib.Pow.{pow_mono}
@@ -25,6 +27,7 @@ use Rattle.tables.specs.declared.tables.GroupRow.{GroupRow}
 use Rattle.tables.specs.declared.tables.LayoutRow.{LayoutRow}
 use Rattle.layouts.proofs.Stores.{sets_append}
 use Rattle.writing.specs.Write.{no_group, group_in, pack_first, numbers_of, marked, laid_parts, parts_at, chained_at, part, pack_from, Parts, parts, count_parts, lay_parts}
+use Rattle.writing.proofs.Handed.{refused_before}
 use Rattle.writing.proofs.Sound.{All, SoundGroup, all_drop}
 use Rattle.writing.proofs.TableLaws.{layout_row_is, group_in_sound}
 use Rattle.writing.proofs.FormatLaws.{numbers_none, numbers_over, numbers_cons}
@@ -41,12 +44,8 @@ packed_ok fs vs p n k h =
     (e ∙ ap (λ x. ok x.number) d, sym (ap (λ x. x.next) d))
 
 packed_no : (fs : List Field) (vs : List ℤ) (p : ℕ) {x y : ℕ} → refused x y ≡ pack_from fs vs p → pack_first fs (drop p vs) ≡ refused x y
-unfolding pack_from ◌>>=◌
-packed_no fs vs p {x} {y} h = go (pack_first fs (drop p vs)) h
-  where
-    go : (m : Answer ℕ) → refused x y ≡ (m >>= (λ n. ok (part n (p + arity fs)))) → m ≡ refused x y
-    go (ok n) e = refused_ok e
-    go (refused a b) e = cc
+unfolding pack_from
+packed_no fs vs p h = refused_before _ (pack_first fs (drop p vs)) h
 
 -- the part at a place of the parts, and those after it
 module _ (gs : List Group) (vs : List ℤ) (k p : ℕ) {g : Group} (eg : g ≡ get_or gs k no_group) (h : k < length gs) (t : p < length vs) where
@@ -184,16 +183,16 @@ pub record Placing (l : ℕ) (vs : List ℤ) (count start : ℕ) (out₀ : List 
   pub end : q + length (laid_parts (chained_at l) (drop i (parts_at l)) ns) ≡ start + length (octets_of (lay_parts (chained_at l) (parts_at l) vs))
   pub same : sets out q (laid_parts (chained_at l) (drop i (parts_at l)) ns) ≡ sets out₀ start (octets_of (lay_parts (chained_at l) (parts_at l) vs))
 
-pub placing : (l : ℕ) (vs : List ℤ) (count size start : ℕ) (out : List ℕ) {r : LayoutRow} → r ≡ layout_at l
+pub placing : (l : ℕ) (vs : List ℤ) (count size start : ℕ) (out : List ℕ) {r : LayoutRow} → r ≡ layout_at l → {fx : Bool} → fx ≡ same_kind r.kind Extended
     → count_parts (chained_at l) (parts_at l) vs ≡ ok (parts count size)
     → start + length (octets_of (lay_parts (chained_at l) (parts_at l) vs)) ≤ length out
-    → Placing l vs count start out (eqb r.kind 4) out 0 0 start
+    → Placing l vs count start out fx out 0 0 start
 unfolding count_parts lay_parts chained_at
-placing l vs count size start out er h t =
+placing l vs count size start out er ef h t =
     bind_elim _ _ h λ ns e h₁.
     let o : octets_of (lay_parts (chained_at l) (parts_at l) vs) ≡ laid_parts (chained_at l) (parts_at l) ns = octets_of-ok (bind_in _ e refl) in
     record {
-      marks = ap (λ x. eqb x.kind 4) er;
+      marks = ef ∙ ap (λ x. same_kind x.kind Extended) er;
       ns = ns;
       left = e;
       many = omega (arith, ap (λ x. x.count) (ok_inj h₁));

@@ -1,8 +1,9 @@
 -- One bit of a primary octet, by what the code found of its subfield: its size, and its octets laid.
 --
 -- In order: where its values stand; its size; its octets; any bit. Assumes nothing.
+use Rattle.tables.specs.Tables.{kind_digit}
 use Prim.Native.Nat.{ℕ, ◌+◌, ◌-◌, ◌*◌, ◌≤◌}
-use mathlib.Core.Path.{◌≡◌, refl, sym, ap, ap₂, ◌∙◌, subst}
+use mathlib.Core.Path.{◌≡◌, refl, sym, ap, ◌∙◌}
 use mathlib.Core.Logic.{⊎_elim}
 use mathlib.Core.Bool.{true, false, true≢false}
 use mathlib.Core.List.{List, []}
@@ -12,18 +13,18 @@ use lib.ListN.{length, take, drop, length-drop}
 use lib.Seq.{sets}
 use Rattle.rules.specs.Answer.{ok, refused, ◌>>=◌}
 use Rattle.rules.specs.Field.{arity}
-use Rattle.rules.proofs.AnswerLaws.{refused_ok, ok_inj, bind_in, bind_out, bind_elim, if_true, if_false, if_inv, Only, This}
+use Rattle.rules.proofs.AnswerLaws.{refused_ok, ok_inj, bind_in, bind_out, bind_elim, if_true, if_false, if_inv}
 use Rattle.tables.specs.Tables.{layout_at, format_is}
 use Rattle.writing.specs.Write.{group_in, parts, Cut, cut_at, size_at, octets_at}
 use Rattle.writing.specs.Compound.{spanned, span_from, Place, place_in, place_from, place_size, place_of}
 use Rattle.writing.proofs.RowLaws.{sized, size_refused}
-use Rattle.writing.proofs.PlainLaws.{row_listed_lem, some_arity, cut_count, cut_only}
+use Rattle.writing.proofs.PlainLaws.{row_listed_lem, some_arity, cut_count}
 use Rattle.writing.proofs.SpanLaws.{There, there}
 use Rattle.writing.proofs.RunLaws.{Run, run}
 
 -- ---- where its values stand
 
-module _ (i : ℕ) (vs : List ℤ) (at : ℕ) (few : (layout_at i).kind ≤ 2) {a e c : ℕ} (h : ok (spanned true a e c) ≡ span_from (format_is (layout_at i)) vs at) where
+module _ (i : ℕ) (vs : List ℤ) (at : ℕ) (few : kind_digit (layout_at i).kind ≤ 2) {a e c : ℕ} (h : ok (spanned true a e c) ≡ span_from (format_is (layout_at i)) vs at) where
   t : There i vs at a e c
   t = there i vs at a e c few (sym h)
 
@@ -48,7 +49,7 @@ module _ (i : ℕ) (vs : List ℤ) (at : ℕ) (few : (layout_at i).kind ≤ 2) {
 -- ---- its size
 
 module _ (i : ℕ) (vs : List ℤ) (at : ℕ) where
-  pub place_no : refused 11 0 ≡ span_from (format_is (layout_at i)) vs at → refused 11 0 ≡ place_size i vs at
+  pub place_no : {x y : ℕ} → refused x y ≡ span_from (format_is (layout_at i)) vs at → refused x y ≡ place_size i vs at
   unfolding place_size place_from
   place_no h = sym (bind_out _ (bind_out _ (sym h)))
 
@@ -66,12 +67,9 @@ module _ (i : ℕ) (vs : List ℤ) (at : ℕ) where
   unfolding place_size
   place_absent h = sym (bind_in _ (absent_is h) refl)
 
-  pub place_unsized : {a e c x y : ℕ} → ok (spanned true a e c) ≡ span_from (format_is (layout_at i)) vs at → refused x y ≡ size_at i (take (e - a) (drop a vs)) → refused 11 0 ≡ place_size i vs at
+  pub place_unsized : {a e c x y : ℕ} → ok (spanned true a e c) ≡ span_from (format_is (layout_at i)) vs at → refused x y ≡ size_at i (take (e - a) (drop a vs)) → refused x y ≡ place_size i vs at
   unfolding place_size
-  place_unsized {a} {e} {c} {x} {y} h d =
-      let r : cut_at i (take (e - a) (drop a vs)) ≡ refused x y = size_refused i (take (e - a) (drop a vs)) d in
-      let o : This 11 x y = subst (Only (This 11)) r (cut_only i (take (e - a) (drop a vs))) in
-      sym (bind_out _ (there_is h ∙ bind_out _ (r ∙ ap₂ refused o.0 o.1)))
+  place_unsized {a} {e} h d = sym (bind_out _ (there_is h ∙ bind_out _ (size_refused i (take (e - a) (drop a vs)) d)))
 
   pub place_sized : {a e c k s : ℕ} → ok (spanned true a e c) ≡ span_from (format_is (layout_at i)) vs at → ok (parts k s) ≡ size_at i (take (e - a) (drop a vs))
       → ok (record { there = true; size = s; next = e }) ≡ place_size i vs at
@@ -83,7 +81,7 @@ module _ (i : ℕ) (vs : List ℤ) (at : ℕ) where
   -- ---- its octets, where the rule passes
 
   module _ (ok-is : place_from i vs at ≡ ok (place_of (place_from i vs at))) where
-    pub place_passes : {C : Type 0} → refused 11 0 ≡ span_from (format_is (layout_at i)) vs at → C
+    pub place_passes : {C : Type 0} {n p : ℕ} → refused n p ≡ span_from (format_is (layout_at i)) vs at → C
     unfolding place_from
     place_passes h = refused_ok (sym (bind_out _ (sym h)) ∙ ok-is)
 
@@ -95,7 +93,7 @@ module _ (i : ℕ) (vs : List ℤ) (at : ℕ) where
       pub sizes : size_at i (take (e - a) (drop a vs)) ≡ ok (parts c (length (octets_at i (take (e - a) (drop a vs)))))
       pub is : place_of (place_from i vs at) ≡ record { there = true; octets = octets_at i (take (e - a) (drop a vs)); next = e }
 
-    pub lays : {a e c : ℕ} → (layout_at i).kind ≤ 2 → ok (spanned true a e c) ≡ span_from (format_is (layout_at i)) vs at → Lays a e c
+    pub lays : {a e c : ℕ} → kind_digit (layout_at i).kind ≤ 2 → ok (spanned true a e c) ≡ span_from (format_is (layout_at i)) vs at → Lays a e c
     unfolding size_at
     lays {a} {e} {c} few h =
         bind_elim _ _ (sym (there_is h) ∙ ok-is) λ x p h₁.
@@ -116,7 +114,7 @@ module _ (i : ℕ) (vs : List ℤ) (at : ℕ) where
         let z : (place_of (place_from i vs at)).octets ≡ [] = ap (λ x. x.octets) d in
         (sym (ap (sets out start) z), (sym (ap (λ x. x.there) d), (sym (ap (λ x. x.next) d), omega (arith, ap length z))))
 
-    pub there_laid : {a e c end : ℕ} (start : ℕ) (out : List ℕ) {out' : List ℕ} → (layout_at i).kind ≤ 2 → ok (spanned true a e c) ≡ span_from (format_is (layout_at i)) vs at
+    pub there_laid : {a e c end : ℕ} (start : ℕ) (out : List ℕ) {out' : List ℕ} → kind_digit (layout_at i).kind ≤ 2 → ok (spanned true a e c) ≡ span_from (format_is (layout_at i)) vs at
         → out' ≡ sets out start (octets_at i (take (e - a) (drop a vs))) → end ≡ start + length (octets_at i (take (e - a) (drop a vs)))
         → (out' ≡ sets out start (place_of (place_from i vs at)).octets)
         × ((true ≡ (place_of (place_from i vs at)).there) × ((e ≡ (place_of (place_from i vs at)).next) × (end ≡ start + length (place_of (place_from i vs at)).octets)))
@@ -125,7 +123,7 @@ module _ (i : ℕ) (vs : List ℤ) (at : ℕ) where
         let z = ap (λ x. x.octets) d in
         (d₁ ∙ ap (sets out start) (sym z), (sym (ap (λ x. x.there) d), (sym (ap (λ x. x.next) d), d₂ ∙ ap (λ m. start + length m) (sym z))))
 
-    pub there_fits : {a e c : ℕ} (start : ℕ) (out : List ℕ) → (layout_at i).kind ≤ 2 → ok (spanned true a e c) ≡ span_from (format_is (layout_at i)) vs at
+    pub there_fits : {a e c : ℕ} (start : ℕ) (out : List ℕ) → kind_digit (layout_at i).kind ≤ 2 → ok (spanned true a e c) ≡ span_from (format_is (layout_at i)) vs at
         → start + length (place_of (place_from i vs at)).octets ≤ length out → start + length (octets_at i (take (e - a) (drop a vs))) ≤ length out
     there_fits start out few h l = omega (arith, ap (λ x. length x.octets) (lays few h).is)
 

@@ -3,6 +3,8 @@
 --
 -- In order: the kind of a row; every row can be told apart; the values of an extended item; a row's list cut; an extended item; any item. Assumes
 -- nothing.
+use Rattle.tables.specs.declared.tables.Kind.TheVariants.{Extended}
+use Rattle.tables.proofs.KindLaws.{kind_same, kind_other}
 use Prim.Native.Nat.{ℕ, zero, suc, ◌+◌, ◌-◌, ◌<◌, ◌≤◌}
 use mathlib.Core.Path.{◌≡◌, refl, sym, ap, ap₂, ◌∙◌, subst}
 use mathlib.Core.Bool.{Bool, true, false, cond, true≢false, false≢true}
@@ -44,26 +46,26 @@ module _ (i : ℕ) {r : LayoutRow} (er : r ≡ layout_at i) where
   pub most_is : length (parts_at i) ≡ r.most
   most_is = (layout_row_is i).most ∙ sym (ap (λ x. x.most) er)
 
-  chained_yes : r.kind ≡ 4 → chained_at i ≡ true
+  chained_yes : r.kind ≡ Extended → chained_at i ≡ true
   unfolding chained_at
-  chained_yes e = eq-eqb (layout_at i).kind 4 (sym (ap (λ x. x.kind) er) ∙ e)
+  chained_yes e = kind_same (layout_at i).kind Extended (sym (ap (λ x. x.kind) er) ∙ e)
 
-  chained_no : (r.kind ≡ 4 → ⊥) → chained_at i ≡ false
+  chained_no : (r.kind ≡ Extended → ⊥) → chained_at i ≡ false
   unfolding chained_at
-  chained_no e = ne_eqb (layout_at i).kind 4 (λ z. e (ap (λ x. x.kind) er ∙ z))
+  chained_no e = kind_other (layout_at i).kind Extended (λ z. e (ap (λ x. x.kind) er ∙ z))
 
-  pub told_parts : r.kind ≡ 4 → (k t : ℕ) → eqb (r.most - k) t ≡ told_at i k t
+  pub told_parts : r.kind ≡ Extended → (k t : ℕ) → eqb (r.most - k) t ≡ told_at i k t
   unfolding told_at
   told_parts e k t = ap (λ x. eqb (x.most - k) t) er ∙ sym (ap (λ b. cond b (eqb ((layout_at i).most - k) t) true) (chained_yes e))
 
-  pub told_whole : (r.kind ≡ 4 → ⊥) → (k t : ℕ) → true ≡ told_at i k t
+  pub told_whole : (r.kind ≡ Extended → ⊥) → (k t : ℕ) → true ≡ told_at i k t
   unfolding told_at
   told_whole e k t = sym (ap (λ b. cond b (eqb ((layout_at i).most - k) t) true) (chained_no e))
 
-  pub front_parts : r.kind ≡ 4 → (vs : List ℤ) {n : ℕ} → Front vs n → FrontAt i vs n
+  pub front_parts : r.kind ≡ Extended → (vs : List ℤ) {n : ℕ} → Front vs n → FrontAt i vs n
   front_parts e vs f = record { few = f.few; whole = λ z. absurd (true≢false (sym (chained_yes e) ∙ z)); front = λ z. f }
 
-  pub front_whole : (r.kind ≡ 4 → ⊥) → (vs : List ℤ) → FrontAt i vs (length vs)
+  pub front_whole : (r.kind ≡ Extended → ⊥) → (vs : List ℤ) → FrontAt i vs (length vs)
   front_whole e vs = record { few = omega arith; whole = λ z. refl; front = λ z. absurd (true≢false (sym z ∙ chained_no e)) }
 
 -- ---- every row can be told apart: each part has a value, and no field may hold the number that stands for what is absent

@@ -2,6 +2,9 @@
 -- octet itself.
 --
 -- In order: the rows of compound items; a primary octet and those after it; the first walk; two stores; the second walk. Assumes nothing.
+use Rattle.tables.specs.declared.tables.Kind.TheVariants.{Compound}
+use Rattle.tables.specs.Tables.{same_kind}
+use Rattle.tables.proofs.KindLaws.{kind_same}
 use Prim.Native.Nat.{ℕ, zero, suc, ◌+◌, ◌-◌, ◌*◌, ◌^◌, ◌<◌, ◌≤◌}
 use mathlib.Core.Path.{◌≡◌, refl, sym, ap, ap₂, ◌∙◌, subst}
 use mathlib.Core.Bool.{Bool, true, false, cond, ◌&&◌}
@@ -9,7 +12,7 @@ use mathlib.Core.List.{List, [], ◌∷◌, ◌++◌}
 use native.Mathlib.Omega.{arith}
 use native.Mathlib.Nat.{div-one}
 use native.Mathlib.Numerals.{add-one}
-use borrow.Author.Tests.{ltb-true, ltb-false, lt-ltb, le-ltb, eq-eqb, ne_eqb, lt-leb}
+use borrow.Author.Tests.{ltb-true, ltb-false, lt-ltb, le-ltb, ne_eqb, lt-leb}
 use lib.Dec.{T, leb, ltb, eqb, leb→le, le→leb, lt→ltb}
 use lib.IntN.{ℤ}
 use lib.ListN.{length, set, length-append, length-set}
@@ -19,43 +22,44 @@ use Rattle.rules.specs.Answer.{Answer, ok, refused, ◌>>=◌, need◌or◌then�
 use Rattle.rules.specs.Chain.{octets}
 use Rattle.rules.specs.Presence.{number, keep_row}
 use Rattle.rules.specs.Catalogue.{categories}
-use Rattle.rules.proofs.AnswerLaws.{refused_ok, ok_inj, bind_in, bind_out, bind_elim, bind_cong, bind_assoc, need_in, need_out, need_elim, need_bind, octets_of-ok, nil_of_length}
+use Rattle.rules.proofs.AnswerLaws.{ok_inj, bind_in, bind_out, bind_elim, bind_cong, bind_assoc, need_in, need_out, need_elim, need_bind, octets_of-ok, nil_of_length}
 use Rattle.rules.proofs.PresenceLaws.{number_lt}
 use Rattle.tables.specs.declared.tables.LayoutRow.{LayoutRow}
 use Rattle.tables.specs.Tables.{primary_count, subfield_count, primaries, layouts, layout_rows, no_layout_row, layout_at, subfield_at}
 use Rattle.tables.proofs.TableLaws.{subfields_long}
 use Rattle.layouts.proofs.Stores.{sets_append}
 use Rattle.writing.specs.Write.{marked, Parts, parts}
-use Rattle.writing.specs.Compound.{Row, row_from, Rows, join_rows, rows_from, primary_octets, all_rows, item_octets, compound_at, RowSized, row_size, rows_size, row_of, compound_octets}
+use Rattle.writing.specs.Compound.{Row, row_from, Rows, join_rows, rows_from, primary_octets, all_rows, item_octets, compound_at, row_size, rows_size, row_of, compound_octets}
 use Rattle.writing.proofs.Sound.{every, every_at, both}
 use Rattle.writing.proofs.LaidLaws.{marked_lt}
 use Rattle.writing.proofs.PlaceLaws.{place_facts}
 use Rattle.writing.proofs.PartTurns.{more_is}
+use Rattle.writing.proofs.Handed.{refused_before}
 use Rattle.writing.proofs.BitTurns.{sub_many, row_of_ok}
 
 -- ---- the rows of compound items
 
 abbrev compound_test : LayoutRow → Bool
-compound_test r = cond (eqb r.kind 5) (leb r.first r.end && leb r.end primary_count) true
+compound_test r = cond (same_kind r.kind Compound) (leb r.first r.end && leb r.end primary_count) true
 
 compound_rows : T (every compound_test (no_layout_row ∷ layout_rows 0 0 layouts))
 unfolding primaries layouts categories
 compound_rows = tt
 
-pub compound_in : (i : ℕ) → (layout_at i).kind ≡ 5 → ((layout_at i).first ≤ (layout_at i).end) × ((layout_at i).end ≤ primary_count)
+pub compound_in : (i : ℕ) → (layout_at i).kind ≡ Compound → ((layout_at i).first ≤ (layout_at i).end) × ((layout_at i).end ≤ primary_count)
 unfolding layout_at primaries layouts categories
 compound_in i e =
-    let t : T (cond (eqb (layout_at i).kind 5) (leb (layout_at i).first (layout_at i).end && leb (layout_at i).end primary_count) true) =
+    let t : T (cond (same_kind (layout_at i).kind Compound) (leb (layout_at i).first (layout_at i).end && leb (layout_at i).end primary_count) true) =
     every_at compound_test (no_layout_row ∷ layout_rows 0 0 layouts) no_layout_row compound_rows tt i in
     let (p, q) = both (leb (layout_at i).first (layout_at i).end) (leb (layout_at i).end primary_count)
-    (subst (λ x. T (cond x (leb (layout_at i).first (layout_at i).end && leb (layout_at i).end primary_count) true)) (eq-eqb (layout_at i).kind 5 e) t) in
+    (subst (λ x. T (cond x (leb (layout_at i).first (layout_at i).end && leb (layout_at i).end primary_count) true)) (kind_same (layout_at i).kind Compound e) t) in
     (leb→le _ _ p, leb→le _ _ q)
 
-pub compound_order : (i : ℕ) {r : LayoutRow} → r ≡ layout_at i → (layout_at i).kind ≡ 5 → r.first ≤ r.end
+pub compound_order : (i : ℕ) {r : LayoutRow} → r ≡ layout_at i → (layout_at i).kind ≡ Compound → r.first ≤ r.end
 compound_order i er e = omega (arith, ap (λ x. x.first) er, ap (λ x. x.end) er, compound_in i e)
 
 -- its bits are in the table
-pub bits_in : (i first row rows : ℕ) → (layout_at i).kind ≡ 5 → rows ≡ (layout_at i).end - (layout_at i).first → first ≡ (layout_at i).first → row < rows → 7 * (first + row) + 7 ≤ subfield_count
+pub bits_in : (i first row rows : ℕ) → (layout_at i).kind ≡ Compound → rows ≡ (layout_at i).end - (layout_at i).first → first ≡ (layout_at i).first → row < rows → 7 * (first + row) + 7 ≤ subfield_count
 bits_in i first row rows e d f h = omega (arith, subfields_long, compound_in i e)
 
 -- ---- a primary octet and those after it
@@ -134,13 +138,9 @@ row_ok i vs k b s n h =
     let d = ok_inj h₁ in
     (x, q, (ap (λ x. x.bits) d, (ap (λ x. x.size) d, ap (λ x. x.next) d)))
 
-row_no : (i : ℕ) (vs : List ℤ) (k : ℕ) → refused 11 0 ≡ row_size i vs k → row_from 7 i vs k ≡ refused 11 0
-unfolding row_size ◌>>=◌
-row_no i vs k h = go (row_from 7 i vs k) h
-  where
-    go : (m : Answer Row) → ◌≡◌ {A = Answer RowSized} (refused 11 0) (m >>= (λ x. ok (record { bits = number x.flags; size = length x.octets; next = x.next }))) → m ≡ refused 11 0
-    go (ok p) e = refused_ok e
-    go (refused a b) e = cc
+row_no : (i : ℕ) (vs : List ℤ) (k : ℕ) {x y : ℕ} → refused x y ≡ row_size i vs k → row_from 7 i vs k ≡ refused x y
+unfolding row_size
+row_no i vs k h = refused_before _ (row_from 7 i vs k) h
 
 -- ---- the first walk
 
@@ -203,15 +203,15 @@ adding i vs {r} er =
         ∙ sym (need_bind _ _ _ _ ∙ ap (λ m. need leb (length vs) y.next or 11 then m) (need_bind _ _ _ _ ∙ ap (λ m. need ltb 0 (length y.numbers) or 11 then m) (bind_in _ refl refl)))
 
 module _ (i : ℕ) (vs : List ℤ) (rows first row count size at : ℕ) (c : Adding i vs rows first row count size at) where
-  pub adding_in : (layout_at i).kind ≡ 5 → row < rows → 7 * (first + row) + 7 ≤ subfield_count
+  pub adding_in : (layout_at i).kind ≡ Compound → row < rows → 7 * (first + row) + 7 ≤ subfield_count
   adding_in e h = bits_in i first row rows e c.rows_is c.first_is h
 
-  pub rows_few : (layout_at i).kind ≡ 5 → rows ≤ 10_000
+  pub rows_few : (layout_at i).kind ≡ Compound → rows ≤ 10_000
   rows_few e = omega (arith, c.rows_is, compound_in i e, subfields_long, sub_many)
 
   module _ (h : row < rows) where
     -- no values of a subfield
-    pub add_no : refused 11 0 ≡ row_size (7 * (first + row)) vs at → refused 11 0 ≡ rows_size i vs
+    pub add_no : {x y : ℕ} → refused x y ≡ row_size (7 * (first + row)) vs at → refused x y ≡ rows_size i vs
     add_no d = sym (bind_out _ (rows_cons rows first row vs at h ∙ bind_out _ (row_no (7 * (first + row)) vs at d))) ∙ c.same
 
     module _ {b x k : ℕ} (d : ok (record { bits = b; size = x; next = k }) ≡ row_size (7 * (first + row)) vs at) where
@@ -435,7 +435,7 @@ module _ (i : ℕ) (vs : List ℤ) (count : ℕ) (out₀ : List ℕ) (first : �
         bind_elim _ _ h₁ λ y ey h₂.
         fill_one x y ex ey (sym (ok_inj h₂))
 
-    pub fill_in : (layout_at i).kind ≡ 5 → 7 * (first + row) + 7 ≤ subfield_count
+    pub fill_in : (layout_at i).kind ≡ Compound → 7 * (first + row) + 7 ≤ subfield_count
     fill_in e = bits_in i first row ((layout_at i).end - (layout_at i).first) e refl c.first_is inside_rows
 
     -- the primary octet fits an octet

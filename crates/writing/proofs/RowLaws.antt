@@ -2,6 +2,9 @@
 -- write it.
 --
 -- In order: the format of a row; a list cut by the row; its size; its octets. Assumes nothing.
+use Rattle.tables.specs.declared.tables.Kind.TheVariants.{NoItem, Fixed, Repeated, Led, Extended}
+use Rattle.tables.specs.declared.tables.Kind.{Kind}
+use Rattle.tables.specs.Tables.{same_kind}
 use Prim.Native.Nat.{ℕ, suc, ◌+◌, ◌*◌, ◌<◌, ◌≤◌}
 use mathlib.Core.Path.{◌≡◌, refl, sym, ap, ap₂, ◌∙◌, subst}
 use mathlib.Core.Bool.{Bool, true, false, cond}
@@ -9,7 +12,7 @@ use mathlib.Core.Option.{Option, none, some}
 use mathlib.Core.List.{List, [], ◌∷◌, ◌++◌, map}
 use native.Mathlib.Omega.{arith}
 use borrow.Author.Tests.{lt-leb}
-use lib.Dec.{leb, ltb, eqb, le→leb}
+use lib.Dec.{leb, ltb, le→leb}
 use lib.IntN.{ℤ}
 use lib.ListN.{length, get_or, replicate, length-append, get_or-map}
 use lib.Seq.{sets, slice, length-sets}
@@ -23,6 +26,7 @@ use Rattle.rules.proofs.ChainLaws.{octets_length}
 use Rattle.tables.specs.declared.tables.LayoutRow.{LayoutRow}
 use Rattle.tables.specs.Tables.{fields, groups, layouts, group_rows, group_at, group_is, layout_rows, no_layout_row, layout_at, format_by, format_is}
 use Rattle.writing.specs.Write.{cut, parts_of, chained, head_of, parts_at, chained_at, head_at, group_in, numbers_of, marked, laid_parts, parts, count_parts, lay_parts, Cut, cut_at, size_at, octets_at}
+use Rattle.writing.proofs.Handed.{refused_before}
 use Rattle.writing.proofs.Sound.{All, SoundGroup, Sound}
 use Rattle.writing.proofs.TableLaws.{layout_row_is}
 use Rattle.writing.proofs.LaidLaws.{fields_laid, fit_length, numbers_fit}
@@ -30,16 +34,16 @@ use Rattle.writing.proofs.LaidLaws.{fields_laid, fit_length, numbers_fit}
 -- ---- the format of a row
 
 abbrev Row : Type 0
-Row = ℕ × ℕ × List Group
+Row = Kind × ℕ × List Group
 
-abbrev kind_of : Format → ℕ
-kind_of (fixed g) = 1
-kind_of (repeated lo hi g) = 2
-kind_of (led lo) = 3
-kind_of (extended gs) = 4
+abbrev kind_of : Format → Kind
+kind_of (fixed g) = Fixed
+kind_of (repeated lo hi g) = Repeated
+kind_of (led lo) = Led
+kind_of (extended gs) = Extended
 
 abbrev row_seen : LayoutRow → Row
-row_seen r = (r.kind, r.least, cond (eqb r.kind 4) (slice r.first r.end (map group_is (group_rows 0 groups))) (replicate r.most (group_is (group_at r.first))))
+row_seen r = (r.kind, r.least, cond (same_kind r.kind Extended) (slice r.first r.end (map group_is (group_rows 0 groups))) (replicate r.most (group_is (group_at r.first))))
 
 -- the row of no format, or of a compound item, is as it is
 abbrev seen : LayoutRow → Option Format → Row
@@ -57,7 +61,7 @@ rows_seen = refl
 row_seen_lem : (i : ℕ) → row_seen (layout_at i) ≡ seen (layout_at i) (format_is (layout_at i))
 unfolding layout_at format_is format_by
 row_seen_lem i =
-    sym (get_or-map row_seen rows i no_layout_row) ∙ ap (λ l. get_or l i (0, 0, [])) rows_seen ∙ get_or-map (λ r. seen r (format_is r)) rows i no_layout_row
+    sym (get_or-map row_seen rows i no_layout_row) ∙ ap (λ l. get_or l i (NoItem, 0, [])) rows_seen ∙ get_or-map (λ r. seen r (format_is r)) rows i no_layout_row
 
 pub record FormatIs (i : ℕ) (l : Format) : Type 0 where
   pub least_is : (layout_at i).least ≡ least l
@@ -65,13 +69,13 @@ pub record FormatIs (i : ℕ) (l : Format) : Type 0 where
   pub chained_is : chained_at i ≡ chained l
   pub head_is : (k : ℕ) → head_at i k ≡ head_of l k
 
-kind_chained : (l : Format) → eqb (kind_of l) 4 ≡ chained l
+kind_chained : (l : Format) → same_kind (kind_of l) Extended ≡ chained l
 kind_chained (fixed g) = refl
 kind_chained (repeated lo hi g) = refl
 kind_chained (led lo) = refl
 kind_chained (extended gs) = refl
 
-kind_head : (l : Format) (k : ℕ) → cond (eqb (kind_of l) 2) (k ∷ []) (cond (eqb (kind_of l) 3) (suc k ∷ []) []) ≡ head_of l k
+kind_head : (l : Format) (k : ℕ) → cond (same_kind (kind_of l) Repeated) (k ∷ []) (cond (same_kind (kind_of l) Led) (suc k ∷ []) []) ≡ head_of l k
 kind_head (fixed g) k = refl
 kind_head (repeated lo hi g) k = refl
 kind_head (led lo) k = refl
@@ -84,8 +88,8 @@ format_is_lem i l e =
     record {
       least_is = ap (λ x. x.1) d;
       parts_are = ap (λ x. x.2) d;
-      chained_is = ap (λ x. eqb x.0 4) d ∙ kind_chained l;
-      head_is = λ k. ap (λ x. cond (eqb x.0 2) (k ∷ []) (cond (eqb x.0 3) (suc k ∷ []) [])) d ∙ kind_head l k;
+      chained_is = ap (λ x. same_kind x.0 Extended) d ∙ kind_chained l;
+      head_is = λ k. ap (λ x. cond (same_kind x.0 Repeated) (k ∷ []) (cond (same_kind x.0 Led) (suc k ∷ []) [])) d ∙ kind_head l k;
     }
 
 -- ---- a list cut by the row
@@ -126,12 +130,8 @@ unfolding size_at cut_at
 size_no i vs e = sym (bind_out _ (bind_out _ (counted_no (chained_at i) (parts_at i) vs e)))
 
 pub size_refused : (i : ℕ) (vs : List ℤ) {x y : ℕ} → refused x y ≡ size_at i vs → cut_at i vs ≡ refused x y
-unfolding size_at ◌>>=◌
-size_refused i vs {x} {y} h = go (cut_at i vs) h
-  where
-    go : (m : Answer Cut) → refused x y ≡ (m >>= (λ c. ok (parts c.count (length c.octets)))) → m ≡ refused x y
-    go (ok c) e = refused_ok e
-    go (refused a b) e = cc
+unfolding size_at
+size_refused i vs h = refused_before _ (cut_at i vs) h
 
 laid_short : (fx : Bool) (gs : List Group) (ns : List ℕ) → All (SoundGroup fx) gs → length (laid_parts fx gs ns) ≤ 8 * length ns
 unfolding laid_parts
@@ -170,7 +170,7 @@ module _ (i : ℕ) (vs : List ℤ) (k s : ℕ) (h : ok (parts k s) ≡ count_par
 
 head_short : (i k : ℕ) → length (head_at i k) ≤ 1
 unfolding head_at
-head_short i k = go (eqb (layout_at i).kind 2) (eqb (layout_at i).kind 3)
+head_short i k = go (same_kind (layout_at i).kind Repeated) (same_kind (layout_at i).kind Led)
   where
     go : (a b : Bool) → length (cond a (k ∷ []) (cond b (suc k ∷ []) [])) ≤ 1
     go true b = omega arith

@@ -1,7 +1,10 @@
 -- Where the values of a subfield stand, by what the code tested of its row and of the list.
 --
 -- In order: the rows of subfields; so many parts; the tests; the values that were found. Assumes nothing.
-use Prim.Native.Nat.{ℕ, zero, suc, ◌+◌, ◌-◌, ◌*◌, ◌<◌, ◌≤◌}
+use Rattle.tables.specs.declared.tables.Kind.TheVariants.{NoItem, Fixed, Repeated, Led, Extended, Compound}
+use Rattle.tables.specs.declared.tables.Kind.{Kind}
+use Rattle.tables.specs.Tables.{kind_digit}
+use Prim.Native.Nat.{ℕ, ◌+◌, ◌-◌, ◌*◌, ◌<◌, ◌≤◌}
 use mathlib.Core.Path.{◌≡◌, refl, sym, ap, ap₂, ◌∙◌, subst}
 use mathlib.Core.Bool.{Bool, true, false, ◌&&◌, true≢false, false≢true}
 use mathlib.Core.Logic.{◌⊎◌, inl, inr, ⊎_elim}
@@ -54,32 +57,34 @@ pub first_in : (i : ℕ) {r : LayoutRow} → r ≡ layout_at i → r.first < gro
 first_in i er = subst (λ x. x.first < group_count) (sym er) (layout_row_is i).first
 
 -- the format of a row of kind 1, and of kind 2
-row_none_lem : (r : LayoutRow) → r.kind ≡ 0 → format_is r ≡ none
+row_none_lem : (r : LayoutRow) → r.kind ≡ NoItem → format_is r ≡ none
 unfolding format_is format_by
 row_none_lem r e = rw e
 
-row_fixed : (r : LayoutRow) → r.kind ≡ 1 → format_is r ≡ some (fixed (group_in r.first))
+row_fixed : (r : LayoutRow) → r.kind ≡ Fixed → format_is r ≡ some (fixed (group_in r.first))
 unfolding format_is format_by group_in
 row_fixed r e = rw e
 
-row_list : (r : LayoutRow) → r.kind ≡ 2 → format_is r ≡ some (repeated r.least r.most (group_in r.first))
+row_list : (r : LayoutRow) → r.kind ≡ Repeated → format_is r ≡ some (repeated r.least r.most (group_in r.first))
 unfolding format_is format_by group_in
 row_list r e = rw e
 
 -- a subfield's row: none, one part, or a list
 pub data SubRow (r : LayoutRow) : Type 0 where
-  no_sub : r.kind ≡ 0 → format_is r ≡ none → SubRow r
-  one_sub : r.kind ≡ 1 → format_is r ≡ some (fixed (group_in r.first)) → SubRow r
-  list_sub : r.kind ≡ 2 → format_is r ≡ some (repeated r.least r.most (group_in r.first)) → SubRow r
+  no_sub : r.kind ≡ NoItem → format_is r ≡ none → SubRow r
+  one_sub : r.kind ≡ Fixed → format_is r ≡ some (fixed (group_in r.first)) → SubRow r
+  list_sub : r.kind ≡ Repeated → format_is r ≡ some (repeated r.least r.most (group_in r.first)) → SubRow r
 
-pub sub_row : (r : LayoutRow) → r.kind ≤ 2 → SubRow r
+pub sub_row : (r : LayoutRow) → kind_digit r.kind ≤ 2 → SubRow r
 sub_row r h = go r.kind refl h
   where
-    go : (k : ℕ) → r.kind ≡ k → k ≤ 2 → SubRow r
-    go zero e l = no_sub e (row_none_lem r e)
-    go (suc zero) e l = one_sub e (row_fixed r e)
-    go (suc (suc zero)) e l = list_sub e (row_list r e)
-    go (suc (suc (suc k))) e l = absurd (omega arith)
+    go : (k : Kind) → r.kind ≡ k → kind_digit k ≤ 2 → SubRow r
+    go NoItem e l = no_sub e (row_none_lem r e)
+    go Fixed e l = one_sub e (row_fixed r e)
+    go Repeated e l = list_sub e (row_list r e)
+    go Led e l = absurd (omega arith)
+    go Extended e l = absurd (omega arith)
+    go Compound e l = absurd (omega arith)
 
 -- ---- so many parts
 
@@ -101,11 +106,11 @@ module _ (i : ℕ) (vs : List ℤ) (at : ℕ) {r : LayoutRow} (er : r ≡ layout
   pub most_few : r.most ≤ 255
   most_few = omega (arith, ap (λ x. x.most) er, (layout_row_is i).most, (layout_row_is i).sound.few)
 
-  pub span_none : r.kind ≡ 0 → ok (spanned false at at 0) ≡ span_from (format_is (layout_at i)) vs at
+  pub span_none : r.kind ≡ NoItem → ok (spanned false at at 0) ≡ span_from (format_is (layout_at i)) vs at
   unfolding span_from
   span_none e = sym (ap (λ o. span_from o vs at) (row_none_lem (layout_at i) (sym (ap (λ x. x.kind) er) ∙ e)))
 
-  module _ (few : (layout_at i).kind ≤ 2) (ne : r.kind ≡ 0 → ⊥) where
+  module _ (few : kind_digit (layout_at i).kind ≤ 2) (ne : r.kind ≡ NoItem → ⊥) where
     -- there is a format
     formatted : {C : Type 0} → ((s : Format) → format_is (layout_at i) ≡ some s → C) → C
     formatted {C} k = go (sub_row (layout_at i) few)
@@ -133,10 +138,10 @@ module _ (i : ℕ) (vs : List ℤ) (at : ℕ) {r : LayoutRow} (er : r ≡ layout
           values_are : g.values ≡ arity (group_in (layout_at i).first).fields
           values_are = ap (λ x. x.values) eg ∙ ap (λ x. (group_at x.first).values) er ∙ (group_values (layout_at i).first).0
 
-          pub span_fixed : {m : Answer Spanned} → r.kind ≡ 1 → m ≡ span_to (length vs) at 1 g.values → m ≡ span_from (format_is (layout_at i)) vs at
+          pub span_fixed : {m : Answer Spanned} → r.kind ≡ Fixed → m ≡ span_to (length vs) at 1 g.values → m ≡ span_from (format_is (layout_at i)) vs at
           span_fixed e d = d ∙ ap (span_to (length vs) at 1) values_are ∙ span_there _ (row_fixed (layout_at i) (sym (ap (λ x. x.kind) er) ∙ e))
 
-          module _ (ne₁ : r.kind ≡ 1 → ⊥) where
+          module _ (ne₁ : r.kind ≡ Fixed → ⊥) where
             is_list : format_is (layout_at i) ≡ some (repeated (layout_at i).least (layout_at i).most (group_in (layout_at i).first))
             is_list = go (sub_row (layout_at i) few)
               where
@@ -191,7 +196,7 @@ pub record There (i : ℕ) (vs : List ℤ) (at a e c : ℕ) : Type 0 where
   pub kind : ((a ≡ at) × ((c ≡ 1) × (format_is (layout_at i) ≡ some (fixed (group_in (layout_at i).first)))))
       ⊎ ((a ≡ at + 1) × ((c ≤ (layout_at i).most) × ((get_or vs at (pos 0) ≡ pos c) × (format_is (layout_at i) ≡ some (repeated (layout_at i).least (layout_at i).most (group_in (layout_at i).first))))))
 
-pub there : (i : ℕ) (vs : List ℤ) (at a e c : ℕ) → (layout_at i).kind ≤ 2 → span_from (format_is (layout_at i)) vs at ≡ ok (spanned true a e c) → There i vs at a e c
+pub there : (i : ℕ) (vs : List ℤ) (at a e c : ℕ) → kind_digit (layout_at i).kind ≤ 2 → span_from (format_is (layout_at i)) vs at ≡ ok (spanned true a e c) → There i vs at a e c
 unfolding span_from
 there i vs at a e c few h = go (sub_row (layout_at i) few)
   where

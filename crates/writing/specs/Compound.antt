@@ -2,9 +2,11 @@
 -- numbers on. `proofs/CompoundLaws` has that it is the rules' `write_fields`. Assumes nothing.
 --
 -- In order: where a subfield's values stand; one bit; one primary octet; all of them; the item; what the functions answer.
-use Rattle.std.specs.Prelude.{ℕ, zero, suc, ◌+◌, ◌-◌, ◌*◌, Bool, true, false, List, [], ◌∷◌, ◌++◌, leb, ltb, ℤ, pos, negsuc, length, get_or, take, drop}
+use Rattle.std.specs.Prelude.{ℕ, zero, suc, ◌+◌, ◌-◌, ◌*◌, Bool, true, false, List, [], ◌∷◌, ◌++◌, leb, ltb, ℤ, pos, negsuc, length, get_or, take, drop, Result}
 use Rattle.std.proofs.Math.Option.{Option, none, some}
 use Rattle.rules.specs.Answer.{Answer, ok, refused, ◌>>=◌, need◌or◌then◌, when◌then◌else◌, octets_of}
+use Rattle.rules.specs.declared.faults.Fault.{Fault}
+use Rattle.rules.specs.Told.{begun_as}
 use Rattle.rules.specs.Field.{arity}
 use Rattle.rules.specs.Format.{Format, fixed, repeated, led, extended}
 use Rattle.rules.specs.Presence.{number, keep_row}
@@ -14,11 +16,7 @@ use Rattle.writing.specs.Write.{marked, cut_at, Parts, parts}
 use Rattle.writing.specs.declared.compound.Span.{Span}
 use Rattle.writing.specs.declared.compound.Span.TheVariants as span
 use Rattle.writing.specs.declared.compound.PlaceSize.{PlaceSize}
-use Rattle.writing.specs.declared.compound.PlaceSize.TheVariants as place
 use Rattle.writing.specs.declared.compound.RowSize.{RowSize}
-use Rattle.writing.specs.declared.compound.RowSize.TheVariants as row
-use Rattle.writing.specs.declared.compound.RowsSize.{RowsSize}
-use Rattle.writing.specs.declared.compound.RowsSize.TheVariants as rows
 
 -- ---- where a subfield's values stand
 
@@ -141,49 +139,35 @@ compound_at i vs = do
 
 -- ---- what the functions answer
 
-abbrev pub span_as : Span → Answer Spanned
-span_as (span.Values a e c) = ok (spanned true a e c)
-span_as (span.Absent n) = ok (spanned false n n 0)
-span_as span.Refused = refused 11 0
+abbrev pub spanned_of : Span → Spanned
+spanned_of (span.Values a e c) = spanned true a e c
+spanned_of (span.Absent n) = spanned false n n 0
+
+abbrev pub span_as : Result Span Fault → Answer Spanned
+span_as = begun_as spanned_of
 
 -- a size in place of the octets
-pub record PlaceSized : Type 0 where
-  pub there : Bool
-  pub size : ℕ
-  pub next : ℕ
+abbrev pub PlaceSized : Type 0
+PlaceSized = PlaceSize
 
 unfoldable pub place_size : ℕ → List ℤ → ℕ → Answer PlaceSized
 place_size i vs at = do
   x ← place_from i vs at
   ok (record { there = x.there; size = length x.octets; next = x.next })
 
-abbrev pub place_as : PlaceSize → Answer PlaceSized
-place_as (place.Sized t s n) = ok (record { there = t; size = s; next = n })
-place_as place.Refused = refused 11 0
-
-pub record RowSized : Type 0 where
-  pub bits : ℕ
-  pub size : ℕ
-  pub next : ℕ
+abbrev pub RowSized : Type 0
+RowSized = RowSize
 
 unfoldable pub row_size : ℕ → List ℤ → ℕ → Answer RowSized
 row_size i vs at = do
   x ← row_from 7 i vs at
   ok (record { bits = number x.flags; size = length x.octets; next = x.next })
 
-abbrev pub row_as : RowSize → Answer RowSized
-row_as (row.Row b s n) = ok (record { bits = b; size = s; next = n })
-row_as row.Refused = refused 11 0
-
 -- how many primary octets, and the octets of the item
 unfoldable pub rows_size : ℕ → List ℤ → Answer Parts
 rows_size i vs = do
   y ← all_rows i vs
   ok (parts (length y.numbers) (length (item_octets y)))
-
-abbrev pub rows_as : RowsSize → Answer Parts
-rows_as (rows.Rows k s) = ok (parts k s)
-rows_as rows.Refused = refused 11 0
 
 -- what a rule that passes gives
 abbrev pub place_of : Answer Place → Place

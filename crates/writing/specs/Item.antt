@@ -1,11 +1,11 @@
 -- What writing one item answers, by the row of its layout; and of a list of numbers, which of them are values of parts that are there. Assumes nothing.
-use Rattle.std.specs.Prelude.{ℕ, ◌-◌, ◌<◌, ◌≤◌, ◌≡◌, Bool, true, false, cond, List, leb, eqb, ℤ, pos, length, get_or, take, drop}
-use Rattle.rules.specs.Answer.{Answer, ok, refused, ◌>>=◌, need◌or◌then◌, expect◌or◌}
+use Rattle.std.specs.Prelude.{ℕ, ◌-◌, ◌<◌, ◌≤◌, ◌≡◌, Bool, true, false, cond, List, leb, eqb, ℤ, pos, length, get_or, take, drop, Result}
+use Rattle.rules.specs.Answer.{Answer, ok, ◌>>=◌, need◌or◌then◌, expect◌or◌}
+use Rattle.rules.specs.declared.faults.Refusal.{Refusal}
+use Rattle.rules.specs.Told.{told}
 use Rattle.rules.specs.FieldList.{is_absent, all_absent, write_fields}
 use Rattle.tables.specs.Tables.{layout_at, layout_is}
 use Rattle.writing.specs.Write.{chained_at, cut_at}
-use Rattle.writing.specs.declared.write.ItemWritten.{ItemWritten}
-use Rattle.writing.specs.declared.write.ItemWritten.TheVariants as written
 
 -- so many numbers stand before those at the end that say that something is absent
 pub record Front (vs : List ℤ) (n : ℕ) : Type 0 where
@@ -37,6 +37,5 @@ write_at i vs room = do
   need leb (length bs) room or 16 then ok bs
 
 -- the answer of the entry point
-abbrev pub written_as : ItemWritten → Answer ℕ
-written_as (written.Length n) = ok n
-written_as (written.Refused n p) = refused n p
+abbrev pub written_as : Result ℕ Refusal → Answer ℕ
+written_as = told

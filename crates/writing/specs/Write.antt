@@ -1,20 +1,20 @@
 -- The writing rule of a format as the code follows it, and of an item: the values are cut into parts until none is left, packed one part after
 -- another, and the parts are laid one after another behind the octet that counts them. `proofs/FormatLaws` and `proofs/CutLaws` have that these are
 -- the rules' `write_plain` and `write_fields`. Assumes nothing.
-use Rattle.std.specs.Prelude.{ℕ, suc, ◌+◌, ◌*◌, ◌^◌, Bool, true, false, cond, List, [], ◌∷◌, ◌++◌, map, leb, ltb, eqb, length, get_or, take, drop, replicate, ℤ}
+use Rattle.tables.specs.declared.tables.Kind.TheVariants.{Repeated, Led, Extended}
+use Rattle.tables.specs.Tables.{same_kind}
+use Rattle.std.specs.Prelude.{ℕ, suc, ◌+◌, ◌*◌, ◌^◌, Bool, true, false, cond, List, [], ◌∷◌, ◌++◌, map, leb, ltb, eqb, length, get_or, take, drop, replicate, ℤ, Result}
 use Rattle.std.proofs.Math.Seq.{slice}
 use Rattle.rules.specs.Answer.{Answer, ok, refused, ◌>>=◌, need◌or◌then◌, when◌then◌else◌, octets_of, Write}
+use Rattle.rules.specs.declared.faults.Fault.{Fault}
+use Rattle.rules.specs.Told.{begun_as}
 use Rattle.rules.specs.Field.{Field, Kind, spare, value, unsigned, any, arity, put, pack}
 use Rattle.rules.specs.Chain.{octets}
 use Rattle.rules.specs.Format.{Group, Format, fixed, repeated, led, extended, group, groups, PartValues, pack_all, write_plain}
 use Rattle.tables.specs.Tables.{fields, group_rows, group_at, layout_at, group_is}
 use Rattle.tables.specs.Tables as tables
-use Rattle.writing.specs.declared.formats.Coded.{Coded}
-use Rattle.writing.specs.declared.formats.Coded.TheVariants as coded
 use Rattle.writing.specs.declared.formats.Packed.{Packed}
-use Rattle.writing.specs.declared.formats.Packed.TheVariants as packed
 use Rattle.writing.specs.declared.formats.Counted.{Counted}
-use Rattle.writing.specs.declared.formats.Counted.TheVariants as counted
 
 -- the values of the parts that a list makes: it is cut until nothing is left
 unfoldable pub parts_from : List (List Field) → List ℤ → Answer PartValues
@@ -91,17 +91,20 @@ group_in j = group_is (group_at j)
 -- the parts of the layout at a place
 unfoldable pub parts_at : ℕ → List Group
 parts_at i =
-    cond (eqb (layout_at i).kind 4)
+    cond (same_kind (layout_at i).kind Extended)
     (slice (layout_at i).first (layout_at i).end (map group_is (group_rows 0 tables.groups)))
     (replicate (layout_at i).most (group_in (layout_at i).first))
 
 unfoldable pub chained_at : ℕ → Bool
-chained_at i = eqb (layout_at i).kind 4
+chained_at i = same_kind (layout_at i).kind Extended
 
 unfoldable pub head_at : ℕ → ℕ → List ℕ
-head_at i k = cond (eqb (layout_at i).kind 2) (k ∷ []) (cond (eqb (layout_at i).kind 3) (suc k ∷ []) [])
+head_at i k = cond (same_kind (layout_at i).kind Repeated) (k ∷ []) (cond (same_kind (layout_at i).kind Led) (suc k ∷ []) [])
 
--- ---- what the functions answer
+-- ---- what the functions answer: what is refused is refused at the item's start
+
+abbrev pub answer_of : {A : Type 0} → Result A Fault → Answer A
+answer_of = begun_as (λ a. a)
 
 abbrev pub width_of : Field → ℕ
 width_of (spare w) = w
@@ -119,13 +122,8 @@ code_for f (v ∷ vs) = do
   c ← put (width_of f) (kind_of f) v
   need ltb c (2 ^ width_of f) or 11 then ok c
 
-abbrev pub coded_as : Coded → Answer ℕ
-coded_as (coded.Bits c) = ok c
-coded_as (coded.Refused n p) = refused n p
-
-pub record Part : Type 0 where
-  pub number : ℕ
-  pub next : ℕ
+abbrev pub Part : Type 0
+Part = Packed
 
 abbrev pub part : ℕ → ℕ → Part
 part n k = record { number = n; next = k }
@@ -135,13 +133,8 @@ pack_from fs vs at = do
   n ← pack_first fs (drop at vs)
   ok (part n (at + arity fs))
 
-abbrev pub packed_as : Packed → Answer Part
-packed_as (packed.Number n k) = ok (part n k)
-packed_as (packed.Refused n p) = refused n p
-
-pub record Parts : Type 0 where
-  pub count : ℕ
-  pub size : ℕ
+abbrev pub Parts : Type 0
+Parts = Counted
 
 abbrev pub parts : ℕ → ℕ → Parts
 parts k n = record { count = k; size = n }
@@ -150,10 +143,6 @@ unfoldable pub count_parts : Bool → List Group → List ℤ → Answer Parts
 count_parts fx gs vs = do
   ns ← numbers_of gs vs
   ok (parts (length ns) (length (laid_parts fx gs ns)))
-
-abbrev pub counted_as : Counted → Answer Parts
-counted_as (counted.Parts k n) = ok (parts k n)
-counted_as (counted.Refused n p) = refused n p
 
 unfoldable pub lay_parts : Bool → List Group → List ℤ → Answer (List ℕ)
 lay_parts fx gs vs = do

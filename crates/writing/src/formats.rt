@@ -4,11 +4,13 @@ ghost use Rattle.std.specs.Prelude.{◌≡◌, ℕ, ◌+◌, ◌*◌, ◌^◌, �
 ghost use Rattle.std.proofs.lemmas.List.Edits.{sets};
 ghost use Rattle.rules.specs.Answer.{ok, octets_of};
 ghost use Rattle.rules.specs.Chain.{octets};
-ghost use Rattle.tables.specs.Tables.{field_count, group_count, layout_count};
-ghost use Rattle.writing.specs.Write.{field_in, group_in, no_group, parts_at, chained_at, code_for, pack_from, count_parts, parts, lay_parts, head_at, marked, size_at, octets_at, coded_as, packed_as, counted_as};
+ghost use Rattle.tables.specs.declared.tables.Kind.TheVariants.{Extended};
+ghost use Rattle.tables.specs.Tables.{same_kind, field_count, group_count, layout_count};
+ghost use Rattle.writing.specs.Write.{field_in, group_in, no_group, parts_at, chained_at, code_for, pack_from, count_parts, parts, lay_parts, head_at, marked, size_at, octets_at, answer_of};
 
 use numbers::magnitude;
-use tables::{EXTENDED, LED, REPEATED, SPARE, field_at, group_at, layout_at};
+use rules::Fault;
+use tables::{Holds, Kind, LayoutRow, field_at, group_at, layout_at};
 
 // ---- one value
 
@@ -20,86 +22,55 @@ fn append_bits(n: u64, bits: u64, code: u64) -> u64
     (n << bits) + code
 }
 
-// The bits that stand for a value.
-#[derive(Drop)]
-pub enum Coded {
-    Bits(u64),
-    // There is no value, or it is outside the field's range: the number of the refusal, and its place, counted from the item's first octet.
-    Refused { number: u8, place: usize },
-}
-
-// The bits of the value at a place of a list, in the field at a place of the table.
-fn code_at(field: usize, values: &[i64], at: usize) -> Coded
+// The bits of the value at a place of a list, in the field at a place of the table: none where there is no value, or it is outside the field's range.
+fn code_at(field: usize, values: &[i64], at: usize) -> Result<u64, Fault>
     requires { field < field_count }
-    ensures { coded_as result ≡ code_for (field_in field) (drop at values.now) }
+    ensures { answer_of result ≡ code_for (field_in field) (drop at values.now) }
 {
     let f = field_at(field);
     if values.len() <= at {
-        return Coded::Refused {
-            number: 11,
-            place: 0,
-        };
+        return Err(Fault::FieldBarred);
     }
     let v = values[at];
-    if v < f.least {
-        return Coded::Refused {
-            number: 11,
-            place: 0,
-        };
-    }
-    if f.greatest < v {
-        return Coded::Refused {
-            number: 11,
-            place: 0,
-        };
+    if v < f.least || f.greatest < v {
+        return Err(Fault::FieldBarred);
     }
     if v < 0 {
         let bits = f.bits;
-        return Coded::Bits((1u64 << bits) - 1 - magnitude(v));
+        return Ok((1u64 << bits) - 1 - magnitude(v));
     }
-    Coded::Bits(magnitude(v))
+    Ok(magnitude(v))
 }
 
 // ---- one part
 
-// The number that holds the values of a part.
-#[derive(Drop)]
-pub enum Packed {
-    // The number, and the place of the first value after the part's.
-    Number { number: u64, next: usize },
-    // A value is missing, or outside its field's range: the refusal, as it was handed back.
-    Refused { number: u8, place: usize },
+// The number that holds the values of a part, and the place of the first value after the part's.
+#[derive(Clone, Copy)]
+pub struct Packed {
+    pub number: u64,
+    pub next: usize,
 }
 
 // The number of the part whose values start at a place of a list, by the group at a place of the table.
-fn pack_part(group: usize, values: &[i64], at: usize) -> Packed
+fn pack_part(group: usize, values: &[i64], at: usize) -> Result<Packed, Fault>
     requires { group < group_count }
-    ensures { packed_as result ≡ pack_from (group_in group).fields values.now at }
+    ensures { answer_of result ≡ pack_from (group_in group).fields values.now at }
 {
     let g = group_at(group);
     let end = g.end;
-    let mut i = g.first;
     let mut n: u64 = 0;
     let mut k = at;
-    while i < end {
+    for i in g.first..end {
         let f = field_at(i);
-        if f.holds == SPARE {
+        if f.holds == Holds::Spare {
             n = append_bits(n, f.bits, 0);
-            i = i + 1;
             continue;
         }
-        match code_at(i, values, k) {
-            Coded::Refused { number, place } => {
-                return Packed::Refused { number, place };
-            }
-            Coded::Bits(code) => {
-                n = append_bits(n, f.bits, code);
-                k = k + 1;
-                i = i + 1;
-            }
-        }
+        let code = code_at(i, values, k)?;
+        n = append_bits(n, f.bits, code);
+        k += 1;
     }
-    Packed::Number { number: n, next: k }
+    Ok(Packed { number: n, next: k })
 }
 
 // A part's number with its FX bit, if it has one: whether another part follows.
@@ -107,13 +78,7 @@ pub fn mark(chained: bool, more: bool, n: u64) -> u64
     requires { marked chained more n < 2 ^ 64 }
     ensures { result ≡ marked chained more n }
 {
-    if !chained {
-        return n;
-    }
-    if more {
-        return n * 2 + 1;
-    }
-    n * 2
+    if chained { n * 2 + u64::from(more) } else { n }
 }
 
 // The octets of a number, at a place of the output.
@@ -122,16 +87,18 @@ pub fn lay_number(n: u64, size: usize, out: &mut [u8], at: usize)
     requires size_in_bounds { at + size ≤ length out.old }
     ensures { out.new ≡ sets out.old at (octets size n) }
 {
-    let mut k = size;
-    let mut i = at;
-    while 0 < k {
-        k = k - 1;
-        out[i] = ((n >> (8 * k)) % 256) as u8;
-        i = i + 1;
-    }
+    let octets = n.to_be_bytes();
+    out[at..at + size].copy_from_slice(&octets[8 - size..]);
 }
 
 // ---- all parts
+
+// Whether each part has a group of its own, and an FX bit.
+pub fn is_chained(l: LayoutRow) -> bool
+    ensures { result ≡ same_kind l.kind Extended }
+{
+    l.kind == Kind::Extended
+}
 
 // The group of a part, counted from 0, of the layout at a place of the table.
 fn part_group(layout: usize, part: usize) -> usize
@@ -139,55 +106,42 @@ fn part_group(layout: usize, part: usize) -> usize
     ensures { (result < group_count) × (group_in result ≡ get_or (parts_at layout) part no_group) }
 {
     let l = layout_at(layout);
-    if l.kind == EXTENDED {
+    if is_chained(l) {
         return l.first + part;
     }
     l.first
 }
 
-// How many parts the fields of an item make.
-#[derive(Drop)]
-pub enum Counted {
-    // So many parts, of so many octets together.
-    Parts { count: usize, size: usize },
-    // They are not the fields of an item: the refusal, of too many values or as it was handed back.
-    Refused { number: u8, place: usize },
+// How many parts the fields of an item make, and how many octets these take together.
+#[derive(Clone, Copy)]
+pub struct Counted {
+    pub count: usize,
+    pub size: usize,
 }
 
 // The parts that a list of values makes, by the layout at a place of the table.
-fn count_parts(layout: usize, values: &[i64]) -> Counted
+fn count_parts(layout: usize, values: &[i64]) -> Result<Counted, Fault>
     requires { layout < layout_count }
-    ensures { counted_as result ≡ count_parts (chained_at layout) (parts_at layout) values.now }
+    ensures { answer_of result ≡ count_parts (chained_at layout) (parts_at layout) values.now }
 {
     let l = layout_at(layout);
     let most = l.most;
     let mut count: usize = 0;
     let mut size: usize = 0;
     let mut at: usize = 0;
+    // (no index is counted: each part says where the next one's values start)
     while at < values.len() {
         if most <= count {
-            return Counted::Refused {
-                number: 11,
-                place: 0,
-            };
+            return Err(Fault::FieldBarred);
         }
         let group = part_group(layout, count);
-        match pack_part(group, values, at) {
-            Packed::Refused { number, place } => {
-                return Counted::Refused { number, place };
-            }
-            Packed::Number { number: _, next } => {
-                let g = group_at(group);
-                size = size + g.octets;
-                at = next;
-                count = count + 1;
-            }
-        }
+        let part = pack_part(group, values, at)?;
+        let g = group_at(group);
+        size += g.octets;
+        at = part.next;
+        count += 1;
     }
-    Counted::Parts {
-        count: count,
-        size: size,
-    }
+    Ok(Counted { count, size })
 }
 
 // The octets of the parts, at a place of the output, and the place after them.
@@ -199,20 +153,21 @@ fn lay_parts(layout: usize, values: &[i64], count: usize, out: &mut [u8], start:
         × (result ≡ start + length (octets_of (lay_parts (chained_at layout) (parts_at layout) values.now))) }
 {
     let l = layout_at(layout);
-    let chained = l.kind == EXTENDED;
-    let mut part: usize = 0;
+    let chained = is_chained(l);
     let mut from: usize = 0;
     let mut at = start;
-    while part < count {
+    for part in 0..count {
         let group = part_group(layout, part);
-        let Packed::Number { number, next } = pack_part(group, values, from) else {
-            return at;
-        };
+        let packed = pack_part(group, values, from).unwrap();
         let g = group_at(group);
-        part = part + 1;
-        lay_number(mark(chained, part < count, number), g.octets, out, at);
-        at = at + g.octets;
-        from = next;
+        lay_number(
+            mark(chained, part + 1 < count, packed.number),
+            g.octets,
+            out,
+            at,
+        );
+        at += g.octets;
+        from = packed.next;
     }
     at
 }
@@ -225,13 +180,10 @@ fn head_size(layout: usize) -> usize
     ensures { (result ≤ 1) × ((k : ℕ) → length (head_at layout k) ≡ result) }
 {
     let l = layout_at(layout);
-    if l.kind == REPEATED {
-        return 1;
+    match l.kind {
+        Kind::Repeated | Kind::Led => 1,
+        _ => 0,
     }
-    if l.kind == LED {
-        return 1;
-    }
-    0
 }
 
 // The octet that counts so many parts, and itself where it is its own too.
@@ -249,36 +201,27 @@ fn lay_head(layout: usize, count: usize, out: &mut [u8], start: usize)
     ensures { out.new ≡ sets out.old start (head_at layout count) }
 {
     let l = layout_at(layout);
-    if l.kind == REPEATED {
-        out[start] = count_octet(count, 0);
-        return;
-    }
-    if l.kind == LED {
-        out[start] = count_octet(count, 1);
+    match l.kind {
+        Kind::Repeated => out[start] = count_octet(count, 0),
+        Kind::Led => out[start] = count_octet(count, 1),
+        _ => {}
     }
 }
 
 // The parts that a list of values makes, by the layout at a place of the table, and the octets that they take with what stands before them.
-pub fn size_of(layout: usize, values: &[i64]) -> Counted
+pub fn size_of(layout: usize, values: &[i64]) -> Result<Counted, Fault>
     requires { layout < layout_count }
-    ensures { counted_as result ≡ size_at layout values.now }
+    ensures { answer_of result ≡ size_at layout values.now }
 {
-    match count_parts(layout, values) {
-        Counted::Refused { number, place } => Counted::Refused { number, place },
-        Counted::Parts { count, size } => {
-            let l = layout_at(layout);
-            if count < l.least {
-                return Counted::Refused {
-                    number: 11,
-                    place: 0,
-                };
-            }
-            Counted::Parts {
-                count: count,
-                size: head_size(layout) + size,
-            }
-        }
+    let Counted { count, size } = count_parts(layout, values)?;
+    let l = layout_at(layout);
+    if count < l.least {
+        return Err(Fault::FieldBarred);
     }
+    Ok(Counted {
+        count,
+        size: head_size(layout) + size,
+    })
 }
 
 // Their octets, at a place of the output, and the place after them. The values make so many parts.

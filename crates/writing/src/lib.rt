@@ -6,4 +6,4 @@ mod compound;
 mod formats;
 mod write;
 
-pub use write::{ItemWritten, write_item};
+pub use write::write_item;

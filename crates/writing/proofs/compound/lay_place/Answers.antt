@@ -5,7 +5,8 @@ use mathlib.Core.Bool.{true}
 use native.Mathlib.Omega.{arith}
 use Rattle.rules.specs.Answer.{ok}
 use Rattle.tables.specs.Tables.{layout_at, format_is}
-use Rattle.writing.specs.Compound.{spanned, span_from, span_as}
+use Rattle.writing.specs.Compound.{spanned, spanned_of, span_from, span_as}
+use Rattle.writing.proofs.Handed.{passes}
 use Rattle.writing.proofs.PlaceLaws.{span_inside, place_passes, lays, absent_laid, there_laid, there_fits}
 use Rattle.writing.proofs.compound.lay_place.Goals as goal
 use Rattle.writing.proofs.compound.lay_place.Goals.{In-Values}
@@ -13,7 +14,7 @@ use Rattle.writing.proofs.compound.lay_place.Goals.{In-Values}
 -- where the values stand
 spanned_at : (c : In-Values)
     → ok (spanned true c.in-Values.first c.in-Values.end c.in-Values.count) ≡ span_from (format_is (layout_at c.args.layout)) c.args.values.now c.args.at
-spanned_at c = sym (ap span_as c.in-Values.is) ∙ c.span_of.ensures
+spanned_at c = sym (ap (λ s. ok (spanned_of s)) c.in-Values.is) ∙ sym (ap span_as c.unwrap-span.ensures) ∙ c.span_of.ensures
 
 pub offset_bounds-values-first : goal.offset_bounds-values-first
 offset_bounds-values-first c = omega (arith, span_inside _ _ _ c.requires.layout_lt_layout_count.1.0 (spanned_at (goal.at.offset_bounds-values-first c).In-Values), c.well_formed)
@@ -31,13 +32,13 @@ pub lay-requires : goal.lay-requires
 lay-requires c =
     record { layout_lt_layout_count = (c.requires.layout_lt_layout_count.0, (lays _ _ _ c.requires.layout_lt_layout_count.1.1 c.requires.layout_lt_layout_count.1.0 (spanned_at (goal.at.lay-requires c).In-Values)).sizes); values_in_bounds = there_fits _ _ _ c.requires.layout_lt_layout_count.1.1 _ c.args.out.now c.requires.layout_lt_layout_count.1.0 (spanned_at (goal.at.lay-requires c).In-Values) c.requires.at_in_bounds }
 
--- the rule passes: this does not happen
-pub returns-in-Refused : goal.returns-in-Refused
-returns-in-Refused c = place_passes _ _ _ c.requires.layout_lt_layout_count.1.1 (sym (ap span_as c.in-Refused.is) ∙ c.span_of.ensures)
+-- the rule passes
+pub unwrap-span-requires : goal.unwrap-span-requires
+unwrap-span-requires c = passes _ _ c.span_of.ensures (λ n p. place_passes _ _ _ c.requires.layout_lt_layout_count.1.1)
 
 -- absent
 pub returns-in-Absent : goal.returns-in-Absent
-returns-in-Absent c = let told = absent_laid _ _ _ c.requires.layout_lt_layout_count.1.1 _ _ (sym (ap span_as c.in-Absent.is) ∙ c.span_of.ensures) in
+returns-in-Absent c = let told = absent_laid _ _ _ c.requires.layout_lt_layout_count.1.1 _ _ (sym (ap (λ s. ok (spanned_of s)) c.in-Absent.is) ∙ sym (ap span_as c.unwrap-span.ensures) ∙ c.span_of.ensures) in
     record { laid = told.0; told = told.1 }
 
 -- there

@@ -21,12 +21,6 @@ lay_place-x-requires c =
 pub mark-bits-requires : goal.mark-bits-requires
 mark-bits-requires c = step_fits _ _ _ _ _ _ _ _ _ _ _ c.loop-i.invariant c.loop-i-test.true c.lay_place-x.result.there
 
-pub overflow_add-i : goal.overflow_add-i
-overflow_add-i c = omega (arith, sub_many, c.requires.first_bound.0, c.loop-i.invariant.end_is, c.loop-i-test.true)
-
-pub loop-i-smaller : goal.loop-i-smaller
-loop-i-smaller c = omega (arith, c.loop-i-test.true)
-
 pub loop-i-preserved : goal.loop-i-preserved
 loop-i-preserved c =
     (step _ _ _ _ _ _ _ _ _ _ _ c.loop-i.invariant c.loop-i-test.true c.subfield_at.ensures.0).next c.lay_place-x.ensures.laid c.lay_place-x.ensures.told c.mark-bits.ensures

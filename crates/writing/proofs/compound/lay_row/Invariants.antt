@@ -1,10 +1,6 @@
--- What the loop keeps, and how much is left.
-use Prim.Native.Nat.{◌-◌}
+-- What the loop keeps.
 use Rattle.writing.proofs.BitTurns.{Stepping}
 use Rattle.writing.proofs.compound.lay_row.Given as goal
 
 abbrev pub invariant-loop-i : goal.invariant-loop-i
 invariant-loop-i l = Stepping l.first l.values l.at l.start l.initial.out l.end l.out l.i l.bits l.k l.q
-
-abbrev pub decreases-loop-i : goal.decreases-loop-i
-decreases-loop-i l = l.end - l.i

@@ -34,12 +34,6 @@ lay_number-requires c =
     let i = c.loop-row.invariant in
     let h = c.loop-row-test.true in record { size_bound = (omega arith, subst (λ x. x < 256) (sym c.mark.ensures) (fill_fits _ _ _ _ _ _ _ _ _ i h (ltb (c.loop-row.row + 1) c.args.count) c.lay_row-x.ensures.told.0)); size_in_bounds = fill_place _ _ _ _ _ _ _ _ _ i h c.lay_row-x.ensures.laid }
 
-pub overflow_add-row-in-loop-row : goal.overflow_add-row-in-loop-row
-overflow_add-row-in-loop-row c = omega (arith, fill_in _ _ _ _ _ _ _ _ _ c.loop-row.invariant c.loop-row-test.true c.requires.layout_lt_layout_count.1.0, sub_many)
-
-pub loop-row-smaller : goal.loop-row-smaller
-loop-row-smaller c = omega (arith, c.loop-row-test.true)
-
 pub loop-row-preserved : goal.loop-row-preserved
 loop-row-preserved c =
     (fill _ _ _ _ _ _ _ _ _ c.loop-row.invariant c.loop-row-test.true).next c.lay_row-x.ensures.laid c.lay_row-x.ensures.told c.mark.ensures c.lay_number.ensures

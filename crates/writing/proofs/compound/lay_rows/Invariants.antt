@@ -1,10 +1,6 @@
--- What the loop keeps, and how much is left.
-use Prim.Native.Nat.{◌-◌}
+-- What the loop keeps.
 use Rattle.writing.proofs.PrimaryTurns.{Filling}
 use Rattle.writing.proofs.compound.lay_rows.Given as goal
 
 abbrev pub invariant-loop-row : goal.invariant-loop-row
 invariant-loop-row l = Filling l.layout l.values l.count l.initial.out l.first l.out l.row l.at l.q
-
-abbrev pub decreases-loop-row : goal.decreases-loop-row
-decreases-loop-row l = l.count - l.row

@@ -1,20 +1,21 @@
 -- `writing::compound::size_row` meets its contract. The loop's invariant: the bits and octets so far, with those that are left, are those of the primary
 -- octet (`Summing`). The measure is how many bits are left. Assumes nothing.
-use mathlib.Core.Path.{◌≡◌, sym, ap, ◌∙◌}
+use mathlib.Core.Path.{◌≡◌, ap, ◌∙◌}
 use native.Mathlib.Omega.{arith}
 use Rattle.rules.specs.Answer.{ok}
 use Rattle.tables.specs.Tables.{subfield_at}
-use Rattle.writing.specs.Compound.{place_size, place_as}
+use Rattle.writing.specs.Compound.{place_size}
+use Rattle.writing.proofs.Handed.{handed}
 use Rattle.writing.proofs.BitTurns.{sub_many, kind_few, summing, sum_all, bit_in, sum_no, mark_fits_lem, sum_short, sum_next}
 use Rattle.writing.proofs.compound.size_row.Goals as goal
-use Rattle.writing.proofs.compound.size_row.Goals.{In-Sized}
+use Rattle.writing.proofs.compound.size_row.Goals.{In_ok-place}
 
 -- the subfield was sized
-sized_at : (c : In-Sized)
-    → ok (record { there = c.in-Sized.there; size = c.in-Sized.more; next = c.in-Sized.next })
+sized_at : (c : In_ok-place)
+    → ok c.in_ok-place.place
     ≡ place_size (subfield_at c.loop-i.i) c.args.values.now c.loop-i.k
 sized_at c =
-    sym (ap place_as c.in-Sized.is) ∙ c.size_place.ensures ∙ ap (λ x. place_size x c.args.values.now c.loop-i.k) c.subfield_at.ensures.0
+    c.in_ok-place.ensures ∙ ap (λ x. place_size x c.args.values.now c.loop-i.k) c.subfield_at.ensures.0
 
 pub overflow_add-end : goal.overflow_add-end
 overflow_add-end c = omega (arith, c.requires, sub_many)
@@ -29,25 +30,19 @@ pub size_place-requires : goal.size_place-requires
 size_place-requires c = (c.subfield_at.ensures.1, kind_few _ c.subfield_at.ensures.0)
 
 -- no values of a subfield
-pub returns-in-Refused : goal.returns-in-Refused
-returns-in-Refused c =
-    sum_no _ _ _ _ _ _ _ _ c.loop-i.invariant c.loop-i-test.true
-    (sym (ap place_as c.in-Refused.is) ∙ c.size_place.ensures ∙ ap (λ x. place_size x c.args.values.now c.loop-i.k) c.subfield_at.ensures.0)
+pub returns-in_err-place : goal.returns-in_err-place
+returns-in_err-place c =
+    handed _ _ c.from_residual.ensures.1
+    ∙ sum_no _ _ _ _ _ _ _ _ c.loop-i.invariant c.loop-i-test.true (c.in_err-place.ensures ∙ ap (λ x. place_size x c.args.values.now c.loop-i.k) c.subfield_at.ensures.0)
 
 pub mark-bits-requires : goal.mark-bits-requires
-mark-bits-requires c = mark_fits_lem _ _ _ _ _ _ _ _ c.loop-i.invariant c.loop-i-test.true c.in-Sized.there
+mark-bits-requires c = mark_fits_lem _ _ _ _ _ _ _ _ c.loop-i.invariant c.loop-i-test.true c.in_ok-place.place.there
 
 pub overflow_add-size : goal.overflow_add-size
-overflow_add-size c = omega (arith, sum_short _ _ _ _ _ _ _ _ c.loop-i.invariant c.loop-i-test.true (sized_at (goal.at.overflow_add-size c).In-Sized), c.loop-i.invariant.end_is, c.loop-i-test.true)
-
-pub overflow_add-i : goal.overflow_add-i
-overflow_add-i c = omega (arith, sub_many, c.requires, c.loop-i.invariant.end_is, c.loop-i-test.true)
-
-pub loop-i-smaller : goal.loop-i-smaller
-loop-i-smaller c = omega (arith, c.loop-i-test.true)
+overflow_add-size c = omega (arith, sum_short _ _ _ _ _ _ _ _ c.loop-i.invariant c.loop-i-test.true (sized_at (goal.at.overflow_add-size c).In_ok-place), c.loop-i.invariant.end_is, c.loop-i-test.true)
 
 pub loop-i-preserved : goal.loop-i-preserved
-loop-i-preserved c = sum_next _ _ _ _ _ _ _ _ c.loop-i.invariant c.loop-i-test.true (sized_at (goal.at.loop-i-preserved c).In-Sized) c.mark-bits.ensures
+loop-i-preserved c = sum_next _ _ _ _ _ _ _ _ c.loop-i.invariant c.loop-i-test.true (sized_at (goal.at.loop-i-preserved c).In_ok-place) c.mark-bits.ensures
 
 -- all bits are summed
 pub returns : goal.returns

@@ -1,20 +1,21 @@
 -- `writing::compound::size_rows` meets its contract. The loop's invariant: the primary octets and the octets so far, with those that are left, are those of
 -- the item (`Adding`). The measure is how many primary octets are left. Assumes nothing.
 use Prim.Native.Nat.{◌*◌, ◌+◌}
-use mathlib.Core.Path.{◌≡◌, sym, ap, ◌∙◌}
+use mathlib.Core.Path.{◌≡◌, ◌∙◌}
 use native.Mathlib.Omega.{arith}
 use Rattle.rules.specs.Answer.{ok}
-use Rattle.writing.specs.Compound.{row_size, row_as}
+use Rattle.writing.specs.Compound.{row_size}
 use Rattle.writing.proofs.BitTurns.{sub_many}
+use Rattle.writing.proofs.Handed.{handed}
 use Rattle.writing.proofs.PrimaryTurns.{compound_order, adding, adding_in, rows_few, add_no, add_short, add_next, add_more, add_none, add_all}
 use Rattle.writing.proofs.compound.size_rows.Goals as goal
-use Rattle.writing.proofs.compound.size_rows.Goals.{In-Row}
+use Rattle.writing.proofs.compound.size_rows.Goals.{In_ok-x}
 
 -- a primary octet was sized
-sized_at : (c : In-Row)
-    → ok (record { bits = c.in-Row.bits; size = c.in-Row.more; next = c.in-Row.next })
+sized_at : (c : In_ok-x)
+    → ok c.in_ok-x.x
     ≡ row_size (7 * (c.layout_at-l.result.first + c.loop-row.row)) c.args.values.now c.loop-row.at
-sized_at c = sym (ap row_as c.in-Row.is) ∙ c.size_row.ensures
+sized_at c = c.in_ok-x.ensures
 
 pub overflow_sub-rows : goal.overflow_sub-rows
 overflow_sub-rows c = compound_order _ c.layout_at-l.ensures c.requires.1
@@ -32,21 +33,18 @@ pub size_row-requires : goal.size_row-requires
 size_row-requires c = adding_in _ _ _ _ _ _ _ _ c.loop-row.invariant c.requires.1 c.loop-row-test.true
 
 -- no values of a subfield
-pub returns-in-Refused : goal.returns-in-Refused
-returns-in-Refused c = add_no _ _ _ _ _ _ _ _ c.loop-row.invariant c.loop-row-test.true (sym (ap row_as c.in-Refused.is) ∙ c.size_row.ensures)
+pub returns-in_err-x : goal.returns-in_err-x
+returns-in_err-x c = handed _ _ c.from_residual.ensures.1 ∙ add_no _ _ _ _ _ _ _ _ c.loop-row.invariant c.loop-row-test.true c.in_err-x.ensures
 
 pub overflow_add-row : goal.overflow_add-row
 overflow_add-row c = omega (arith, adding_in _ _ _ _ _ _ _ _ c.loop-row.invariant c.requires.1 c.loop-row-test.true, sub_many)
 
 pub overflow_add-size : goal.overflow_add-size
 overflow_add-size c =
-    omega (arith, add_short _ _ _ _ _ _ _ _ c.loop-row.invariant c.loop-row-test.true (sized_at (goal.at.overflow_add-size c).In-Row), adding_in _ _ _ _ _ _ _ _ c.loop-row.invariant c.requires.1 c.loop-row-test.true, sub_many)
-
-pub loop-row-smaller : goal.loop-row-smaller
-loop-row-smaller c = omega (arith, c.loop-row-test.true)
+    omega (arith, add_short _ _ _ _ _ _ _ _ c.loop-row.invariant c.loop-row-test.true (sized_at (goal.at.overflow_add-size c).In_ok-x), adding_in _ _ _ _ _ _ _ _ c.loop-row.invariant c.requires.1 c.loop-row-test.true, sub_many)
 
 pub loop-row-preserved : goal.loop-row-preserved
-loop-row-preserved c = add_next _ _ _ _ _ _ _ _ c.loop-row.invariant c.loop-row-test.true (sized_at (goal.at.loop-row-preserved c).In-Row) c.rows_to-count.ensures
+loop-row-preserved c = add_next _ _ _ _ _ _ _ _ c.loop-row.invariant c.loop-row-test.true (sized_at (goal.at.loop-row-preserved c).In_ok-x) c.rows_to-count.ensures
 
 -- a number is left
 pub returns-then-at-values : goal.returns-then-at-values

@@ -5,6 +5,8 @@ use native.Mathlib.Omega.{arith}
 use lib.IntN.{pos}
 use lib.ListN.{get_or}
 use Rattle.rules.specs.FieldList.{is_absent}
+use denote.Enum.Bare.{same_true, same_false}
+use Rattle.tables.specs.contracts.tables.Kind.{the_type}
 use Rattle.writing.proofs.AbsentLaws.{absent_again}
 use Rattle.writing.proofs.SpanLaws.{first_in, most_few, span_none, span_short, span_absent, values_few, span_fixed, span_minus, span_many, span_list}
 use Rattle.writing.proofs.compound.span_of.Goals as goal
@@ -15,16 +17,16 @@ tested : (c : After-is_absent) {t : Bool} → c.is_absent.result ≡ t → is_ab
 tested c e = sym (absent_again (get_or c.args.values.now c.args.at (pos 0)) (record { sfits = c.v-1.given }) c.is_absent.ensures) ∙ e
 
 -- no subfield
-pub returns-then-l-eq-NONE : goal.returns-then-l-eq-NONE
-returns-then-l-eq-NONE c = span_none _ _ _ c.layout_at-l.ensures c.if-l-eq-NONE.true
+pub returns-then-eq : goal.returns-then-eq
+returns-then-eq c = span_none _ _ _ c.layout_at-l.ensures (same_true the_type tt _ _ (sym c.eq.ensures ∙ c.if-eq.true))
 
 -- no number
 pub returns-then-values-at : goal.returns-then-values-at
-returns-then-values-at c = span_short _ _ _ c.layout_at-l.ensures c.requires.1 c.if-l-eq-NONE.false c.if-values-at.true
+returns-then-values-at c = span_short _ _ _ c.layout_at-l.ensures c.requires.1 (same_false the_type _ _ (sym c.eq.ensures ∙ c.if-eq.false)) c.if-values-at.true
 
 -- absent
 pub returns-then-is_absent : goal.returns-then-is_absent
-returns-then-is_absent c = span_absent _ _ _ c.layout_at-l.ensures c.requires.1 c.if-l-eq-NONE.false c.if-values-at.false (tested (goal.at.returns-then-is_absent c).After-is_absent c.if-is_absent.true)
+returns-then-is_absent c = span_absent _ _ _ c.layout_at-l.ensures c.requires.1 (same_false the_type _ _ (sym c.eq.ensures ∙ c.if-eq.false)) c.if-values-at.false (tested (goal.at.returns-then-is_absent c).After-is_absent c.if-is_absent.true)
 
 pub group_at-g-requires : goal.group_at-g-requires
 group_at-g-requires c = first_in _ c.layout_at-l.ensures
@@ -33,20 +35,20 @@ pub span_to-requires : goal.span_to-requires
 span_to-requires c = (omega (arith, c.if-values-at.false), (omega arith, values_few _ c.group_at-g.ensures))
 
 -- a fixed subfield
-pub returns-then-l-eq-FIXED : goal.returns-then-l-eq-FIXED
-returns-then-l-eq-FIXED c =
-    span_fixed _ _ _ c.layout_at-l.ensures c.requires.1 c.if-l-eq-NONE.false c.if-values-at.false (tested (goal.at.returns-then-l-eq-FIXED c).After-is_absent c.if-is_absent.false) c.group_at-g.ensures c.if-l-eq-FIXED.true c.span_to.ensures
+pub returns-then-eq-2 : goal.returns-then-eq-2
+returns-then-eq-2 c =
+    span_fixed _ _ _ c.layout_at-l.ensures c.requires.1 (same_false the_type _ _ (sym c.eq.ensures ∙ c.if-eq.false)) c.if-values-at.false (tested (goal.at.returns-then-eq-2 c).After-is_absent c.if-is_absent.false) c.group_at-g.ensures (same_true the_type tt _ _ (sym c.eq-2.ensures ∙ c.if-eq-2.true)) c.span_to.ensures
 
 -- a count below 0
 pub returns-then-v-lt0 : goal.returns-then-v-lt0
 returns-then-v-lt0 c =
-    span_minus _ _ _ c.layout_at-l.ensures c.requires.1 c.if-l-eq-NONE.false c.if-values-at.false (tested (goal.at.returns-then-v-lt0 c).After-is_absent c.if-is_absent.false) c.group_at-g.ensures c.if-l-eq-FIXED.false
+    span_minus _ _ _ c.layout_at-l.ensures c.requires.1 (same_false the_type _ _ (sym c.eq.ensures ∙ c.if-eq.false)) c.if-values-at.false (tested (goal.at.returns-then-v-lt0 c).After-is_absent c.if-is_absent.false) c.group_at-g.ensures (same_false the_type _ _ (sym c.eq-2.ensures ∙ c.if-eq-2.false))
     (record { sfits = c.v-1.given }) c.if-v-lt0.true
 
 -- too great a count
 pub returns-then-l-count : goal.returns-then-l-count
 returns-then-l-count c =
-    span_many _ _ _ c.layout_at-l.ensures c.requires.1 c.if-l-eq-NONE.false c.if-values-at.false (tested (goal.at.returns-then-l-count c).After-is_absent c.if-is_absent.false) c.group_at-g.ensures c.if-l-eq-FIXED.false
+    span_many _ _ _ c.layout_at-l.ensures c.requires.1 (same_false the_type _ _ (sym c.eq.ensures ∙ c.if-eq.false)) c.if-values-at.false (tested (goal.at.returns-then-l-count c).After-is_absent c.if-is_absent.false) c.group_at-g.ensures (same_false the_type _ _ (sym c.eq-2.ensures ∙ c.if-eq-2.false))
     (record { sfits = c.v-1.given }) c.if-v-lt0.false c.magnitude-count.ensures c.if-l-count.true
 
 pub overflow_add-at : goal.overflow_add-at
@@ -58,5 +60,5 @@ span_to-requires-2 c = (omega (arith, c.if-values-at.false), (omega (arith, c.if
 -- a list
 pub returns : goal.returns
 returns c =
-    span_list _ _ _ c.layout_at-l.ensures c.requires.1 c.if-l-eq-NONE.false c.if-values-at.false (tested (goal.at.returns c).After-is_absent c.if-is_absent.false) c.group_at-g.ensures c.if-l-eq-FIXED.false
+    span_list _ _ _ c.layout_at-l.ensures c.requires.1 (same_false the_type _ _ (sym c.eq.ensures ∙ c.if-eq.false)) c.if-values-at.false (tested (goal.at.returns c).After-is_absent c.if-is_absent.false) c.group_at-g.ensures (same_false the_type _ _ (sym c.eq-2.ensures ∙ c.if-eq-2.false))
     (record { sfits = c.v-1.given }) c.if-v-lt0.false c.magnitude-count.ensures c.if-l-count.false c.span_to-2.ensures

@@ -2,7 +2,7 @@
 use borrow.Author.Rules.{rules}
 use Rattle.writing.proofs.CodeLaws.{Taken, code_none, code_low, code_high, bits_few, shift_some, code_neg, code_pos}
 use Rattle.writing.proofs.formats.code_at.Goals as goal
-use Rattle.writing.proofs.formats.code_at.Goals.{After-v-1}
+use Rattle.writing.proofs.formats.code_at.Goals.{After-v-1, then-v-f-via-then-v-f, then-v-f-via-else-v-f+then-f-v}
 
 -- the value and the row that the tests look at
 taken_at : (c : After-v-1) → Taken c.args.field c.args.values.now c.args.at c.field_at-f.result
@@ -12,15 +12,14 @@ taken_at c = record { row = c.field_at-f.ensures; there = c.if-values-at.false; 
 pub returns-then-values-at : goal.returns-then-values-at
 returns-then-values-at c = code_none c.args.field c.args.values.now c.args.at c.if-values-at.true
 
--- below the least
+-- below the least, or above the greatest
 pub returns-then-v-f : goal.returns-then-v-f
 returns-then-v-f c =
-    code_low (taken_at (goal.at.returns-then-v-f c).After-v-1) (search rules) c.if-v-f.true
-
--- above the greatest
-pub returns-then-f-v : goal.returns-then-f-v
-returns-then-f-v c =
-    code_high (taken_at (goal.at.returns-then-f-v c).After-v-1) (search rules) c.if-f-v.true
+    let t = taken_at (goal.at.returns-then-v-f c).After-v-1 in
+    elim c.then-v-f.branch [
+      | then-v-f-via-then-v-f w ↦ code_low t (search rules) w.if-v-f.true
+      | then-v-f-via-else-v-f+then-f-v w ↦ code_high t (search rules) w.if-f-v.true
+    ]
 
 pub overflow_shl-result : goal.overflow_shl-result
 overflow_shl-result c =

@@ -1,9 +1,9 @@
 -- `writing::formats::count_parts` meets its contract. The loop's invariant: the parts so far and those that are left make the count of all (`Counting`).
 -- The measure is how many parts there may still be. Assumes nothing.
 use Prim.Native.Nat.{◌+◌, ◌*◌, ◌≤◌, ◌<◌}
-use mathlib.Core.Path.{sym, ap, ◌∙◌}
+use mathlib.Core.Path.{◌∙◌}
 use native.Mathlib.Omega.{arith}
-use Rattle.writing.specs.Write.{packed_as}
+use Rattle.writing.proofs.Handed.{handed}
 use Rattle.writing.proofs.PartTurns.{counting, count_all, count_over, part_in_lem, count_no, size_fits, counted}
 use Rattle.writing.proofs.formats.count_parts.Goals as goal
 use Rattle.writing.proofs.formats.count_parts.Goals.{After-struct_known-1}
@@ -35,11 +35,10 @@ pack_part-requires c =
     c.part_group-group.ensures.0
 
 -- a part that cannot be packed
-pub returns-in-Refused : goal.returns-in-Refused
-returns-in-Refused c =
-    count_no _ _ _ _ _ _ c.loop-at.invariant c.loop-at-test.true
-    c.if-most-count.false _ c.part_group-group.ensures.1
-    (sym (ap packed_as c.in-Refused.is) ∙ c.pack_part.ensures)
+pub returns-in_err-part : goal.returns-in_err-part
+returns-in_err-part c =
+    handed _ _ c.from_residual.ensures.1
+    ∙ count_no _ _ _ _ _ _ c.loop-at.invariant c.loop-at-test.true c.if-most-count.false _ c.part_group-group.ensures.1 c.in_err-part.ensures
 
 pub group_at-g-requires : goal.group_at-g-requires
 group_at-g-requires c =
@@ -62,7 +61,7 @@ loop-at-preserved c =
     counted _ _ _ _ _ _ c.loop-at.invariant
     c.loop-at-test.true c.if-most-count.false _
     c.part_group-group.ensures.1 c.group_at-g.ensures
-    (sym (ap packed_as c.in-Number.is) ∙ c.pack_part.ensures)
+    c.in_ok-part.ensures
 
 -- no value is left
 pub returns : goal.returns

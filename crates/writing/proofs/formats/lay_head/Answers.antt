@@ -10,28 +10,27 @@ count_octet-requires c =
 
 pub bounds-out-start : goal.bounds-out-start
 bounds-out-start c =
-    list_room _ _ c.layout_at-l.ensures c.if-l-eq-REPEATED.true c.requires.count_in_bounds
+    list_room _ _ c.layout_at-l.ensures c.in-Repeated.is c.requires.count_in_bounds
 
 -- a list
-pub returns-then-l-eq-REPEATED : goal.returns-then-l-eq-REPEATED
-returns-then-l-eq-REPEATED c =
-    list_laid _ _ c.layout_at-l.ensures _ _ c.if-l-eq-REPEATED.true c.count_octet.ensures
+pub returns-in-Repeated : goal.returns-in-Repeated
+returns-in-Repeated c =
+    list_laid _ _ c.layout_at-l.ensures _ _ c.in-Repeated.is c.count_octet.ensures
 
-pub count_octet-requires-then-l-eq-LED : goal.count_octet-requires-then-l-eq-LED
-count_octet-requires-then-l-eq-LED c =
-    omega (arith, c.requires.layout_lt_layout_count.1, (head_led _ 0 c.layout_at-l.ensures c.if-l-eq-REPEATED.false c.if-l-eq-LED.true).1)
+pub count_octet-requires-in-Led : goal.count_octet-requires-in-Led
+count_octet-requires-in-Led c =
+    omega (arith, c.requires.layout_lt_layout_count.1, (head_led _ 0 c.layout_at-l.ensures c.in-Led.is).1)
 
-pub bounds-out-start-then-l-eq-LED : goal.bounds-out-start-then-l-eq-LED
-bounds-out-start-then-l-eq-LED c =
-    led_room _ _ c.layout_at-l.ensures c.if-l-eq-REPEATED.false c.if-l-eq-LED.true
-    c.requires.count_in_bounds
+pub bounds-out-start-in-Led : goal.bounds-out-start-in-Led
+bounds-out-start-in-Led c =
+    led_room _ _ c.layout_at-l.ensures c.in-Led.is c.requires.count_in_bounds
 
 -- a led item
-pub returns-then-l-eq-LED : goal.returns-then-l-eq-LED
-returns-then-l-eq-LED c =
-    led_laid _ _ c.layout_at-l.ensures _ _ c.if-l-eq-REPEATED.false c.if-l-eq-LED.true c.count_octet-then-l-eq-LED.ensures
+pub returns-in-Led : goal.returns-in-Led
+returns-in-Led c =
+    led_laid _ _ c.layout_at-l.ensures _ _ c.in-Led.is c.count_octet-in-Led.ensures
 
 -- neither
-pub returns-else-l-eq-LED : goal.returns-else-l-eq-LED
-returns-else-l-eq-LED c =
-    none_laid _ _ c.layout_at-l.ensures _ _ c.if-l-eq-REPEATED.false c.if-l-eq-LED.false
+pub returns-in_default : goal.returns-in_default
+returns-in_default c =
+    none_laid _ _ c.layout_at-l.ensures _ _ c.in_default.not-Repeated c.in_default.not-Led

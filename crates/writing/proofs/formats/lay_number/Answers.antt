@@ -1,20 +1,11 @@
--- `writing::formats::lay_number` meets its contract. The loop's invariant: the octets that are left, laid at the place where the next one goes, make the
--- output that is to be (`Laying`). The measure is how many octets are left. Assumes nothing.
-use Rattle.writing.proofs.PartLaws.{laying, laid, all_laid}
+-- `writing::formats::lay_number` meets its contract: the last of its eight octets (`PartLaws`). Assumes nothing.
+use Prim.Native.Nat.{◌-◌}
+use mathlib.Core.Path.{ap, ◌∙◌}
+use lib.ListN.{take, drop}
+use Rattle.writing.proofs.PartLaws.{copied}
 use Rattle.writing.proofs.formats.lay_number.Goals as goal
-
-pub loop-k-init : goal.loop-k-init
-loop-k-init c =
-    laying _ _ _ _ c.requires.size_bound.1
-
-pub loop-k-preserved : goal.loop-k-preserved
-loop-k-preserved c =
-    laid _ _ _ _ _ _ _ c.loop-k.invariant c.loop-k-test.true
-
-pub shape_of-out : goal.shape_of-out
-shape_of-out c =
-    c.loop-k.invariant.long
 
 pub returns : goal.returns
 returns c =
-    all_laid _ _ _ _ _ _ _ c.loop-k.invariant c.loop-k-test.false
+    copied c.args.n c.args.size c.args.at c.args.out.now _ c.requires.size_bound.0 c.requires.size_bound.1 c.requires.size_in_bounds
+    (c.copy_from_slice.ensures.after ∙ ap (λ x. take (8 - (8 - c.args.size)) (drop (8 - c.args.size) x)) c.to_be_bytes-octets.ensures)

@@ -3,8 +3,8 @@
 use Prim.Native.Nat.{◌*◌, ◌^◌, ◌<◌}
 use mathlib.Core.Path.{sym, ap, ◌∙◌, subst}
 use native.Mathlib.Omega.{arith}
-use lib.Dec.{eqb}
-use Rattle.writing.specs.Write.{packed_as}
+use Rattle.writing.specs.Write.{answer_of}
+use Rattle.writing.proofs.Handed.{passes}
 use Rattle.writing.proofs.PartTurns.{placing, group_in_lem, packs, Placed, placed, placed_all}
 use Rattle.writing.proofs.formats.lay_parts.Goals as goal
 use Rattle.writing.proofs.formats.lay_parts.Goals.{After-group_at-g}
@@ -16,19 +16,19 @@ placed_at : (c : After-group_at-g)
     c.args.count
     c.args.start
     c.args.out.now
-    (eqb c.layout_at-l.result.kind 4)
+    c.is_chained-chained.result
     c.loop-part.out
     c.loop-part.part c.loop-part.from
-    c.loop-part.at c.in-Number.number c.in-Number.next
+    c.loop-part.at c.unwrap-packed.result.number c.unwrap-packed.result.next
     c.group_at-g.result.octets
 placed_at c =
     placed _ _ _ _ _ _ _ _ _ _ c.loop-part.invariant c.loop-part-test.true _
     c.part_group-group.ensures.1 c.group_at-g.ensures
-    (sym (ap packed_as c.in-Number.is) ∙ c.pack_part.ensures)
+    (sym (ap answer_of c.unwrap-packed.ensures) ∙ c.pack_part.ensures)
 
 pub loop-part-init : goal.loop-part-init
 loop-part-init c =
-    placing _ _ _ _ _ _ c.layout_at-l.ensures c.requires.values_value c.requires.values_in_bounds
+    placing _ _ _ _ _ _ c.layout_at-l.ensures c.is_chained-chained.ensures c.requires.values_value c.requires.values_in_bounds
 
 pub part_group-group-requires : goal.part_group-group-requires
 part_group-group-requires c =
@@ -38,16 +38,9 @@ pub pack_part-requires : goal.pack_part-requires
 pack_part-requires c =
     c.part_group-group.ensures.0
 
-pub shape_of-out-in_default : goal.shape_of-out-in_default
-shape_of-out-in_default c =
-    packs _ _ _ _ _ _ _ _ _ _ c.loop-part.invariant c.loop-part-test.true _
-    c.part_group-group.ensures.1 (sym (ap packed_as c.in_default.is) ∙ c.pack_part.ensures)
-
--- every part was packed before: this does not happen
-pub returns-in_default : goal.returns-in_default
-returns-in_default c =
-    packs _ _ _ _ _ _ _ _ _ _ c.loop-part.invariant c.loop-part-test.true _
-    c.part_group-group.ensures.1 (sym (ap packed_as c.in_default.is) ∙ c.pack_part.ensures)
+-- every part was packed before
+pub unwrap-packed-requires : goal.unwrap-packed-requires
+unwrap-packed-requires c = passes _ _ c.pack_part.ensures (λ n p. packs _ _ _ _ _ _ _ _ _ _ c.loop-part.invariant c.loop-part-test.true _ c.part_group-group.ensures.1)
 
 pub group_at-g-requires : goal.group_at-g-requires
 group_at-g-requires c =
@@ -69,10 +62,6 @@ lay_number-requires c =
 pub overflow_add-at : goal.overflow_add-at
 overflow_add-at c =
     omega (arith, (placed_at (goal.at.overflow_add-at c).After-group_at-g).fit, c.loop-part.invariant.long, c.well_formed)
-
-pub loop-part-smaller : goal.loop-part-smaller
-loop-part-smaller c =
-    omega (arith, c.loop-part-test.true)
 
 pub loop-part-preserved : goal.loop-part-preserved
 loop-part-preserved c =

@@ -1,22 +1,10 @@
--- `writing::write::front_of` meets its contract. The loop's invariant: all numbers from place n on say that something is absent (`Trimming`). The measure
--- is n. Assumes nothing.
-use Prim.Native.Nat.{◌-◌}
-use mathlib.Core.Path.{sym, ◌∙◌}
-use lib.IntN.{pos}
-use lib.ListN.{get_or}
-use Rattle.writing.proofs.AbsentLaws.{absent_again, trimming, trimmed, trim_end, trim_none}
+-- `writing::write::front_of` meets its contract: the last value is found from the end (`AbsentLaws`). Assumes nothing.
+use Rattle.std.proofs.Common.{rules}
+use Rattle.writing.proofs.AbsentLaws.{front_last, front_none}
 use Rattle.writing.proofs.write.front_of.Goals as goal
 
-pub loop-n-init : goal.loop-n-init
-loop-n-init c = trimming _
+pub returns-in-Some : goal.returns-in-Some
+returns-in-Some c = front_last c.args.fields.now c.in-Some.last (search rules) (search rules) (search rules)
 
-pub loop-n-preserved : goal.loop-n-preserved
-loop-n-preserved c = trimmed _ _ c.loop-n.invariant c.loop-n-test.true (sym (absent_again (get_or c.args.fields.now (c.loop-n.n - 1) (pos 0)) (record { sfits = c.is_absent-arg-1.given }) c.is_absent.ensures) ∙ c.if-is_absent.true)
-
--- a value
-pub returns-in-loop-n : goal.returns-in-loop-n
-returns-in-loop-n c = trim_end _ _ c.loop-n.invariant (sym (absent_again (get_or c.args.fields.now (c.loop-n.n - 1) (pos 0)) (record { sfits = c.is_absent-arg-1.given }) c.is_absent.ensures) ∙ c.if-is_absent.false)
-
--- no value
-pub returns : goal.returns
-returns c = trim_none _ _ c.loop-n.invariant c.loop-n-test.false
+pub returns-in-None : goal.returns-in-None
+returns-in-None c = front_none c.args.fields.now (search rules)

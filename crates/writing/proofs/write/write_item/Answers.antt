@@ -1,25 +1,60 @@
 -- `writing::write::write_item` meets its contract: the layout of the reference is written, compound or not (`ItemLaws`). Assumes nothing.
-use mathlib.Core.Path.{sym, ap, ◌∙◌}
+use Prim.Native.Nat.{◌<◌}
+use mathlib.Core.Path.{◌≡◌, sym, ap, ◌∙◌}
+use Rattle.rules.specs.Answer.{refused, expect◌or◌}
+use Rattle.rules.specs.Catalogue.{categories}
+use Rattle.rules.specs.Entry.{layout_of}
+use Rattle.rules.specs.Told.{number_of}
+use Rattle.tables.specs.Tables.{layout_count, layout_is, layout_at}
+use Rattle.items.proofs.Tellings.{begun, missing}
+use denote.Enum.Bare.{same_true, same_false}
+use Rattle.tables.specs.contracts.tables.Kind.{the_type}
 use Rattle.writing.proofs.ItemLaws.{no_layout, one_layout, has_format}
 use Rattle.writing.proofs.write.write_item.Goals as goal
+use Rattle.writing.proofs.write.write_item.Goals.{In_ok-layout}
 
 -- 21: no such item
-pub returns-then-layout-eq0 : goal.returns-then-layout-eq0
-returns-then-layout-eq0 c = let told = no_layout _ _ _ _ _ c.layout_of-layout.ensures c.if-layout-eq0.true in
-    record { answer = told.0; left = told.1 }
+pub returns-in_err-layout : goal.returns-in_err-layout
+returns-in_err-layout c = let told = no_layout _ _ c.args.fields.now c.args.out.now (rw c.in_err-layout.ensures.ok_part at c.layout_of.ensures.layout) in
+    record { answer = begun _ _ c.from_residual.ensures.1 ∙ ap (λ f. refused (number_of f) 0) (missing _ _ _ c.in_err-layout.ensures.value) ∙ told.0; left = told.1 }
+
+-- the layout that was found
+inside_lem : (c : In_ok-layout) → (0 < c.in_ok-layout.layout) × (c.in_ok-layout.layout < layout_count)
+inside_lem c = rw c.in_ok-layout.ensures.ok_part at c.layout_of.ensures.inside
+
+layout_lem : (c : In_ok-layout) → (expect layout_is (layout_at c.in_ok-layout.layout) or 21) ≡ layout_of categories c.args.category c.args.reference
+layout_lem c = rw c.in_ok-layout.ensures.ok_part at c.layout_of.ensures.layout
 
 pub write_compound-requires : goal.write_compound-requires
-write_compound-requires c = (c.layout_of-layout.ensures.0, sym (ap (λ x. x.kind) c.layout_at-l.ensures) ∙ c.if-l-eq-COMPOUND.true)
+write_compound-requires c = ((inside_lem (goal.at.write_compound-requires c).In_ok-layout).1, sym (ap (λ x. x.kind) c.layout_at-l.ensures) ∙ same_true the_type tt _ _ (sym c.eq.ensures ∙ c.if-eq.true))
 
 -- a compound item
-pub returns-then-l-eq-COMPOUND : goal.returns-then-l-eq-COMPOUND
-returns-then-l-eq-COMPOUND c = let told = one_layout _ _ _ _ c.args.out.now c.layout_of-layout.ensures (c.write_compound.ensures.answer, c.write_compound.ensures.left) in
+pub returns-in_err-write_compound : goal.returns-in_err-write_compound
+returns-in_err-write_compound c =
+    let e = c.in_err-write_compound.ensures in
+    let told = one_layout _ _ _ _ c.args.out.now (layout_lem (goal.at.returns-in_err-write_compound c).In_ok-layout) (e.answer, e.left) in
+    record { answer = begun _ _ c.from_residual-in_err-write_compound.ensures.1 ∙ told.0; left = told.1 }
+
+pub returns-then-eq : goal.returns-then-eq
+returns-then-eq c =
+    let e = c.in_ok-write_compound.ensures in
+    let told = one_layout _ _ _ _ c.args.out.now (layout_lem (goal.at.returns-then-eq c).In_ok-layout) (e.answer, e.left) in
     record { answer = told.0; left = told.1 }
 
 pub write_plain-requires : goal.write_plain-requires
-write_plain-requires c = (c.layout_of-layout.ensures.0, has_format _ c.layout_of-layout.ensures.0 c.if-layout-eq0.false c.layout_at-l.ensures c.if-l-eq-COMPOUND.false)
+write_plain-requires c =
+    let k = inside_lem (goal.at.write_plain-requires c).In_ok-layout in
+    (k.1, has_format _ k.1 k.0 c.layout_at-l.ensures (same_false the_type _ _ (sym c.eq.ensures ∙ c.if-eq.false)))
 
 -- any other
+pub returns-in_err-write_plain : goal.returns-in_err-write_plain
+returns-in_err-write_plain c =
+    let e = c.in_err-write_plain.ensures in
+    let told = one_layout _ _ _ _ c.args.out.now (layout_lem (goal.at.returns-in_err-write_plain c).In_ok-layout) (e.answer, e.left) in
+    record { answer = begun _ _ c.from_residual-in_err-write_plain.ensures.1 ∙ told.0; left = told.1 }
+
 pub returns : goal.returns
-returns c = let told = one_layout _ _ _ _ c.args.out.now c.layout_of-layout.ensures (c.write_plain.ensures.answer, c.write_plain.ensures.left) in
+returns c =
+    let e = c.in_ok-write_plain.ensures in
+    let told = one_layout _ _ _ _ c.args.out.now (layout_lem (goal.at.returns c).In_ok-layout) (e.answer, e.left) in
     record { answer = told.0; left = told.1 }
