@@ -108,20 +108,20 @@ module _ (i : ℕ) (vs : List ℤ) (at : ℕ) where
 
     pub absent_laid : {n : ℕ} (start : ℕ) (out : List ℕ) → ok (spanned false n n 0) ≡ span_from (format_is (layout_at i)) vs at
         → (out ≡ sets out start (place_of (place_from i vs at)).octets)
-        × ((false ≡ (place_of (place_from i vs at)).there) × ((n ≡ (place_of (place_from i vs at)).next) × (start ≡ start + length (place_of (place_from i vs at)).octets)))
+        × ((false ≡ (place_of (place_from i vs at)).there) × ((n ≡ (place_of (place_from i vs at)).next) × (0 ≡ length (place_of (place_from i vs at)).octets)))
     absent_laid start out h =
         let d = absent_of h in
         let z : (place_of (place_from i vs at)).octets ≡ [] = ap (λ x. x.octets) d in
-        (sym (ap (sets out start) z), (sym (ap (λ x. x.there) d), (sym (ap (λ x. x.next) d), omega (arith, ap length z))))
+        (sym (ap (sets out start) z), (sym (ap (λ x. x.there) d), (sym (ap (λ x. x.next) d), sym (ap length z))))
 
     pub there_laid : {a e c end : ℕ} (start : ℕ) (out : List ℕ) {out' : List ℕ} → kind_digit (layout_at i).kind ≤ 2 → ok (spanned true a e c) ≡ span_from (format_is (layout_at i)) vs at
         → out' ≡ sets out start (octets_at i (take (e - a) (drop a vs))) → end ≡ start + length (octets_at i (take (e - a) (drop a vs)))
         → (out' ≡ sets out start (place_of (place_from i vs at)).octets)
-        × ((true ≡ (place_of (place_from i vs at)).there) × ((e ≡ (place_of (place_from i vs at)).next) × (end ≡ start + length (place_of (place_from i vs at)).octets)))
+        × ((true ≡ (place_of (place_from i vs at)).there) × ((e ≡ (place_of (place_from i vs at)).next) × (end - start ≡ length (place_of (place_from i vs at)).octets)))
     there_laid start out few h d₁ d₂ =
         let d = (lays few h).is in
         let z = ap (λ x. x.octets) d in
-        (d₁ ∙ ap (sets out start) (sym z), (sym (ap (λ x. x.there) d), (sym (ap (λ x. x.next) d), d₂ ∙ ap (λ m. start + length m) (sym z))))
+        (d₁ ∙ ap (sets out start) (sym z), (sym (ap (λ x. x.there) d), (sym (ap (λ x. x.next) d), omega (arith, ap length z))))
 
     pub there_fits : {a e c : ℕ} (start : ℕ) (out : List ℕ) → kind_digit (layout_at i).kind ≤ 2 → ok (spanned true a e c) ≡ span_from (format_is (layout_at i)) vs at
         → start + length (place_of (place_from i vs at)).octets ≤ length out → start + length (octets_at i (take (e - a) (drop a vs))) ≤ length out

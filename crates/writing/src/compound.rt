@@ -1,5 +1,8 @@
 // A compound item: primary octets with a bit for each subfield, and the subfields that are there, each by the row of its own layout. One walk over the
 // bits checks and counts, a second one lays.
+//
+// `values, at` and `out, start` stay apart: places count from the start of the whole list and of the output, as in specs/, and each call moves one of them
+// alone, so a struct of two would be made anew at each call.
 ghost use Rattle.std.specs.Prelude.{◌≡◌, cond, ◌+◌, ◌<◌, ◌≤◌, eqb, length};
 ghost use Rattle.std.proofs.lemmas.List.Edits.{sets};
 ghost use Rattle.rules.specs.Answer.{ok};
@@ -114,34 +117,29 @@ fn size_place(layout: usize, values: &[i64], at: usize) -> Result<PlaceSize, Fau
     }
 }
 
-// A subfield that was laid: whether it is there; the place of the next number, and the place in the output after it.
-#[derive(Drop)]
-pub struct PlaceLaid {
-    pub there: bool,
-    pub next: usize,
-    pub end: usize,
-}
-
 // Its octets, at a place of the output.
-fn lay_place(layout: usize, values: &[i64], at: usize, out: &mut [u8], start: usize) -> PlaceLaid
+fn lay_place(layout: usize, values: &[i64], at: usize, out: &mut [u8], start: usize) -> PlaceSize
     requires layout_lt_layout_count { (layout < layout_count) × ((kind_digit (layout_at layout).kind ≤ 2) × (place_from layout values.now at ≡ ok (place_of (place_from layout values.now at)))) }
     requires at_in_bounds { start + length (place_of (place_from layout values.now at)).octets ≤ length out.old }
     ensures laid { out.new ≡ sets out.old start (place_of (place_from layout values.now at)).octets }
     ensures told { (result.there ≡ (place_of (place_from layout values.now at)).there)
-        × ((result.next ≡ (place_of (place_from layout values.now at)).next) × (result.end ≡ start + length (place_of (place_from layout values.now at)).octets)) }
+        × ((result.next ≡ (place_of (place_from layout values.now at)).next) × (result.size ≡ length (place_of (place_from layout values.now at)).octets)) }
 {
     let span = span_of(layout, values, at).unwrap();
     match span {
-        Span::Absent { next } => PlaceLaid {
+        Span::Absent { next } => PlaceSize {
             there: false,
+            size: 0,
             next,
-            end: start,
         },
-        Span::Values { first, end, count } => PlaceLaid {
-            there: true,
-            next: end,
-            end: lay(layout, &values[first..end], count, out, start),
-        },
+        Span::Values { first, end, count } => {
+            let after = lay(layout, &values[first..end], count, out, start);
+            PlaceSize {
+                there: true,
+                size: after - start,
+                next: end,
+            }
+        }
     }
 }
 
@@ -177,21 +175,13 @@ fn size_row(first: usize, values: &[i64], at: usize) -> Result<RowSize, Fault>
     })
 }
 
-// The subfields of a primary octet that were laid: its bits, FX apart; the place of the next number, and the place in the output after them.
-#[derive(Drop)]
-pub struct RowLaid {
-    pub bits: u64,
-    pub next: usize,
-    pub end: usize,
-}
-
 // Their octets, at a place of the output.
-fn lay_row(first: usize, values: &[i64], at: usize, out: &mut [u8], start: usize) -> RowLaid
+fn lay_row(first: usize, values: &[i64], at: usize, out: &mut [u8], start: usize) -> RowSize
     requires first_bound { (first + 7 ≤ subfield_count) × (row_from 7 first values.now at ≡ ok (row_of (row_from 7 first values.now at))) }
     requires at_in_bounds { start + length (row_of (row_from 7 first values.now at)).octets ≤ length out.old }
     ensures laid { out.new ≡ sets out.old start (row_of (row_from 7 first values.now at)).octets }
     ensures told { (result.bits ≡ number (row_of (row_from 7 first values.now at)).flags)
-        × ((result.next ≡ (row_of (row_from 7 first values.now at)).next) × (result.end ≡ start + length (row_of (row_from 7 first values.now at)).octets)) }
+        × ((result.next ≡ (row_of (row_from 7 first values.now at)).next) × (result.size ≡ length (row_of (row_from 7 first values.now at)).octets)) }
 {
     let end = first + 7;
     let mut bits: u64 = 0;
@@ -201,12 +191,12 @@ fn lay_row(first: usize, values: &[i64], at: usize, out: &mut [u8], start: usize
         let x = lay_place(subfield_at(i), values, k, out, q);
         bits = mark(true, x.there, bits);
         k = x.next;
-        q = x.end;
+        q += x.size;
     }
-    RowLaid {
+    RowSize {
         bits,
+        size: q - start,
         next: k,
-        end: q,
     }
 }
 
@@ -262,6 +252,6 @@ pub fn lay_rows(layout: usize, values: &[i64], count: usize, out: &mut [u8])
         let x = lay_row(7 * (first + row), values, at, out, q);
         lay_number(mark(true, row + 1 < count, x.bits), 1, out, row);
         at = x.next;
-        q = x.end;
+        q += x.size;
     }
 }

@@ -28,9 +28,9 @@ slice_bounds-lay-start c = (span_inside _ _ _ c.requires.layout_lt_layout_count.
 pub slice_bounds-lay-end : goal.slice_bounds-lay-end
 slice_bounds-lay-end c = (span_inside _ _ _ c.requires.layout_lt_layout_count.1.0 (spanned_at (goal.at.slice_bounds-lay-end c).In-Values)).1
 
-pub lay-requires : goal.lay-requires
-lay-requires c =
-    record { layout_lt_layout_count = (c.requires.layout_lt_layout_count.0, (lays _ _ _ c.requires.layout_lt_layout_count.1.1 c.requires.layout_lt_layout_count.1.0 (spanned_at (goal.at.lay-requires c).In-Values)).sizes); values_in_bounds = there_fits _ _ _ c.requires.layout_lt_layout_count.1.1 _ c.args.out.now c.requires.layout_lt_layout_count.1.0 (spanned_at (goal.at.lay-requires c).In-Values) c.requires.at_in_bounds }
+pub lay-after-requires : goal.lay-after-requires
+lay-after-requires c =
+    record { layout_lt_layout_count = (c.requires.layout_lt_layout_count.0, (lays _ _ _ c.requires.layout_lt_layout_count.1.1 c.requires.layout_lt_layout_count.1.0 (spanned_at (goal.at.lay-after-requires c).In-Values)).sizes); values_in_bounds = there_fits _ _ _ c.requires.layout_lt_layout_count.1.1 _ c.args.out.now c.requires.layout_lt_layout_count.1.0 (spanned_at (goal.at.lay-after-requires c).In-Values) c.requires.at_in_bounds }
 
 -- the rule passes
 pub unwrap-span-requires : goal.unwrap-span-requires
@@ -44,5 +44,5 @@ returns-in-Absent c = let told = absent_laid _ _ _ c.requires.layout_lt_layout_c
 -- there
 pub returns-in-Values : goal.returns-in-Values
 returns-in-Values c =
-    let told = there_laid _ _ _ c.requires.layout_lt_layout_count.1.1 _ _ c.requires.layout_lt_layout_count.1.0 (spanned_at (goal.at.returns-in-Values c).In-Values) c.lay.ensures.0 c.lay.ensures.1 in
+    let told = there_laid _ _ _ c.requires.layout_lt_layout_count.1.1 _ _ c.requires.layout_lt_layout_count.1.0 (spanned_at (goal.at.returns-in-Values c).In-Values) c.lay-after.ensures.0 c.lay-after.ensures.1 in
     record { laid = told.0; told = told.1 }

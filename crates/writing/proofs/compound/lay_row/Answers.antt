@@ -1,5 +1,7 @@
 -- `writing::compound::lay_row` meets its contract. The loop's invariant: the subfields that are left, laid where the next one goes, make the output that is
 -- to be (`Stepping`). The measure is how many bits are left. Assumes nothing.
+use Prim.Native.Nat.{◌+◌}
+use mathlib.Core.Path.{ap}
 use native.Mathlib.Omega.{arith}
 use Rattle.writing.proofs.BitTurns.{sub_many, kind_few, stepping, step_all, step_in, step_fits, step}
 use Rattle.writing.proofs.compound.lay_row.Goals as goal
@@ -21,14 +23,23 @@ lay_place-x-requires c =
 pub mark-bits-requires : goal.mark-bits-requires
 mark-bits-requires c = step_fits _ _ _ _ _ _ _ _ _ _ _ c.loop-i.invariant c.loop-i-test.true c.lay_place-x.result.there
 
+pub overflow_add-q : goal.overflow_add-q
+overflow_add-q c =
+    let t = step _ _ _ _ _ _ _ _ _ _ _ c.loop-i.invariant c.loop-i-test.true c.subfield_at.ensures.0 in
+    omega (arith, t.fit, c.lay_place-x.ensures.told.1.1, c.loop-i.invariant.long, c.well_formed)
+
 pub loop-i-preserved : goal.loop-i-preserved
 loop-i-preserved c =
-    (step _ _ _ _ _ _ _ _ _ _ _ c.loop-i.invariant c.loop-i-test.true c.subfield_at.ensures.0).next c.lay_place-x.ensures.laid c.lay_place-x.ensures.told c.mark-bits.ensures
+    let told = c.lay_place-x.ensures.told in
+    (step _ _ _ _ _ _ _ _ _ _ _ c.loop-i.invariant c.loop-i-test.true c.subfield_at.ensures.0).next c.lay_place-x.ensures.laid (told.0, (told.1.0, ap (λ s. c.loop-i.q + s) told.1.1)) c.mark-bits.ensures
 
 pub shape_of-out : goal.shape_of-out
 shape_of-out c = c.loop-i.invariant.long
 
+pub overflow_sub-result : goal.overflow_sub-result
+overflow_sub-result c = omega (arith, (step_all _ _ _ _ _ _ _ _ _ _ _ c.loop-i.invariant c.loop-i-test.false).1.1.1)
+
 -- all bits are laid
 pub returns : goal.returns
 returns c = let told = step_all _ _ _ _ _ _ _ _ _ _ _ c.loop-i.invariant c.loop-i-test.false in
-    record { laid = told.0; told = told.1 }
+    record { laid = told.0; told = (told.1.0, (told.1.1.0, omega (arith, told.1.1.1))) }
