@@ -8,15 +8,16 @@ ghost use Rattle.std.proofs.lemmas.List.Edits.{sets};
 ghost use Rattle.rules.specs.Answer.{ok};
 ghost use Rattle.rules.specs.Presence.{number};
 ghost use Rattle.tables.specs.declared.tables.Kind.TheVariants.{Compound};
-ghost use Rattle.tables.specs.Tables.{kind_digit, layout_count, subfield_count, layout_at, format_is};
+ghost use Rattle.tables.specs.Tables.{kind_digit, subfield_count, layout_at, format_is};
 ghost use Rattle.writing.specs.Write.{parts, answer_of};
 ghost use Rattle.writing.specs.Compound.{span_to, span_from, place_from, row_from, compound_octets, span_as, place_size, row_size, rows_size, place_of, row_of};
 
 use super::formats::{Counted, lay, lay_number, mark, size_of};
+use super::rows::Layout;
 use super::write::is_absent;
 use numbers::magnitude;
 use rules::Fault;
-use tables::{Kind, group_at, layout_at, subfield_at};
+use tables::{Kind, group_at};
 
 // ---- one bit
 
@@ -53,11 +54,11 @@ fn span_to(have: usize, first: usize, count: usize, values: usize) -> Result<Spa
 
 // The values of a subfield from a place on, by its layout: a fixed one has so many, a list says how many parts it has. There may be too few numbers, or one
 // may be no count.
-fn span_of(layout: usize, values: &[i64], at: usize) -> Result<Span, Fault>
-    requires { (layout < layout_count) × (kind_digit (layout_at layout).kind ≤ 2) }
-    ensures { span_as result ≡ span_from (format_is (layout_at layout)) values.now at }
+fn span_of(layout: Layout, values: &[i64], at: usize) -> Result<Span, Fault>
+    requires { kind_digit (layout_at layout.place).kind ≤ 2 }
+    ensures { span_as result ≡ span_from (format_is (layout_at layout.place)) values.now at }
 {
-    let l = layout_at(layout);
+    let l = layout.row();
     if l.kind == Kind::NoItem {
         return Ok(Span::Absent { next: at });
     }
@@ -91,9 +92,9 @@ pub struct PlaceSize {
 }
 
 // The subfield of a bit, by its layout, from a place of the numbers on.
-fn size_place(layout: usize, values: &[i64], at: usize) -> Result<PlaceSize, Fault>
-    requires { (layout < layout_count) × (kind_digit (layout_at layout).kind ≤ 2) }
-    ensures { answer_of result ≡ place_size layout values.now at }
+fn size_place(layout: Layout, values: &[i64], at: usize) -> Result<PlaceSize, Fault>
+    requires { kind_digit (layout_at layout.place).kind ≤ 2 }
+    ensures { answer_of result ≡ place_size layout.place values.now at }
 {
     let span = span_of(layout, values, at)?;
     match span {
@@ -118,12 +119,12 @@ fn size_place(layout: usize, values: &[i64], at: usize) -> Result<PlaceSize, Fau
 }
 
 // Its octets, at a place of the output.
-fn lay_place(layout: usize, values: &[i64], at: usize, out: &mut [u8], start: usize) -> PlaceSize
-    requires layout_lt_layout_count { (layout < layout_count) × ((kind_digit (layout_at layout).kind ≤ 2) × (place_from layout values.now at ≡ ok (place_of (place_from layout values.now at)))) }
-    requires at_in_bounds { start + length (place_of (place_from layout values.now at)).octets ≤ length out.old }
-    ensures laid { out.new ≡ sets out.old start (place_of (place_from layout values.now at)).octets }
-    ensures told { (result.there ≡ (place_of (place_from layout values.now at)).there)
-        × ((result.next ≡ (place_of (place_from layout values.now at)).next) × (result.size ≡ length (place_of (place_from layout values.now at)).octets)) }
+fn lay_place(layout: Layout, values: &[i64], at: usize, out: &mut [u8], start: usize) -> PlaceSize
+    requires passes { (kind_digit (layout_at layout.place).kind ≤ 2) × (place_from layout.place values.now at ≡ ok (place_of (place_from layout.place values.now at))) }
+    requires at_in_bounds { start + length (place_of (place_from layout.place values.now at)).octets ≤ length out.old }
+    ensures laid { out.new ≡ sets out.old start (place_of (place_from layout.place values.now at)).octets }
+    ensures told { (result.there ≡ (place_of (place_from layout.place values.now at)).there)
+        × ((result.next ≡ (place_of (place_from layout.place values.now at)).next) × (result.size ≡ length (place_of (place_from layout.place values.now at)).octets)) }
 {
     let span = span_of(layout, values, at).unwrap();
     match span {
@@ -163,7 +164,7 @@ fn size_row(first: usize, values: &[i64], at: usize) -> Result<RowSize, Fault>
     let mut size: usize = 0;
     let mut k = at;
     for i in first..end {
-        let place = size_place(subfield_at(i), values, k)?;
+        let place = size_place(Layout::of_bit(i), values, k)?;
         bits = mark(true, place.there, bits);
         size += place.size;
         k = place.next;
@@ -188,7 +189,7 @@ fn lay_row(first: usize, values: &[i64], at: usize, out: &mut [u8], start: usize
     let mut k = at;
     let mut q = start;
     for i in first..end {
-        let x = lay_place(subfield_at(i), values, k, out, q);
+        let x = lay_place(Layout::of_bit(i), values, k, out, q);
         bits = mark(true, x.there, bits);
         k = x.next;
         q += x.size;
@@ -210,11 +211,11 @@ fn rows_to(bits: u64, row: usize, before: usize) -> usize
 }
 
 // How many primary octets a list of numbers makes, and how many octets with the subfields, by the layout at a place of the table.
-pub fn size_rows(layout: usize, values: &[i64]) -> Result<Counted, Fault>
-    requires { (layout < layout_count) × ((layout_at layout).kind ≡ Compound) }
-    ensures { answer_of result ≡ rows_size layout values.now }
+pub fn size_rows(layout: Layout, values: &[i64]) -> Result<Counted, Fault>
+    requires { (layout_at layout.place).kind ≡ Compound }
+    ensures { answer_of result ≡ rows_size layout.place values.now }
 {
-    let l = layout_at(layout);
+    let l = layout.row();
     let rows = l.end - l.first;
     let first = l.first;
     let mut count: usize = 0;
@@ -239,12 +240,12 @@ pub fn size_rows(layout: usize, values: &[i64]) -> Result<Counted, Fault>
 }
 
 // Their octets, at the start of the output: so many primary octets, and the subfields after them.
-pub fn lay_rows(layout: usize, values: &[i64], count: usize, out: &mut [u8])
-    requires layout_lt_layout_count { (layout < layout_count) × (((layout_at layout).kind ≡ Compound) × (rows_size layout values.now ≡ ok (parts count (length (compound_octets layout values.now))))) }
-    requires values_in_bounds { length (compound_octets layout values.now) ≤ length out.old }
-    ensures { out.new ≡ sets out.old 0 (compound_octets layout values.now) }
+pub fn lay_rows(layout: Layout, values: &[i64], count: usize, out: &mut [u8])
+    requires passes { ((layout_at layout.place).kind ≡ Compound) × (rows_size layout.place values.now ≡ ok (parts count (length (compound_octets layout.place values.now)))) }
+    requires values_in_bounds { length (compound_octets layout.place values.now) ≤ length out.old }
+    ensures { out.new ≡ sets out.old 0 (compound_octets layout.place values.now) }
 {
-    let l = layout_at(layout);
+    let l = layout.row();
     let first = l.first;
     let mut at: usize = 0;
     let mut q = count;

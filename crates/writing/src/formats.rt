@@ -5,12 +5,13 @@ ghost use Rattle.std.proofs.lemmas.List.Edits.{sets};
 ghost use Rattle.rules.specs.Answer.{ok, octets_of};
 ghost use Rattle.rules.specs.Chain.{octets};
 ghost use Rattle.tables.specs.declared.tables.Kind.TheVariants.{Extended};
-ghost use Rattle.tables.specs.Tables.{same_kind, field_count, group_count, layout_count};
+ghost use Rattle.tables.specs.Tables.{same_kind, field_count, group_count};
 ghost use Rattle.writing.specs.Write.{field_in, group_in, no_group, parts_at, chained_at, code_for, pack_from, count_parts, parts, lay_parts, head_at, marked, size_at, octets_at, answer_of};
 
+use super::rows::Layout;
 use numbers::magnitude;
 use rules::Fault;
-use tables::{Holds, Kind, LayoutRow, field_at, group_at, layout_at};
+use tables::{Holds, Kind, LayoutRow, field_at, group_at};
 
 // ---- one value
 
@@ -101,11 +102,11 @@ pub fn is_chained(l: LayoutRow) -> bool
 }
 
 // The group of a part, counted from 0, of the layout at a place of the table.
-fn part_group(layout: usize, part: usize) -> usize
-    requires { (layout < layout_count) × (part < length (parts_at layout)) }
-    ensures { (result < group_count) × (group_in result ≡ get_or (parts_at layout) part no_group) }
+fn part_group(layout: Layout, part: usize) -> usize
+    requires { part < length (parts_at layout.place) }
+    ensures { (result < group_count) × (group_in result ≡ get_or (parts_at layout.place) part no_group) }
 {
-    let l = layout_at(layout);
+    let l = layout.row();
     if is_chained(l) {
         return l.first + part;
     }
@@ -120,11 +121,10 @@ pub struct Counted {
 }
 
 // The parts that a list of values makes, by the layout at a place of the table.
-fn count_parts(layout: usize, values: &[i64]) -> Result<Counted, Fault>
-    requires { layout < layout_count }
-    ensures { answer_of result ≡ count_parts (chained_at layout) (parts_at layout) values.now }
+fn count_parts(layout: Layout, values: &[i64]) -> Result<Counted, Fault>
+    ensures { answer_of result ≡ count_parts (chained_at layout.place) (parts_at layout.place) values.now }
 {
-    let l = layout_at(layout);
+    let l = layout.row();
     let most = l.most;
     let mut count: usize = 0;
     let mut size: usize = 0;
@@ -145,14 +145,13 @@ fn count_parts(layout: usize, values: &[i64]) -> Result<Counted, Fault>
 }
 
 // The octets of the parts, at a place of the output, and the place after them.
-fn lay_parts(layout: usize, values: &[i64], count: usize, out: &mut [u8], start: usize) -> usize
-    requires layout_lt_layout_count { layout < layout_count }
-    requires values_value { count_parts (chained_at layout) (parts_at layout) values.now ≡ ok (parts count (length (octets_of (lay_parts (chained_at layout) (parts_at layout) values.now)))) }
-    requires values_in_bounds { start + length (octets_of (lay_parts (chained_at layout) (parts_at layout) values.now)) ≤ length out.old }
-    ensures { (out.new ≡ sets out.old start (octets_of (lay_parts (chained_at layout) (parts_at layout) values.now)))
-        × (result ≡ start + length (octets_of (lay_parts (chained_at layout) (parts_at layout) values.now))) }
+fn lay_parts(layout: Layout, values: &[i64], count: usize, out: &mut [u8], start: usize) -> usize
+    requires values_value { count_parts (chained_at layout.place) (parts_at layout.place) values.now ≡ ok (parts count (length (octets_of (lay_parts (chained_at layout.place) (parts_at layout.place) values.now)))) }
+    requires values_in_bounds { start + length (octets_of (lay_parts (chained_at layout.place) (parts_at layout.place) values.now)) ≤ length out.old }
+    ensures { (out.new ≡ sets out.old start (octets_of (lay_parts (chained_at layout.place) (parts_at layout.place) values.now)))
+        × (result ≡ start + length (octets_of (lay_parts (chained_at layout.place) (parts_at layout.place) values.now))) }
 {
-    let l = layout_at(layout);
+    let l = layout.row();
     let chained = is_chained(l);
     let mut from: usize = 0;
     let mut at = start;
@@ -175,11 +174,10 @@ fn lay_parts(layout: usize, values: &[i64], count: usize, out: &mut [u8], start:
 // ---- the whole format
 
 // How many octets stand before the parts.
-fn head_size(layout: usize) -> usize
-    requires { layout < layout_count }
-    ensures { (result ≤ 1) × ((k : ℕ) → length (head_at layout k) ≡ result) }
+fn head_size(layout: Layout) -> usize
+    ensures { (result ≤ 1) × ((k : ℕ) → length (head_at layout.place k) ≡ result) }
 {
-    let l = layout_at(layout);
+    let l = layout.row();
     match l.kind {
         Kind::Repeated | Kind::Led => 1,
         _ => 0,
@@ -195,12 +193,12 @@ fn count_octet(parts: usize, own: usize) -> u8
 }
 
 // The count or length octet before so many parts, at a place of the output.
-fn lay_head(layout: usize, count: usize, out: &mut [u8], start: usize)
-    requires layout_lt_layout_count { (layout < layout_count) × (count ≤ length (parts_at layout)) }
-    requires count_in_bounds { start + length (head_at layout count) ≤ length out.old }
-    ensures { out.new ≡ sets out.old start (head_at layout count) }
+fn lay_head(layout: Layout, count: usize, out: &mut [u8], start: usize)
+    requires passes { count ≤ length (parts_at layout.place) }
+    requires count_in_bounds { start + length (head_at layout.place count) ≤ length out.old }
+    ensures { out.new ≡ sets out.old start (head_at layout.place count) }
 {
-    let l = layout_at(layout);
+    let l = layout.row();
     match l.kind {
         Kind::Repeated => out[start] = count_octet(count, 0),
         Kind::Led => out[start] = count_octet(count, 1),
@@ -209,12 +207,11 @@ fn lay_head(layout: usize, count: usize, out: &mut [u8], start: usize)
 }
 
 // The parts that a list of values makes, by the layout at a place of the table, and the octets that they take with what stands before them.
-pub fn size_of(layout: usize, values: &[i64]) -> Result<Counted, Fault>
-    requires { layout < layout_count }
-    ensures { answer_of result ≡ size_at layout values.now }
+pub fn size_of(layout: Layout, values: &[i64]) -> Result<Counted, Fault>
+    ensures { answer_of result ≡ size_at layout.place values.now }
 {
     let Counted { count, size } = count_parts(layout, values)?;
-    let l = layout_at(layout);
+    let l = layout.row();
     if count < l.least {
         return Err(Fault::FieldBarred);
     }
@@ -225,11 +222,11 @@ pub fn size_of(layout: usize, values: &[i64]) -> Result<Counted, Fault>
 }
 
 // Their octets, at a place of the output, and the place after them. The values make so many parts.
-pub fn lay(layout: usize, values: &[i64], count: usize, out: &mut [u8], start: usize) -> usize
-    requires layout_lt_layout_count { (layout < layout_count) × (size_at layout values.now ≡ ok (parts count (length (octets_at layout values.now)))) }
-    requires values_in_bounds { start + length (octets_at layout values.now) ≤ length out.old }
-    ensures { (out.new ≡ sets out.old start (octets_at layout values.now))
-        × (result ≡ start + length (octets_at layout values.now)) }
+pub fn lay(layout: Layout, values: &[i64], count: usize, out: &mut [u8], start: usize) -> usize
+    requires passes { size_at layout.place values.now ≡ ok (parts count (length (octets_at layout.place values.now))) }
+    requires values_in_bounds { start + length (octets_at layout.place values.now) ≤ length out.old }
+    ensures { (out.new ≡ sets out.old start (octets_at layout.place values.now))
+        × (result ≡ start + length (octets_at layout.place values.now)) }
 {
     lay_head(layout, count, out, start);
     lay_parts(layout, values, count, out, start + head_size(layout))

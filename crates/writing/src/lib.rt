@@ -4,6 +4,7 @@
 
 mod compound;
 mod formats;
+mod rows;
 mod write;
 
 pub use write::write_item;

@@ -5,17 +5,18 @@ ghost use Rattle.rules.specs.FieldList.{is_absent};
 ghost use Rattle.rules.specs.Catalogue.{categories};
 ghost use Rattle.rules.specs.Entry.{write_one, leaves};
 ghost use Rattle.tables.specs.declared.tables.Kind.TheVariants.{Compound};
-ghost use Rattle.tables.specs.Tables.{layout_count, layout_at, format_is};
+ghost use Rattle.tables.specs.Tables.{layout_at, format_is};
 ghost use Rattle.items.specs.Answers.{count_of};
 ghost use Rattle.writing.specs.Write.{parts_at, answer_of};
 ghost use Rattle.writing.specs.Item.{Front, FrontAt, told_at, write_at, written_as};
 
 use super::compound::{lay_rows, size_rows};
 use super::formats::{Counted, is_chained, lay, size_of};
+use super::rows::Layout;
 use compounds::ABSENT;
 use items::layout_of;
 use rules::{Fault, Refusal};
-use tables::{Kind, layout_at};
+use tables::Kind;
 
 // ---- what is absent
 
@@ -37,11 +38,10 @@ fn front_of(fields: &[i64]) -> usize
 }
 
 // How many values of a list are those of parts: only the parts of an extended item can be absent.
-fn values_of(layout: usize, fields: &[i64]) -> usize
-    requires { layout < layout_count }
-    ensures { FrontAt layout fields.now result }
+fn values_of(layout: Layout, fields: &[i64]) -> usize
+    ensures { FrontAt layout.place fields.now result }
 {
-    let l = layout_at(layout);
+    let l = layout.row();
     if is_chained(l) {
         return front_of(fields);
     }
@@ -49,11 +49,11 @@ fn values_of(layout: usize, fields: &[i64]) -> usize
 }
 
 // Whether each printed part of an extended item is there, or said to be absent.
-fn are_told(layout: usize, count: usize, absent: usize) -> bool
-    requires { (layout < layout_count) × (count ≤ length (parts_at layout)) }
-    ensures { result ≡ told_at layout count absent }
+fn are_told(layout: Layout, count: usize, absent: usize) -> bool
+    requires { count ≤ length (parts_at layout.place) }
+    ensures { result ≡ told_at layout.place count absent }
 {
-    let l = layout_at(layout);
+    let l = layout.row();
     if is_chained(l) {
         return l.most - count == absent;
     }
@@ -63,10 +63,10 @@ fn are_told(layout: usize, count: usize, absent: usize) -> bool
 // ---- the item
 
 // An item that is not compound, by its layout: how many octets it has, at the start of the output.
-fn write_plain(layout: usize, fields: &[i64], out: &mut [u8]) -> Result<usize, Fault>
-    requires { (layout < layout_count) × (present (format_is (layout_at layout)) ≡ true) }
-    ensures answer { answer_of result ≡ count_of (write_at layout fields.now (length out.old)) }
-    ensures left { out.new ≡ leaves (write_at layout fields.now (length out.old)) out.old }
+fn write_plain(layout: Layout, fields: &[i64], out: &mut [u8]) -> Result<usize, Fault>
+    requires { present (format_is (layout_at layout.place)) ≡ true }
+    ensures answer { answer_of result ≡ count_of (write_at layout.place fields.now (length out.old)) }
+    ensures left { out.new ≡ leaves (write_at layout.place fields.now (length out.old)) out.old }
 {
     let n = values_of(layout, fields);
     let Counted { count, size } = size_of(layout, &fields[0..n])?;
@@ -81,10 +81,10 @@ fn write_plain(layout: usize, fields: &[i64], out: &mut [u8]) -> Result<usize, F
 }
 
 // A compound item, likewise.
-fn write_compound(layout: usize, fields: &[i64], out: &mut [u8]) -> Result<usize, Fault>
-    requires { (layout < layout_count) × ((layout_at layout).kind ≡ Compound) }
-    ensures answer { answer_of result ≡ count_of (write_at layout fields.now (length out.old)) }
-    ensures left { out.new ≡ leaves (write_at layout fields.now (length out.old)) out.old }
+fn write_compound(layout: Layout, fields: &[i64], out: &mut [u8]) -> Result<usize, Fault>
+    requires { (layout_at layout.place).kind ≡ Compound }
+    ensures answer { answer_of result ≡ count_of (write_at layout.place fields.now (length out.old)) }
+    ensures left { out.new ≡ leaves (write_at layout.place fields.now (length out.old)) out.old }
 {
     let Counted { count, size } = size_rows(layout, fields)?;
     if out.len() < size {
@@ -105,8 +105,9 @@ pub fn write_item(
     ensures answer { written_as result ≡ count_of (write_one categories category reference fields.now (length out.old)) }
     ensures left { out.new ≡ leaves (write_one categories category reference fields.now (length out.old)) out.old }
 {
-    let layout = layout_of(category, reference).ok_or(Fault::ReferenceUnknown)?;
-    let l = layout_at(layout);
+    let place = layout_of(category, reference).ok_or(Fault::ReferenceUnknown)?;
+    let layout = Layout { place };
+    let l = layout.row();
     if l.kind == Kind::Compound {
         return Ok(write_compound(layout, fields, out)?);
     }

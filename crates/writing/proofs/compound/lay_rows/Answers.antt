@@ -9,21 +9,21 @@ use Rattle.writing.proofs.PrimaryTurns.{filling, fill_all, fill, fill_in, fill_f
 use Rattle.writing.proofs.compound.lay_rows.Goals as goal
 
 pub loop-row-init : goal.loop-row-init
-loop-row-init c = filling _ _ _ _ c.layout_at-l.ensures c.requires.layout_lt_layout_count.1.1 c.requires.values_in_bounds
+loop-row-init c = filling _ _ _ _ c.row-l.ensures c.requires.passes.1 c.requires.values_in_bounds
 
 pub overflow_add-first : goal.overflow_add-first
-overflow_add-first c = omega (arith, fill_in _ _ _ _ _ _ _ _ _ c.loop-row.invariant c.loop-row-test.true c.requires.layout_lt_layout_count.1.0, sub_many)
+overflow_add-first c = omega (arith, fill_in _ _ _ _ _ _ _ _ _ c.loop-row.invariant c.loop-row-test.true c.requires.passes.0, sub_many)
 
 pub overflow_mul-first : goal.overflow_mul-first
-overflow_mul-first c = omega (arith, fill_in _ _ _ _ _ _ _ _ _ c.loop-row.invariant c.loop-row-test.true c.requires.layout_lt_layout_count.1.0, sub_many)
+overflow_mul-first c = omega (arith, fill_in _ _ _ _ _ _ _ _ _ c.loop-row.invariant c.loop-row-test.true c.requires.passes.0, sub_many)
 
 pub lay_row-x-requires : goal.lay_row-x-requires
 lay_row-x-requires c =
     let t = fill _ _ _ _ _ _ _ _ _ c.loop-row.invariant c.loop-row-test.true in
-    record { first_bound = (fill_in _ _ _ _ _ _ _ _ _ c.loop-row.invariant c.loop-row-test.true c.requires.layout_lt_layout_count.1.0, t.passes); at_in_bounds = t.fit }
+    record { first_bound = (fill_in _ _ _ _ _ _ _ _ _ c.loop-row.invariant c.loop-row-test.true c.requires.passes.0, t.passes); at_in_bounds = t.fit }
 
 pub overflow_add-row : goal.overflow_add-row
-overflow_add-row c = omega (arith, fill_in _ _ _ _ _ _ _ _ _ c.loop-row.invariant c.loop-row-test.true c.requires.layout_lt_layout_count.1.0, sub_many)
+overflow_add-row c = omega (arith, fill_in _ _ _ _ _ _ _ _ _ c.loop-row.invariant c.loop-row-test.true c.requires.passes.0, sub_many)
 
 pub mark-requires : goal.mark-requires
 mark-requires c =

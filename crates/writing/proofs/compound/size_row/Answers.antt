@@ -15,7 +15,7 @@ sized_at : (c : In_ok-place)
     → ok c.in_ok-place.place
     ≡ place_size (subfield_at c.loop-i.i) c.args.values.now c.loop-i.k
 sized_at c =
-    c.in_ok-place.ensures ∙ ap (λ x. place_size x c.args.values.now c.loop-i.k) c.subfield_at.ensures.0
+    c.in_ok-place.ensures ∙ ap (λ x. place_size x c.args.values.now c.loop-i.k) c.of_bit.ensures
 
 pub overflow_add-end : goal.overflow_add-end
 overflow_add-end c = omega (arith, c.requires, sub_many)
@@ -23,17 +23,17 @@ overflow_add-end c = omega (arith, c.requires, sub_many)
 pub loop-i-init : goal.loop-i-init
 loop-i-init c = summing _ _ _
 
-pub subfield_at-requires : goal.subfield_at-requires
-subfield_at-requires c = bit_in _ _ _ _ _ _ _ _ c.loop-i.invariant c.loop-i-test.true c.requires
+pub of_bit-requires : goal.of_bit-requires
+of_bit-requires c = bit_in _ _ _ _ _ _ _ _ c.loop-i.invariant c.loop-i-test.true c.requires
 
 pub size_place-requires : goal.size_place-requires
-size_place-requires c = (c.subfield_at.ensures.1, kind_few _ c.subfield_at.ensures.0)
+size_place-requires c = kind_few _ c.of_bit.ensures
 
 -- no values of a subfield
 pub returns-in_err-place : goal.returns-in_err-place
 returns-in_err-place c =
     handed _ _ c.from_residual.ensures.1
-    ∙ sum_no _ _ _ _ _ _ _ _ c.loop-i.invariant c.loop-i-test.true (c.in_err-place.ensures ∙ ap (λ x. place_size x c.args.values.now c.loop-i.k) c.subfield_at.ensures.0)
+    ∙ sum_no _ _ _ _ _ _ _ _ c.loop-i.invariant c.loop-i-test.true (c.in_err-place.ensures ∙ ap (λ x. place_size x c.args.values.now c.loop-i.k) c.of_bit.ensures)
 
 pub mark-bits-requires : goal.mark-bits-requires
 mark-bits-requires c = mark_fits_lem _ _ _ _ _ _ _ _ c.loop-i.invariant c.loop-i-test.true c.in_ok-place.place.there

@@ -19,7 +19,7 @@ fits_at c =
 
 pub loop-at-init : goal.loop-at-init
 loop-at-init c =
-    counting _ _ c.layout_at-l.ensures
+    counting _ _ c.row-l.ensures
 
 -- more values than parts
 pub returns-then-most-count : goal.returns-then-most-count
@@ -28,7 +28,7 @@ returns-then-most-count c =
 
 pub part_group-group-requires : goal.part_group-group-requires
 part_group-group-requires c =
-    (c.requires, part_in_lem _ _ _ _ _ _ c.loop-at.invariant c.loop-at-test.true c.if-most-count.false)
+    part_in_lem _ _ _ _ _ _ c.loop-at.invariant c.loop-at-test.true c.if-most-count.false
 
 pub pack_part-requires : goal.pack_part-requires
 pack_part-requires c =

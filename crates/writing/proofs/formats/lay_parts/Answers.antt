@@ -11,7 +11,7 @@ use Rattle.writing.proofs.formats.lay_parts.Goals.{After-group_at-g}
 
 -- a part was packed
 placed_at : (c : After-group_at-g)
-    → Placed c.args.layout
+    → Placed c.args.layout.place
     c.args.values.now
     c.args.count
     c.args.start
@@ -28,11 +28,11 @@ placed_at c =
 
 pub loop-part-init : goal.loop-part-init
 loop-part-init c =
-    placing _ _ _ _ _ _ c.layout_at-l.ensures c.is_chained-chained.ensures c.requires.values_value c.requires.values_in_bounds
+    placing _ _ _ _ _ _ c.row-l.ensures c.is_chained-chained.ensures c.requires.values_value c.requires.values_in_bounds
 
 pub part_group-group-requires : goal.part_group-group-requires
 part_group-group-requires c =
-    (c.requires.layout_lt_layout_count, group_in_lem _ _ _ _ _ _ _ _ _ _ c.loop-part.invariant c.loop-part-test.true)
+    group_in_lem _ _ _ _ _ _ _ _ _ _ c.loop-part.invariant c.loop-part-test.true
 
 pub pack_part-requires : goal.pack_part-requires
 pack_part-requires c =

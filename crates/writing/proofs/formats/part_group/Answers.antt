@@ -10,14 +10,14 @@ use Rattle.writing.proofs.formats.part_group.Goals as goal
 
 pub overflow_add-result : goal.overflow_add-result
 overflow_add-result c =
-    omega (arith, groups_few, (part_own c.args.layout c.args.part c.layout_at-l.ensures (kind_true _ Extended (sym c.is_chained.ensures ∙ c.if-is_chained.true)) c.requires.1).0)
+    omega (arith, groups_few, (part_own c.args.layout.place c.args.part c.row-l.ensures (kind_true _ Extended (sym c.is_chained.ensures ∙ c.if-is_chained.true)) c.requires).0)
 
 -- its own group
 pub returns-then-is_chained : goal.returns-then-is_chained
 returns-then-is_chained c =
-    part_own c.args.layout c.args.part c.layout_at-l.ensures (kind_true _ Extended (sym c.is_chained.ensures ∙ c.if-is_chained.true)) c.requires.1
+    part_own c.args.layout.place c.args.part c.row-l.ensures (kind_true _ Extended (sym c.is_chained.ensures ∙ c.if-is_chained.true)) c.requires
 
 -- the shared group
 pub returns : goal.returns
 returns c =
-    part_shared c.args.layout c.args.part c.layout_at-l.ensures (kind_not _ Extended (sym c.is_chained.ensures ∙ c.if-is_chained.false)) c.requires.1
+    part_shared c.args.layout.place c.args.part c.row-l.ensures (kind_not _ Extended (sym c.is_chained.ensures ∙ c.if-is_chained.false)) c.requires

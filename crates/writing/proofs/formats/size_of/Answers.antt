@@ -7,7 +7,7 @@ use Rattle.writing.proofs.formats.size_of.Goals as goal
 
 -- too few parts
 pub returns-then-count-l : goal.returns-then-count-l
-returns-then-count-l c = size_few _ _ _ _ c.in_ok-count.ensures c.layout_at-l.ensures c.if-count-l.true
+returns-then-count-l c = size_few _ _ _ _ c.in_ok-count.ensures c.row-l.ensures c.if-count-l.true
 
 pub overflow_add-result : goal.overflow_add-result
 overflow_add-result c = omega (arith, size_short _ _ _ _ c.in_ok-count.ensures, c.head_size.ensures.0)
@@ -18,4 +18,4 @@ returns-in_err-count c = handed _ _ c.from_residual.ensures.1 ∙ size_no _ _ c.
 
 pub returns : goal.returns
 returns c =
-    size_yes _ _ _ _ c.in_ok-count.ensures c.layout_at-l.ensures c.if-count-l.false c.head_size.ensures.1
+    size_yes _ _ _ _ c.in_ok-count.ensures c.row-l.ensures c.if-count-l.false c.head_size.ensures.1

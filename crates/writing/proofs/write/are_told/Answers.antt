@@ -8,12 +8,12 @@ use Rattle.writing.proofs.PlainLaws.{most_is, told_parts, told_whole}
 use Rattle.writing.proofs.write.are_told.Goals as goal
 
 pub overflow_sub-result : goal.overflow_sub-result
-overflow_sub-result c = omega (arith, most_is _ c.layout_at-l.ensures, c.requires.1)
+overflow_sub-result c = omega (arith, most_is _ c.row-l.ensures, c.requires)
 
 -- an extended item
 pub returns-then-is_chained : goal.returns-then-is_chained
-returns-then-is_chained c = told_parts _ c.layout_at-l.ensures (kind_true _ Extended (sym c.is_chained.ensures ∙ c.if-is_chained.true)) _ _
+returns-then-is_chained c = told_parts _ c.row-l.ensures (kind_true _ Extended (sym c.is_chained.ensures ∙ c.if-is_chained.true)) _ _
 
 -- any other
 pub returns : goal.returns
-returns c = told_whole _ c.layout_at-l.ensures (kind_not _ Extended (sym c.is_chained.ensures ∙ c.if-is_chained.false)) _ _
+returns c = told_whole _ c.row-l.ensures (kind_not _ Extended (sym c.is_chained.ensures ∙ c.if-is_chained.false)) _ _

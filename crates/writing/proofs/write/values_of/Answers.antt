@@ -8,8 +8,8 @@ use Rattle.writing.proofs.write.values_of.Goals as goal
 
 -- an extended item
 pub returns-then-is_chained : goal.returns-then-is_chained
-returns-then-is_chained c = front_parts _ c.layout_at-l.ensures (kind_true _ Extended (sym c.is_chained.ensures ∙ c.if-is_chained.true)) _ c.front_of.ensures
+returns-then-is_chained c = front_parts _ c.row-l.ensures (kind_true _ Extended (sym c.is_chained.ensures ∙ c.if-is_chained.true)) _ c.front_of.ensures
 
 -- any other
 pub returns : goal.returns
-returns c = front_whole _ c.layout_at-l.ensures (kind_not _ Extended (sym c.is_chained.ensures ∙ c.if-is_chained.false)) _
+returns c = front_whole _ c.row-l.ensures (kind_not _ Extended (sym c.is_chained.ensures ∙ c.if-is_chained.false)) _

@@ -7,19 +7,19 @@ use Rattle.writing.proofs.write.write_compound.Goals as goal
 
 -- 16
 pub returns-then-out-size : goal.returns-then-out-size
-returns-then-out-size c = let told = compound_full _ _ _ c.requires.1 _ _ c.in_ok-count.ensures c.if-out-size.true in
+returns-then-out-size c = let told = compound_full _ _ _ c.requires _ _ c.in_ok-count.ensures c.if-out-size.true in
     record { answer = told.0; left = told.1 }
 
 pub lay_rows-requires : goal.lay_rows-requires
 lay_rows-requires c =
-    record { layout_lt_layout_count = (c.requires.0, (c.requires.1, compound_lays _ _ c.args.out.now c.requires.1 _ _ c.in_ok-count.ensures)); values_in_bounds = compound_fits _ _ c.args.out.now c.requires.1 _ _ c.in_ok-count.ensures c.if-out-size.false }
+    record { passes = ((c.requires, compound_lays _ _ c.args.out.now c.requires _ _ c.in_ok-count.ensures)); values_in_bounds = compound_fits _ _ c.args.out.now c.requires _ _ c.in_ok-count.ensures c.if-out-size.false }
 
 -- they are not its fields
 pub returns-in_err-count : goal.returns-in_err-count
-returns-in_err-count c = let told = compound_no _ _ _ c.requires.1 c.in_err-count.ensures in
+returns-in_err-count c = let told = compound_no _ _ _ c.requires c.in_err-count.ensures in
     record { answer = handed _ _ c.from_residual.ensures.1 ∙ told.0; left = told.1 }
 
 -- the item is laid
 pub returns : goal.returns
-returns c = let told = compound_done _ _ _ c.requires.1 _ _ c.in_ok-count.ensures c.if-out-size.false c.lay_rows.ensures in
+returns c = let told = compound_done _ _ _ c.requires _ _ c.in_ok-count.ensures c.if-out-size.false c.lay_rows.ensures in
     record { answer = told.0; left = told.1 }

@@ -11,50 +11,50 @@ use denote.Enum.Bare.{same_true, same_false}
 use Rattle.tables.specs.contracts.tables.Kind.{the_type}
 use Rattle.writing.proofs.ItemLaws.{no_layout, one_layout, has_format}
 use Rattle.writing.proofs.write.write_item.Goals as goal
-use Rattle.writing.proofs.write.write_item.Goals.{In_ok-layout}
+use Rattle.writing.proofs.write.write_item.Goals.{In_ok-place}
 
 -- 21: no such item
-pub returns-in_err-layout : goal.returns-in_err-layout
-returns-in_err-layout c = let told = no_layout _ _ c.args.fields.now c.args.out.now (rw c.in_err-layout.ensures.ok_part at c.layout_of.ensures.layout) in
-    record { answer = begun _ _ c.from_residual.ensures.1 ∙ ap (λ f. refused (number_of f) 0) (missing _ _ _ c.in_err-layout.ensures.value) ∙ told.0; left = told.1 }
+pub returns-in_err-place : goal.returns-in_err-place
+returns-in_err-place c = let told = no_layout _ _ c.args.fields.now c.args.out.now (rw c.in_err-place.ensures.ok_part at c.layout_of.ensures.layout) in
+    record { answer = begun _ _ c.from_residual.ensures.1 ∙ ap (λ f. refused (number_of f) 0) (missing _ _ _ c.in_err-place.ensures.value) ∙ told.0; left = told.1 }
 
 -- the layout that was found
-inside_lem : (c : In_ok-layout) → (0 < c.in_ok-layout.layout) × (c.in_ok-layout.layout < layout_count)
-inside_lem c = rw c.in_ok-layout.ensures.ok_part at c.layout_of.ensures.inside
+inside_lem : (c : In_ok-place) → (0 < c.in_ok-place.place) × (c.in_ok-place.place < layout_count)
+inside_lem c = rw c.in_ok-place.ensures.ok_part at c.layout_of.ensures.inside
 
-layout_lem : (c : In_ok-layout) → (expect layout_is (layout_at c.in_ok-layout.layout) or 21) ≡ layout_of categories c.args.category c.args.reference
-layout_lem c = rw c.in_ok-layout.ensures.ok_part at c.layout_of.ensures.layout
+layout_lem : (c : In_ok-place) → (expect layout_is (layout_at c.in_ok-place.place) or 21) ≡ layout_of categories c.args.category c.args.reference
+layout_lem c = rw c.in_ok-place.ensures.ok_part at c.layout_of.ensures.layout
 
 pub write_compound-requires : goal.write_compound-requires
-write_compound-requires c = ((inside_lem (goal.at.write_compound-requires c).In_ok-layout).1, sym (ap (λ x. x.kind) c.layout_at-l.ensures) ∙ same_true the_type tt _ _ (sym c.eq.ensures ∙ c.if-eq.true))
+write_compound-requires c = sym (ap (λ x. x.kind) c.row-l.ensures) ∙ same_true the_type tt _ _ (sym c.eq.ensures ∙ c.if-eq.true)
 
 -- a compound item
 pub returns-in_err-write_compound : goal.returns-in_err-write_compound
 returns-in_err-write_compound c =
     let e = c.in_err-write_compound.ensures in
-    let told = one_layout _ _ _ _ c.args.out.now (layout_lem (goal.at.returns-in_err-write_compound c).In_ok-layout) (e.answer, e.left) in
+    let told = one_layout _ _ _ _ c.args.out.now (layout_lem (goal.at.returns-in_err-write_compound c).In_ok-place) (e.answer, e.left) in
     record { answer = begun _ _ c.from_residual-in_err-write_compound.ensures.1 ∙ told.0; left = told.1 }
 
 pub returns-then-eq : goal.returns-then-eq
 returns-then-eq c =
     let e = c.in_ok-write_compound.ensures in
-    let told = one_layout _ _ _ _ c.args.out.now (layout_lem (goal.at.returns-then-eq c).In_ok-layout) (e.answer, e.left) in
+    let told = one_layout _ _ _ _ c.args.out.now (layout_lem (goal.at.returns-then-eq c).In_ok-place) (e.answer, e.left) in
     record { answer = told.0; left = told.1 }
 
 pub write_plain-requires : goal.write_plain-requires
 write_plain-requires c =
-    let k = inside_lem (goal.at.write_plain-requires c).In_ok-layout in
-    (k.1, has_format _ k.1 k.0 c.layout_at-l.ensures (same_false the_type _ _ (sym c.eq.ensures ∙ c.if-eq.false)))
+    let k = inside_lem (goal.at.write_plain-requires c).In_ok-place in
+    has_format _ k.1 k.0 c.row-l.ensures (same_false the_type _ _ (sym c.eq.ensures ∙ c.if-eq.false))
 
 -- any other
 pub returns-in_err-write_plain : goal.returns-in_err-write_plain
 returns-in_err-write_plain c =
     let e = c.in_err-write_plain.ensures in
-    let told = one_layout _ _ _ _ c.args.out.now (layout_lem (goal.at.returns-in_err-write_plain c).In_ok-layout) (e.answer, e.left) in
+    let told = one_layout _ _ _ _ c.args.out.now (layout_lem (goal.at.returns-in_err-write_plain c).In_ok-place) (e.answer, e.left) in
     record { answer = begun _ _ c.from_residual-in_err-write_plain.ensures.1 ∙ told.0; left = told.1 }
 
 pub returns : goal.returns
 returns c =
     let e = c.in_ok-write_plain.ensures in
-    let told = one_layout _ _ _ _ c.args.out.now (layout_lem (goal.at.returns c).In_ok-layout) (e.answer, e.left) in
+    let told = one_layout _ _ _ _ c.args.out.now (layout_lem (goal.at.returns c).In_ok-place) (e.answer, e.left) in
     record { answer = told.0; left = told.1 }
