@@ -1,5 +1,5 @@
-// The sums of what each value of each FSPEC octet names.
-
+// The sums of what each value of each FSPEC octet names. Statics: a constant array would be written out wherever it is read.
+//
 // Before each row stands what the octet's bits add: the last column of the User Application Profile (5.3.1; 017: Table 2, "Length in octets"; 018: Table
 // 9, "Length in bytes"), 1 where that is no plain figure (1+3*n, 1+, 3+), 0 where no item stands. Beside each sum stand the value and the FRNs that it names.
 // ---- made by model/make.py: a table to a category, a row to an octet
