@@ -42,7 +42,7 @@ fn count_store(sub: bool, kind: Kind, parts: usize, out: &mut [i64; 8192], start
     start + 1
 }
 
-// So many numbers that say absent, from a place of the output on; the place after them.
+// So many numbers that say absent, from a place of the output on; the place after them. (By `fill` it stayed open that the clones are the number itself.)
 fn absent_store(n: usize, out: &mut [i64; 8192], start: usize) -> usize
     requires { start + n ≤ 8_192 }
     ensures { (result ≡ start + n) × (out.new ≡ sets out.old start (replicate n absent_field)) }
@@ -109,7 +109,8 @@ fn place_fields(place: usize, there: bool, s: &[u8], out: &mut [i64; 8192], star
     }
 }
 
-// What so many bits list, the first of them at a place of the table, at the start of the output; how many numbers.
+// What so many bits list, the first of them at a place of the table, at the start of the output; how many numbers. (`subfields_of` walks the bits apart:
+// the check has no output to lend.)
 fn subfields_fields(
     first: usize,
     places: usize,

@@ -23,7 +23,7 @@ pub fn value_of(f: FieldRow, code: u64) -> i64
     down(pow2(bits) - 1 - code)
 }
 
-// ---- storing
+// ---- storing: the output is lent whole, with a place in it, since what `read_item` promises is about all of it (`sets old at ..`)
 
 // A field's value at a place of the output, unless the field is spare; the place after it.
 fn put(f: FieldRow, v: i64, out: &mut [i64; 8192], at: usize) -> usize

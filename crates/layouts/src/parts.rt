@@ -195,10 +195,7 @@ fn list_of(l: LayoutRow, n: usize, have: usize) -> Result<Parts, Fault>
     if have < long {
         return Err(Fault::ItemCut);
     }
-    if n < l.least {
-        return Err(Fault::FieldBarred);
-    }
-    if l.most < n {
+    if n < l.least || l.most < n {
         return Err(Fault::FieldBarred);
     }
     Ok(Parts { count: n, long })

@@ -160,7 +160,7 @@ static SIZES: [u8; 106] = [
 ];
 // ---- end of what is made
 
-// Groups: the place of the first rule; the next row has the one past the last.
+// Groups: the place of the first rule; the next row has the one past the last. (So there is a row more than in `SIZES`, and it stands apart.)
 // ---- made by model/make.py: FIRST_RULES
 static FIRST_RULES: [u8; 107] = [
     0, //  I017/010  5.2.2   Data Source Identifier

@@ -5,7 +5,7 @@ use native.Mathlib.Omega.{arith}
 use native.Mathlib.Nat.{mul-le-mul}
 use Rattle.layouts.proofs.ShapeLaws.{rowed, list_group, list_cut, list_few, list_many, list_there}
 use Rattle.layouts.proofs.parts.list_of.Goals as goal
-use Rattle.layouts.proofs.parts.list_of.Goals.{After-size_at}
+use Rattle.layouts.proofs.parts.list_of.Goals.{After-size_at, then-n-l-via-then-n-l, then-n-l-via-else-n-l+then-l-n}
 
 -- the parts are few octets
 small : (c : After-size_at) → c.args.n * c.size_at.result ≤ 255 * 8
@@ -26,10 +26,11 @@ pub returns-then-have-long : goal.returns-then-have-long
 returns-then-have-long c = list_cut _ _ _ _ _ c.size_at.ensures c.if-have-long.true
 
 pub returns-then-n-l : goal.returns-then-n-l
-returns-then-n-l c = list_few _ _ _ _ _ c.size_at.ensures c.if-have-long.false c.if-n-l.true
-
-pub returns-then-l-n : goal.returns-then-l-n
-returns-then-l-n c = list_many _ _ _ _ _ c.size_at.ensures c.if-have-long.false c.if-n-l.false c.if-l-n.true
+returns-then-n-l c =
+    elim c.then-n-l.branch [
+      | then-n-l-via-then-n-l w ↦ list_few _ _ _ _ _ c.size_at.ensures c.if-have-long.false w.if-n-l.true
+      | then-n-l-via-else-n-l+then-l-n w ↦ list_many _ _ _ _ _ c.size_at.ensures c.if-have-long.false w.if-n-l.false w.if-l-n.true
+    ]
 
 pub returns : goal.returns
 returns c = list_there _ _ _ _ _ c.size_at.ensures c.if-have-long.false c.if-n-l.false c.if-l-n.false
