@@ -8,12 +8,12 @@ ghost use Rattle.std.proofs.lemmas.List.Edits.{sets};
 ghost use Rattle.rules.specs.Answer.{ok};
 ghost use Rattle.rules.specs.Presence.{number};
 ghost use Rattle.tables.specs.declared.tables.Kind.TheVariants.{Compound};
-ghost use Rattle.tables.specs.Tables.{kind_digit, subfield_count, layout_at, format_is};
+ghost use Rattle.tables.specs.Tables.{subfield_count, layout_at, format_is};
 ghost use Rattle.writing.specs.Write.{parts, answer_of};
 ghost use Rattle.writing.specs.Compound.{span_to, span_from, place_from, row_from, compound_octets, span_as, place_size, row_size, rows_size, place_of, row_of};
 
 use super::formats::{Counted, lay, lay_number, mark, size_of};
-use super::rows::Layout;
+use super::rows::{Layout, Subfield};
 use super::write::is_absent;
 use numbers::magnitude;
 use rules::Fault;
@@ -54,11 +54,10 @@ fn span_to(have: usize, first: usize, count: usize, values: usize) -> Result<Spa
 
 // The values of a subfield from a place on, by its layout: a fixed one has so many, a list says how many parts it has. There may be too few numbers, or one
 // may be no count.
-fn span_of(layout: Layout, values: &[i64], at: usize) -> Result<Span, Fault>
-    requires { kind_digit (layout_at layout.place).kind ≤ 2 }
-    ensures { span_as result ≡ span_from (format_is (layout_at layout.place)) values.now at }
+fn span_of(sub: Subfield, values: &[i64], at: usize) -> Result<Span, Fault>
+    ensures { span_as result ≡ span_from (format_is (layout_at sub.layout.place)) values.now at }
 {
-    let l = layout.row();
+    let l = sub.layout.row();
     if l.kind == Kind::NoItem {
         return Ok(Span::Absent { next: at });
     }
@@ -92,11 +91,10 @@ pub struct PlaceSize {
 }
 
 // The subfield of a bit, by its layout, from a place of the numbers on.
-fn size_place(layout: Layout, values: &[i64], at: usize) -> Result<PlaceSize, Fault>
-    requires { kind_digit (layout_at layout.place).kind ≤ 2 }
-    ensures { answer_of result ≡ place_size layout.place values.now at }
+fn size_place(sub: Subfield, values: &[i64], at: usize) -> Result<PlaceSize, Fault>
+    ensures { answer_of result ≡ place_size sub.layout.place values.now at }
 {
-    let span = span_of(layout, values, at)?;
+    let span = span_of(sub, values, at)?;
     match span {
         Span::Absent { next } => Ok(PlaceSize {
             there: false,
@@ -108,7 +106,7 @@ fn size_place(layout: Layout, values: &[i64], at: usize) -> Result<PlaceSize, Fa
             end,
             count: _,
         } => {
-            let parts = size_of(layout, &values[first..end])?;
+            let parts = size_of(sub.layout, &values[first..end])?;
             Ok(PlaceSize {
                 there: true,
                 size: parts.size,
@@ -119,14 +117,14 @@ fn size_place(layout: Layout, values: &[i64], at: usize) -> Result<PlaceSize, Fa
 }
 
 // Its octets, at a place of the output.
-fn lay_place(layout: Layout, values: &[i64], at: usize, out: &mut [u8], start: usize) -> PlaceSize
-    requires passes { (kind_digit (layout_at layout.place).kind ≤ 2) × (place_from layout.place values.now at ≡ ok (place_of (place_from layout.place values.now at))) }
-    requires at_in_bounds { start + length (place_of (place_from layout.place values.now at)).octets ≤ length out.old }
-    ensures laid { out.new ≡ sets out.old start (place_of (place_from layout.place values.now at)).octets }
-    ensures told { (result.there ≡ (place_of (place_from layout.place values.now at)).there)
-        × ((result.next ≡ (place_of (place_from layout.place values.now at)).next) × (result.size ≡ length (place_of (place_from layout.place values.now at)).octets)) }
+fn lay_place(sub: Subfield, values: &[i64], at: usize, out: &mut [u8], start: usize) -> PlaceSize
+    requires passes { place_from sub.layout.place values.now at ≡ ok (place_of (place_from sub.layout.place values.now at)) }
+    requires at_in_bounds { start + length (place_of (place_from sub.layout.place values.now at)).octets ≤ length out.old }
+    ensures laid { out.new ≡ sets out.old start (place_of (place_from sub.layout.place values.now at)).octets }
+    ensures told { (result.there ≡ (place_of (place_from sub.layout.place values.now at)).there)
+        × ((result.next ≡ (place_of (place_from sub.layout.place values.now at)).next) × (result.size ≡ length (place_of (place_from sub.layout.place values.now at)).octets)) }
 {
-    let span = span_of(layout, values, at).unwrap();
+    let span = span_of(sub, values, at).unwrap();
     match span {
         Span::Absent { next } => PlaceSize {
             there: false,
@@ -134,7 +132,7 @@ fn lay_place(layout: Layout, values: &[i64], at: usize, out: &mut [u8], start: u
             next,
         },
         Span::Values { first, end, count } => {
-            let after = lay(layout, &values[first..end], count, out, start);
+            let after = lay(sub.layout, &values[first..end], count, out, start);
             PlaceSize {
                 there: true,
                 size: after - start,
@@ -164,7 +162,7 @@ fn size_row(first: usize, values: &[i64], at: usize) -> Result<RowSize, Fault>
     let mut size: usize = 0;
     let mut k = at;
     for i in first..end {
-        let place = size_place(Layout::of_bit(i), values, k)?;
+        let place = size_place(Subfield::of(i), values, k)?;
         bits = mark(true, place.there, bits);
         size += place.size;
         k = place.next;
@@ -189,7 +187,7 @@ fn lay_row(first: usize, values: &[i64], at: usize, out: &mut [u8], start: usize
     let mut k = at;
     let mut q = start;
     for i in first..end {
-        let x = lay_place(Layout::of_bit(i), values, k, out, q);
+        let x = lay_place(Subfield::of(i), values, k, out, q);
         bits = mark(true, x.there, bits);
         k = x.next;
         q += x.size;

@@ -1,6 +1,6 @@
 // A layout by its place in the table. What each function over a layout needs of the place stands here once.
-ghost use Rattle.std.specs.Prelude.{◌≡◌, ◌<◌};
-ghost use Rattle.tables.specs.Tables.{layout_count, subfield_count, layout_at, subfield_at};
+ghost use Rattle.std.specs.Prelude.{◌≡◌, ◌<◌, ◌≤◌};
+ghost use Rattle.tables.specs.Tables.{kind_digit, layout_count, subfield_count, layout_at, subfield_at};
 
 use tables::{LayoutRow, layout_at, subfield_at};
 
@@ -11,19 +11,30 @@ pub struct Layout {
 }
 
 impl Layout {
-    // That of the subfield of a bit, by the bit's place in the table.
-    pub fn of_bit(bit: usize) -> Layout
-        requires { bit < subfield_count }
-        ensures { result.place ≡ subfield_at bit }
-    {
-        Layout {
-            place: subfield_at(bit),
-        }
-    }
-
     pub fn row(self) -> LayoutRow
         ensures { result ≡ layout_at self.place }
     {
         layout_at(self.place)
+    }
+}
+
+// That of a subfield: it has none, one part, or a list of parts.
+#[derive(Clone, Copy)]
+pub struct Subfield {
+    pub layout: Layout,
+    pub ghost plain: { kind_digit (layout_at layout.place).kind ≤ 2 },
+}
+
+impl Subfield {
+    // By its bit's place in the table.
+    pub fn of(bit: usize) -> Subfield
+        requires { bit < subfield_count }
+        ensures { result.layout.place ≡ subfield_at bit }
+    {
+        Subfield {
+            layout: Layout {
+                place: subfield_at(bit),
+            },
+        }
     }
 }

@@ -3,7 +3,7 @@
 use Prim.Native.Nat.{◌+◌}
 use mathlib.Core.Path.{ap}
 use native.Mathlib.Omega.{arith}
-use Rattle.writing.proofs.BitTurns.{sub_many, kind_few, stepping, step_all, step_in, step_fits, step}
+use Rattle.writing.proofs.BitTurns.{sub_many, stepping, step_all, step_in, step_fits, step}
 use Rattle.writing.proofs.compound.lay_row.Goals as goal
 
 pub overflow_add-end : goal.overflow_add-end
@@ -12,26 +12,26 @@ overflow_add-end c = omega (arith, c.requires.first_bound.0, sub_many)
 pub loop-i-init : goal.loop-i-init
 loop-i-init c = stepping _ _ _ _ _ c.requires.first_bound.1 c.requires.at_in_bounds
 
-pub of_bit-requires : goal.of_bit-requires
-of_bit-requires c = step_in _ _ _ _ _ _ _ _ _ _ _ c.loop-i.invariant c.loop-i-test.true c.requires.first_bound.0
+pub of-requires : goal.of-requires
+of-requires c = step_in _ _ _ _ _ _ _ _ _ _ _ c.loop-i.invariant c.loop-i-test.true c.requires.first_bound.0
 
 pub lay_place-x-requires : goal.lay_place-x-requires
 lay_place-x-requires c =
-    let t = step _ _ _ _ _ _ _ _ _ _ _ c.loop-i.invariant c.loop-i-test.true c.of_bit.ensures in
-    record { passes = (kind_few _ c.of_bit.ensures, t.passes); at_in_bounds = t.fit }
+    let t = step _ _ _ _ _ _ _ _ _ _ _ c.loop-i.invariant c.loop-i-test.true c.of.ensures in
+    record { passes = t.passes; at_in_bounds = t.fit }
 
 pub mark-bits-requires : goal.mark-bits-requires
 mark-bits-requires c = step_fits _ _ _ _ _ _ _ _ _ _ _ c.loop-i.invariant c.loop-i-test.true c.lay_place-x.result.there
 
 pub overflow_add-q : goal.overflow_add-q
 overflow_add-q c =
-    let t = step _ _ _ _ _ _ _ _ _ _ _ c.loop-i.invariant c.loop-i-test.true c.of_bit.ensures in
+    let t = step _ _ _ _ _ _ _ _ _ _ _ c.loop-i.invariant c.loop-i-test.true c.of.ensures in
     omega (arith, t.fit, c.lay_place-x.ensures.told.1.1, c.loop-i.invariant.long, c.well_formed)
 
 pub loop-i-preserved : goal.loop-i-preserved
 loop-i-preserved c =
     let told = c.lay_place-x.ensures.told in
-    (step _ _ _ _ _ _ _ _ _ _ _ c.loop-i.invariant c.loop-i-test.true c.of_bit.ensures).next c.lay_place-x.ensures.laid (told.0, (told.1.0, ap (λ s. c.loop-i.q + s) told.1.1)) c.mark-bits.ensures
+    (step _ _ _ _ _ _ _ _ _ _ _ c.loop-i.invariant c.loop-i-test.true c.of.ensures).next c.lay_place-x.ensures.laid (told.0, (told.1.0, ap (λ s. c.loop-i.q + s) told.1.1)) c.mark-bits.ensures
 
 pub shape_of-out : goal.shape_of-out
 shape_of-out c = c.loop-i.invariant.long

@@ -12,20 +12,20 @@ use Rattle.writing.proofs.compound.size_place.Goals.{In-Values}
 
 -- where the values stand
 spanned_at : (c : In-Values)
-    → ok (spanned true c.in-Values.first c.in-Values.end c.in-Values.count) ≡ span_from (format_is (layout_at c.args.layout.place)) c.args.values.now c.args.at
+    → ok (spanned true c.in-Values.first c.in-Values.end c.in-Values.count) ≡ span_from (format_is (layout_at c.args.sub.layout.place)) c.args.values.now c.args.at
 spanned_at c = sym (ap (λ s. ok (spanned_of s)) c.in-Values.is) ∙ c.in_ok-span.ensures
 
 pub offset_bounds-values-first : goal.offset_bounds-values-first
-offset_bounds-values-first c = omega (arith, span_inside _ _ _ c.requires (spanned_at (goal.at.offset_bounds-values-first c).In-Values), c.well_formed)
+offset_bounds-values-first c = omega (arith, span_inside _ _ _ c.args.sub.plain (spanned_at (goal.at.offset_bounds-values-first c).In-Values), c.well_formed)
 
 pub slice_bounds-size_of-count : goal.slice_bounds-size_of-count
-slice_bounds-size_of-count c = (span_inside _ _ _ c.requires (spanned_at (goal.at.slice_bounds-size_of-count c).In-Values)).0
+slice_bounds-size_of-count c = (span_inside _ _ _ c.args.sub.plain (spanned_at (goal.at.slice_bounds-size_of-count c).In-Values)).0
 
 pub slice_bounds-size_of-start : goal.slice_bounds-size_of-start
-slice_bounds-size_of-start c = (span_inside _ _ _ c.requires (spanned_at (goal.at.slice_bounds-size_of-start c).In-Values)).0
+slice_bounds-size_of-start c = (span_inside _ _ _ c.args.sub.plain (spanned_at (goal.at.slice_bounds-size_of-start c).In-Values)).0
 
 pub slice_bounds-size_of-end : goal.slice_bounds-size_of-end
-slice_bounds-size_of-end c = (span_inside _ _ _ c.requires (spanned_at (goal.at.slice_bounds-size_of-end c).In-Values)).1
+slice_bounds-size_of-end c = (span_inside _ _ _ c.args.sub.plain (spanned_at (goal.at.slice_bounds-size_of-end c).In-Values)).1
 
 -- no values of it
 pub returns-in_err-span : goal.returns-in_err-span

@@ -6,7 +6,7 @@ use Rattle.rules.specs.Answer.{ok}
 use Rattle.tables.specs.Tables.{subfield_at}
 use Rattle.writing.specs.Compound.{place_size}
 use Rattle.writing.proofs.Handed.{handed}
-use Rattle.writing.proofs.BitTurns.{sub_many, kind_few, summing, sum_all, bit_in, sum_no, mark_fits_lem, sum_short, sum_next}
+use Rattle.writing.proofs.BitTurns.{sub_many, summing, sum_all, bit_in, sum_no, mark_fits_lem, sum_short, sum_next}
 use Rattle.writing.proofs.compound.size_row.Goals as goal
 use Rattle.writing.proofs.compound.size_row.Goals.{In_ok-place}
 
@@ -15,7 +15,7 @@ sized_at : (c : In_ok-place)
     → ok c.in_ok-place.place
     ≡ place_size (subfield_at c.loop-i.i) c.args.values.now c.loop-i.k
 sized_at c =
-    c.in_ok-place.ensures ∙ ap (λ x. place_size x c.args.values.now c.loop-i.k) c.of_bit.ensures
+    c.in_ok-place.ensures ∙ ap (λ x. place_size x c.args.values.now c.loop-i.k) c.of.ensures
 
 pub overflow_add-end : goal.overflow_add-end
 overflow_add-end c = omega (arith, c.requires, sub_many)
@@ -23,17 +23,14 @@ overflow_add-end c = omega (arith, c.requires, sub_many)
 pub loop-i-init : goal.loop-i-init
 loop-i-init c = summing _ _ _
 
-pub of_bit-requires : goal.of_bit-requires
-of_bit-requires c = bit_in _ _ _ _ _ _ _ _ c.loop-i.invariant c.loop-i-test.true c.requires
-
-pub size_place-requires : goal.size_place-requires
-size_place-requires c = kind_few _ c.of_bit.ensures
+pub of-requires : goal.of-requires
+of-requires c = bit_in _ _ _ _ _ _ _ _ c.loop-i.invariant c.loop-i-test.true c.requires
 
 -- no values of a subfield
 pub returns-in_err-place : goal.returns-in_err-place
 returns-in_err-place c =
     handed _ _ c.from_residual.ensures.1
-    ∙ sum_no _ _ _ _ _ _ _ _ c.loop-i.invariant c.loop-i-test.true (c.in_err-place.ensures ∙ ap (λ x. place_size x c.args.values.now c.loop-i.k) c.of_bit.ensures)
+    ∙ sum_no _ _ _ _ _ _ _ _ c.loop-i.invariant c.loop-i-test.true (c.in_err-place.ensures ∙ ap (λ x. place_size x c.args.values.now c.loop-i.k) c.of.ensures)
 
 pub mark-bits-requires : goal.mark-bits-requires
 mark-bits-requires c = mark_fits_lem _ _ _ _ _ _ _ _ c.loop-i.invariant c.loop-i-test.true c.in_ok-place.place.there

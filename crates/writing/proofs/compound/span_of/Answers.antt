@@ -22,11 +22,11 @@ returns-then-eq c = span_none _ _ _ c.row-l.ensures (same_true the_type tt _ _ (
 
 -- no number
 pub returns-then-values-at : goal.returns-then-values-at
-returns-then-values-at c = span_short _ _ _ c.row-l.ensures c.requires (same_false the_type _ _ (sym c.eq.ensures ∙ c.if-eq.false)) c.if-values-at.true
+returns-then-values-at c = span_short _ _ _ c.row-l.ensures c.args.sub.plain (same_false the_type _ _ (sym c.eq.ensures ∙ c.if-eq.false)) c.if-values-at.true
 
 -- absent
 pub returns-then-is_absent : goal.returns-then-is_absent
-returns-then-is_absent c = span_absent _ _ _ c.row-l.ensures c.requires (same_false the_type _ _ (sym c.eq.ensures ∙ c.if-eq.false)) c.if-values-at.false (tested (goal.at.returns-then-is_absent c).After-is_absent c.if-is_absent.true)
+returns-then-is_absent c = span_absent _ _ _ c.row-l.ensures c.args.sub.plain (same_false the_type _ _ (sym c.eq.ensures ∙ c.if-eq.false)) c.if-values-at.false (tested (goal.at.returns-then-is_absent c).After-is_absent c.if-is_absent.true)
 
 pub group_at-g-requires : goal.group_at-g-requires
 group_at-g-requires c = first_in _ c.row-l.ensures
@@ -37,18 +37,18 @@ span_to-requires c = (omega (arith, c.if-values-at.false), (omega arith, values_
 -- a fixed subfield
 pub returns-then-eq-2 : goal.returns-then-eq-2
 returns-then-eq-2 c =
-    span_fixed _ _ _ c.row-l.ensures c.requires (same_false the_type _ _ (sym c.eq.ensures ∙ c.if-eq.false)) c.if-values-at.false (tested (goal.at.returns-then-eq-2 c).After-is_absent c.if-is_absent.false) c.group_at-g.ensures (same_true the_type tt _ _ (sym c.eq-2.ensures ∙ c.if-eq-2.true)) c.span_to.ensures
+    span_fixed _ _ _ c.row-l.ensures c.args.sub.plain (same_false the_type _ _ (sym c.eq.ensures ∙ c.if-eq.false)) c.if-values-at.false (tested (goal.at.returns-then-eq-2 c).After-is_absent c.if-is_absent.false) c.group_at-g.ensures (same_true the_type tt _ _ (sym c.eq-2.ensures ∙ c.if-eq-2.true)) c.span_to.ensures
 
 -- a count below 0
 pub returns-then-v-lt0 : goal.returns-then-v-lt0
 returns-then-v-lt0 c =
-    span_minus _ _ _ c.row-l.ensures c.requires (same_false the_type _ _ (sym c.eq.ensures ∙ c.if-eq.false)) c.if-values-at.false (tested (goal.at.returns-then-v-lt0 c).After-is_absent c.if-is_absent.false) c.group_at-g.ensures (same_false the_type _ _ (sym c.eq-2.ensures ∙ c.if-eq-2.false))
+    span_minus _ _ _ c.row-l.ensures c.args.sub.plain (same_false the_type _ _ (sym c.eq.ensures ∙ c.if-eq.false)) c.if-values-at.false (tested (goal.at.returns-then-v-lt0 c).After-is_absent c.if-is_absent.false) c.group_at-g.ensures (same_false the_type _ _ (sym c.eq-2.ensures ∙ c.if-eq-2.false))
     (record { sfits = c.v-1.given }) c.if-v-lt0.true
 
 -- too great a count
 pub returns-then-l-count : goal.returns-then-l-count
 returns-then-l-count c =
-    span_many _ _ _ c.row-l.ensures c.requires (same_false the_type _ _ (sym c.eq.ensures ∙ c.if-eq.false)) c.if-values-at.false (tested (goal.at.returns-then-l-count c).After-is_absent c.if-is_absent.false) c.group_at-g.ensures (same_false the_type _ _ (sym c.eq-2.ensures ∙ c.if-eq-2.false))
+    span_many _ _ _ c.row-l.ensures c.args.sub.plain (same_false the_type _ _ (sym c.eq.ensures ∙ c.if-eq.false)) c.if-values-at.false (tested (goal.at.returns-then-l-count c).After-is_absent c.if-is_absent.false) c.group_at-g.ensures (same_false the_type _ _ (sym c.eq-2.ensures ∙ c.if-eq-2.false))
     (record { sfits = c.v-1.given }) c.if-v-lt0.false c.magnitude-count.ensures c.if-l-count.true
 
 pub overflow_add-at : goal.overflow_add-at
@@ -60,5 +60,5 @@ span_to-requires-2 c = (omega (arith, c.if-values-at.false), (omega (arith, c.if
 -- a list
 pub returns : goal.returns
 returns c =
-    span_list _ _ _ c.row-l.ensures c.requires (same_false the_type _ _ (sym c.eq.ensures ∙ c.if-eq.false)) c.if-values-at.false (tested (goal.at.returns c).After-is_absent c.if-is_absent.false) c.group_at-g.ensures (same_false the_type _ _ (sym c.eq-2.ensures ∙ c.if-eq-2.false))
+    span_list _ _ _ c.row-l.ensures c.args.sub.plain (same_false the_type _ _ (sym c.eq.ensures ∙ c.if-eq.false)) c.if-values-at.false (tested (goal.at.returns c).After-is_absent c.if-is_absent.false) c.group_at-g.ensures (same_false the_type _ _ (sym c.eq-2.ensures ∙ c.if-eq-2.false))
     (record { sfits = c.v-1.given }) c.if-v-lt0.false c.magnitude-count.ensures c.if-l-count.false c.span_to-2.ensures
