@@ -44,13 +44,11 @@ impl RecordMap {
 fn type_octet(of: usize, frn: usize, kind: u8, item: &[u8]) -> u8
     ensures { result ≡ (when eqb frn of then get_or item.now 0 0 else kind) }
 {
-    if frn != of {
-        return kind;
+    if frn == of {
+        item.first().copied().unwrap_or(0)
+    } else {
+        kind
     }
-    if item.len() == 0 {
-        return 0;
-    }
-    item[0]
 }
 
 // The item at an FRN: at once where the table tells it, and else by the exact check.
@@ -79,6 +77,7 @@ fn walk_items(
     let mut rest = part;
     let mut kind: u8 = 0;
     for frn in set.frns() {
+        // Taken apart by `let .. else`, not handed on by `?`: docs/DECISIONS.md has this form, and the place is counted on.
         let item = item_check(t, profile, frn, rest);
         let Ok(n) = item else {
             return Err(item.unwrap_err().later(map.end));
