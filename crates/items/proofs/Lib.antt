@@ -1,4 +1,3 @@
-pub mod Tellings
 pub mod PlaceLaws
 pub mod CheckLaws
 pub mod OneLaws

@@ -12,7 +12,7 @@ use Rattle.layouts.proofs.SoundLaws.{layout_sound}
 use Rattle.compounds.specs.Compound.{shaped, item_sound}
 use Rattle.compounds.proofs.ItemLaws.{row_item}
 use Rattle.compounds.proofs.SizeLaws.{size_read, size_refused}
-use Rattle.items.proofs.Tellings.{refused_as, handed}
+use Rattle.rules.proofs.ToldLaws.{refused_as, handed}
 use Rattle.items.specs.Answers.{Single, Free}
 use Rattle.items.proofs.CheckLaws.{single_size_lem, single_sound, free_cut, free_there, one_part}
 use Rattle.items.proofs.check_at.Goals as goal

@@ -4,7 +4,7 @@ use mathlib.Core.Logic.{⊎_elim}
 use native.Mathlib.Omega.{arith}
 use Rattle.tables.proofs.TableLaws.{none_past, none_other}
 use Rattle.layouts.proofs.OctetLaws.{octets_known}
-use Rattle.items.proofs.Tellings.{refused_as}
+use Rattle.rules.proofs.ToldLaws.{refused_as}
 use Rattle.items.proofs.CheckLaws.{check_place, no_place_lem}
 use Rattle.items.proofs.check_item.Goals as goal
 

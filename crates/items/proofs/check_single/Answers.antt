@@ -1,7 +1,7 @@
 -- `items::check_single` meets its contract. Assumes nothing.
 use mathlib.Core.Path.{◌∙◌}
 use lib.Dec.{lit≤}
-use Rattle.items.proofs.Tellings.{refused_as}
+use Rattle.rules.proofs.ToldLaws.{refused_as}
 use Rattle.items.proofs.CheckLaws.{single_cut, single_legal, single_barred, single_walk}
 use Rattle.items.proofs.check_single.Goals as goal
 

@@ -15,7 +15,7 @@ use Rattle.layouts.proofs.OctetLaws.{octets_known}
 use Rattle.layouts.proofs.SoundLaws.{layout_sound}
 use Rattle.compounds.specs.Compound.{item_sound}
 use Rattle.compounds.proofs.ItemLaws.{row_item}
-use Rattle.items.proofs.Tellings.{refused_as, begun, handed, missing}
+use Rattle.rules.proofs.ToldLaws.{refused_as, begun, handed, missing}
 use Rattle.items.proofs.OneLaws.{one_none, one_refused, one_longer, one_whole}
 use Rattle.items.proofs.read_item.Goals as goal
 use Rattle.items.proofs.read_item.Goals.{After-layout_at-l}

@@ -6,7 +6,7 @@ use Rattle.rules.specs.Catalogue.{categories}
 use Rattle.rules.specs.Entry.{layout_of}
 use Rattle.rules.specs.Told.{number_of}
 use Rattle.tables.specs.Tables.{layout_count, layout_is, layout_at}
-use Rattle.items.proofs.Tellings.{begun, missing}
+use Rattle.rules.proofs.ToldLaws.{begun, missing}
 use denote.Enum.Bare.{same_true, same_false}
 use Rattle.tables.specs.contracts.tables.Kind.{the_type}
 use Rattle.writing.proofs.ItemLaws.{no_layout, one_layout, has_format}
