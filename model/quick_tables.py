@@ -363,4 +363,4 @@ def measured(shape):
 
 
 def measured_shapes():
-    return ["const SHAPES: Shapes = ["] + shape_lines(measured) + ["];"]
+    return ["static ROWS: [u64; 2 * SLOTS] = ["] + shape_lines(measured) + ["];"]

@@ -15,7 +15,7 @@ use lib.Pow.{pow_pos, pow_mono, split, high, low}
 use lib.Dec.{leb, eqb, ltb}
 use lib.ListN.{length, get_or, take, drop, length-drop, drop_of_length-le}
 use lib.Seq.{get_or-drop}
-use borrow.Author.Tests.{leb-true, ltb-true, eqb-true, le-leb, lt-leb, eq-eqb, ne_eqb}
+use borrow.Author.Tests.{leb-true, ltb-true, le-leb, lt-leb, eq-eqb, ne_eqb}
 use Rattle.rules.specs.Answer.{Answer, ok, refused, when◌then◌else◌}
 use Rattle.rules.specs.Presence.{flags}
 use Rattle.rules.specs.Catalogue.{categories}
@@ -24,22 +24,26 @@ use Rattle.rules.proofs.PresenceLaws.{flags_length}
 use Rattle.tables.specs.Tables.{profile_count, frn_count, groups, layouts, group_at, layout_at, place_row_at}
 use Rattle.tables.specs.Profiles.{profile_row_at}
 use Rattle.layouts.proofs.ReadLaws.{le_or_lt}
-use Rattle.items.specs.Answers.{checked_of, check_at, profile_in}
-use Rattle.items.specs.declared.ItemCheck.{ItemCheck}
-use Rattle.items.specs.declared.ItemCheck.TheVariants as check
+use Rattle.std.specs.Prelude.{Result, Ok, Err, Some, None}
+use Rattle.std.specs.Prelude as code
+use Rattle.std.specs.Result.{result_unwrap_or}
+use Rattle.items.specs.Answers.{checked_of, check_at}
 use Rattle.sets.specs.Sets.{set_at}
 use Rattle.sets.specs.Steps.{type_frn}
 use Rattle.sets.specs.Answers.{set_of}
-use Rattle.sets.specs.declared.ItemSet.{ItemSet}
-use Rattle.sets.specs.declared.SetRead.{SetRead}
-use Rattle.sets.specs.declared.SetRead.TheVariants as set
+use Rattle.sets.specs.declared.Fspec.{Fspec}
+use Rattle.rules.specs.declared.faults.Fault.{Fault}
+use Rattle.rules.specs.declared.faults.Refusal.{Refusal}
 use Rattle.sets.proofs.FlagLaws.{flags_split, First, first, first_from, first_rest, first_flags}
 use Rattle.tables.specs.Tests.{all_below}
+use Rattle.tables.specs.declared.tables.Kind.{Kind}
+use Rattle.tables.specs.declared.tables.Kind.TheVariants as parts
+use Rattle.tables.proofs.KindLaws.{kind_true}
 use Rattle.quick_items.specs.Item.{octets_by, first_tells, row_octets, row_tells, is_place, row_of, tells_at, size_or0, octets_at}
 use Rattle.tables.proofs.TableLaws.{all_below_lem}
 use Rattle.records.proofs.PlaceLaws.{check_within}
 use Rattle.quick_items.proofs.ItemLaws.{octet_at}
-use Rattle.measuring.specs.Measure.{end_from, end_of, start_of, time_frn, is_in, is_untimed, clock_at, time_in, sized, measure_by, measure_in, measure_of}
+use Rattle.measuring.specs.Measure.{end_from, end_of, start_of, time_frn, is_in, is_untimed, clock_at, time_in, time_out, sized, measure_by, measure_in}
 use Rattle.measuring.specs.Shape.{is_fixed, by_first}
 use Rattle.measuring.proofs.CategoryLaws.{untimed_told}
 
@@ -50,12 +54,13 @@ few_at : all_below profile_count (λ i. all_below frn_count (λ f. leb (group_at
 unfolding group_at layout_at place_row_at groups layouts categories
 few_at = refl
 
-octets_by_lem : (k n x : ℕ) → n ≤ 255 → x < 256 → octets_by k n x ≤ 65_026
-octets_by_lem zero n x l h = omega arith
-octets_by_lem (suc zero) n x l h = omega arith
-octets_by_lem (suc (suc zero)) n x l h = let m : x * n ≤ x * 255 = mul-le-mul_left x l in omega arith
-octets_by_lem (suc (suc (suc zero))) n x l h = omega arith
-octets_by_lem (suc (suc (suc (suc k)))) n x l h = omega arith
+octets_by_lem : (k : Kind) (n x : ℕ) → n ≤ 255 → x < 256 → octets_by k n x ≤ 65_026
+octets_by_lem parts.NoItem n x l h = omega arith
+octets_by_lem parts.Fixed n x l h = omega arith
+octets_by_lem parts.Repeated n x l h = let m : x * n ≤ x * 255 = mul-le-mul_left x l in omega arith
+octets_by_lem parts.Led n x l h = omega arith
+octets_by_lem parts.Extended n x l h = omega arith
+octets_by_lem parts.Compound n x l h = omega arith
 
 -- as many as its first octet tells, or no more than there are
 octets_most : (i f : ℕ) (bs : List ℕ) → Octets bs → (octets_at i f bs ≤ 65_026) ⊎ (octets_at i f bs ≤ length bs)
@@ -86,8 +91,12 @@ octets_most i f bs o = go (is_place i f) refl
     go true e = by e (row_tells (row_of i f))
     go false e = inr (asked (check_at i f bs) refl)
 
+or0 : (c : Result ℕ Refusal) → result_unwrap_or c 0 ≡ size_or0 (checked_of c)
+or0 (Ok n) = refl
+or0 (Err r) = refl
+
 -- by a check of the octets from a place on, or from the end where the place lies past it
-module _ (i f : ℕ) (bs : List ℕ) (at : ℕ) {from : ℕ} (c : ItemCheck) (ef : from ≡ min at (length bs)) (ec : checked_of c ≡ check_at i f (take (length bs - from) (drop from bs))) where
+module _ (i f : ℕ) (bs : List ℕ) (at : ℕ) {from : ℕ} (c : Result ℕ Refusal) (ef : from ≡ min at (length bs)) (ec : checked_of c ≡ check_at i f (take (length bs - from) (drop from bs))) where
   left : drop from bs ≡ drop at bs
   left =
       ⊎_elim
@@ -98,11 +107,8 @@ module _ (i f : ℕ) (bs : List ℕ) (at : ℕ) {from : ℕ} (c : ItemCheck) (ef
   check_is : checked_of c ≡ check_at i f (drop at bs)
   check_is = ec ∙ ap (check_at i f) (to_end bs from ∙ left)
 
-  pub asked_whole : (n : ℕ) → c ≡ check.Whole n → n ≡ size_or0 (check_at i f (drop at bs))
-  asked_whole n e = ap size_or0 (sym (ap checked_of e) ∙ check_is)
-
-  pub asked_refused : (n p : ℕ) → c ≡ check.Refused n p → 0 ≡ size_or0 (check_at i f (drop at bs))
-  asked_refused n p e = ap size_or0 (sym (ap checked_of e) ∙ check_is)
+  pub asked_size : result_unwrap_or c 0 ≡ size_or0 (check_at i f (drop at bs))
+  asked_size = or0 c ∙ ap size_or0 check_is
 
 pub first_at : (bs : List ℕ) (at : ℕ) → get_or bs at 0 ≡ get_or (drop at bs) 0 0
 first_at bs at = sym (get_or-drop at bs 0 0 ∙ ap (λ x. get_or bs x 0) (add-zero at))
@@ -119,22 +125,26 @@ octets_fixed i f bs at h =
     ∙ ap (λ k. octets_by k (group_at (row_of i f).first).octets (get_or bs at 0)) one
     ∙ sym (ap (λ k. octets_by k (group_at (row_of i f).first).octets 0) one)
   where
-    one : (row_of i f).kind ≡ 1
-    one = eqb-true (row_of i f).kind 1 (both_right (is_place i f) _ h)
+    one : (row_of i f).kind ≡ parts.Fixed
+    one = kind_true (row_of i f).kind parts.Fixed (both_right (is_place i f) _ h)
 
 -- ---- numbers as the code has them
 
 -- three octets, the higher first
 module _ (bs : List ℕ) (at : ℕ) where
-  pub clock_past : length bs < at + 3 → none ≡ clock_at bs at
+  pub clock_past : length bs < at + 3 → None ≡ time_out (clock_at bs at)
   unfolding clock_at
-  clock_past h = sym (if_false _ (lt-leb (at + 3) (length bs) h) refl)
+  clock_past h = ap time_out (sym (if_false _ (lt-leb (at + 3) (length bs) h) refl))
 
-  pub clock_there : (n : ℕ) {x y z : ℕ} → at + 3 ≤ length bs → x ≡ get_or bs at 0 → y ≡ get_or bs (at + 1) 0 → z ≡ get_or bs (at + 2) 0
-      → record { size = n; timed = true; time = x * 65_536 + y * 256 + z } ≡ sized n (clock_at bs at)
+  pub clock_there : {x y z : ℕ} → at + 3 ≤ length bs → x ≡ get_or bs at 0 → y ≡ get_or bs (at + 1) 0 → z ≡ get_or bs (at + 2) 0
+      → Some (x * 65_536 + y * 256 + z) ≡ time_out (clock_at bs at)
   unfolding clock_at
-  clock_there n h a b d =
-      ap (sized n) (ap₂ (λ u w. some (u + w)) (ap₂ (λ u w. u * 65_536 + w * 256) a b) d ∙ sym (if_true _ (le-leb (at + 3) (length bs) h) refl))
+  clock_there h a b d =
+      ap time_out (ap₂ (λ u w. some (u + w)) (ap₂ (λ u w. u * 65_536 + w * 256) a b) d ∙ sym (if_true _ (le-leb (at + 3) (length bs) h) refl))
+
+-- with its size
+pub sized_at : (n : ℕ) (t : Option ℕ) {x : code.Option ℕ} → x ≡ time_out t → record { size = n; time = x } ≡ sized n t
+sized_at n t e = ap (λ x. record { size = n; time = x }) e
 
 -- the set before an FRN
 pub early_few : (bits f : ℕ) {early : ℕ} → early ≡ bits / 2 ^ (64 - f) * 2 ^ (64 - f) → early ≤ bits
@@ -334,13 +344,13 @@ module _ (i : ℕ) (bs : List ℕ) where
     ends b one few en = en ∙ ap₂ (λ x y. end_of i (bits - x) bs y) ee starts ∙ end_from_lem f bits used b one few
 
 -- by the set that was read
-module _ (cat : ℕ) (bs : List ℕ) {i : ℕ} (s : SetRead) (ei : i ≡ profile_in cat categories) (es : set_of s ≡ set_at i bs) where
-  by_set : measure_by i bs (set_of s) ≡ measure_of cat bs
-  unfolding measure_of measure_in
-  by_set = ap (measure_by i bs) es ∙ ap (λ x. measure_in x bs) ei
+module _ (i : ℕ) (bs : List ℕ) (s : Result Fspec Fault) (es : set_of s ≡ set_at i bs) where
+  by_set : measure_by i bs (set_of s) ≡ measure_in i bs
+  unfolding measure_in
+  by_set = ap (measure_by i bs) es
 
-  pub measure_no_set : (n : ℕ) → s ≡ set.Refused n → sized 0 none ≡ measure_of cat bs
-  measure_no_set n e = ap (λ x. measure_by i bs (set_of x)) (sym e) ∙ by_set
+  pub measure_no_set : (e : Fault) → s ≡ Err e → sized 0 none ≡ measure_in i bs
+  measure_no_set _ e = ap (λ x. measure_by i bs (set_of x)) (sym e) ∙ by_set
 
-  pub measure_items : (found : ItemSet) (used : ℕ) → s ≡ set.Items found used → measure_by i bs (ok (found.bits, used)) ≡ measure_of cat bs
-  measure_items found used e = ap (λ x. measure_by i bs (set_of x)) (sym e) ∙ by_set
+  pub measure_items : (f : Fspec) → s ≡ Ok f → measure_by i bs (ok (f.set.bits, f.octets)) ≡ measure_in i bs
+  measure_items f e = ap (λ x. measure_by i bs (set_of x)) (sym e) ∙ by_set

@@ -1,7 +1,7 @@
 -- A record of a known shape has the size and the time that the shape's row tells.
 --
 -- In order: an item, by its first octet; the items of flags; the time; a record; the table. Assumes nothing.
-use Prim.Native.Nat.{ℕ, zero, suc, ◌+◌, ◌-◌, ◌*◌, ◌%◌, ◌^◌, ◌≤◌, ◌<◌}
+use Prim.Native.Nat.{ℕ, ◌+◌, ◌-◌, ◌*◌, ◌%◌, ◌^◌, ◌≤◌, ◌<◌}
 use mathlib.Core.Path.{◌≡◌, refl, sym, ap, ap₂, ◌∙◌, subst}
 use mathlib.Core.Bool.{Bool, true, false, cond, ◌&&◌, false≢true}
 use mathlib.Core.Option.{Option, none}
@@ -23,13 +23,15 @@ use Rattle.sets.specs.Steps.{set_from, type_frn}
 use Rattle.sets.proofs.SetLaws.{octets_all}
 use Rattle.quick_items.specs.Item.{octets_by, row_of, tells_at, octets_at}
 use Rattle.tables.specs.Tables.{group_at}
+use Rattle.tables.specs.declared.tables.Kind.{Kind}
+use Rattle.tables.specs.declared.tables.Kind.TheVariants as parts
 use Rattle.tables.specs.Profiles.{profile_row_at}
 use Rattle.tables.proofs.TableLaws.{all_below_lem}
 use Rattle.quick_records.specs.Shape.{shape_count, low_number, low_octets, used_of, profile_of}
 use Rattle.quick_records.proofs.ShapeLaws.{cut_same, fspec_told}
 use Rattle.measuring.specs.Measure.{end_from, end_of, start_of, time_frn, is_in, is_untimed, clock_at, time_in, sized, measure_by, measure_in, measure_of}
 use Rattle.measuring.specs.declared.record.Measured.{Measured}
-use Rattle.measuring.specs.Shape.{is_fixed, by_first, part_octets, is_even, base_from, all_fixed, one_list, flags_before, starts_at, time_at, untimed_of, kind_of, time_of, base_of, place_of, part_of, row_by, sound_row, sound_shapes, Told}
+use Rattle.measuring.specs.Shape.{is_fixed, by_first, part_octets, is_even, base_from, all_fixed, one_list, flags_before, starts_at, time_at, untimed_of, kind_of, time_of, base_of, place_of, part_of, row_by, sound_row, sound_shapes}
 use Rattle.measuring.proofs.CategoryLaws.{untimed_told}
 use Rattle.measuring.proofs.EndLaws.{octets_told, octets_fixed}
 
@@ -63,12 +65,13 @@ extended = record { grow = λ e x. absurd (false≢true e) }
 octets_even : (i f : ℕ) → Evenly (by_first i f)
 octets_even i f = go (row_of i f).kind (group_at (row_of i f).first).octets
   where
-    go : (k n : ℕ) → Evenly (octets_by k n)
-    go zero n = always 0
-    go (suc zero) n = always n
-    go (suc (suc zero)) n = counted n
-    go (suc (suc (suc zero))) n = led
-    go (suc (suc (suc (suc k)))) n = extended
+    go : (k : Kind) (n : ℕ) → Evenly (octets_by k n)
+    go parts.NoItem n = always 0
+    go parts.Fixed n = always n
+    go parts.Repeated n = counted n
+    go parts.Led n = led
+    go parts.Extended n = extended
+    go parts.Compound n = extended
 
 -- ---- the items of flags
 
@@ -168,13 +171,10 @@ measured : (i bits used n : ℕ) (t : Option ℕ) (bs : List ℕ) → set_at i b
 unfolding measure_in
 measured i bits used n t bs h e et l = ap (measure_by i bs) h ∙ if_true _ (le-leb (end_of i bits bs used) (length bs) (omega (arith, e, l))) (ap₂ sized e et)
 
--- no size, which tells nothing
-pub told_none : (i : ℕ) (bs : List ℕ) (r : Measured) → r ≡ sized 0 none → Told r i bs
-told_none i bs r e z = absurd (z (ap (λ m. m.size) e))
-
-pub told_measure : (cat i : ℕ) (bs : List ℕ) (r : Measured) → i ≡ profile_in cat categories → Told r i bs → (r.size ≡ 0 → ⊥) → r ≡ measure_of cat bs
+-- of the profile of a category
+pub told_measure : (cat i : ℕ) (bs : List ℕ) (r : Measured) → i ≡ profile_in cat categories → measure_in i bs ≡ r → r ≡ measure_of cat bs
 unfolding measure_of
-told_measure cat i bs r e h z = sym (h z) ∙ ap (λ j. measure_in j bs) e
+told_measure cat i bs r e h = sym h ∙ ap (λ j. measure_in j bs) e
 
 -- the parts of a list, as a number that fits
 pub parts_fit : (x k : ℕ) → x < 256 → x * (k % 16) < 4_096
@@ -206,9 +206,9 @@ module _ (t : List ℕ) (s : sound_shapes t ≡ true) (k a b : ℕ) (l : k < sha
   -- octets that start with the shape's FSPEC, of its profile
   pub shape_told : (i word x : ℕ) (t : Option ℕ) (bs : List ℕ) (r : Measured) → ((j : ℕ) → Fits w8 (get_or bs j 0)) → profile_of a ≡ i → 5 ≤ length bs
       → word ≡ low_number 5 bs → word * 2 ^ (64 - 8 * used_of a) % 2 ^ 64 ≡ a * 2 ^ (64 - 8 * used_of a) % 2 ^ 64
-      → x ≡ get_or bs (place_of b) 0 → base_of b + x * part_of b ≤ length bs → time_by (time_of b) (kind_of b) (untimed_of b) bs ≡ t → r ≡ sized (base_of b + x * part_of b) t → Told r i bs
+      → x ≡ get_or bs (place_of b) 0 → base_of b + x * part_of b ≤ length bs → time_by (time_of b) (kind_of b) (untimed_of b) bs ≡ t → r ≡ sized (base_of b + x * part_of b) t → measure_in i bs ≡ r
   unfolding sound_row end_of
-  shape_told i word x t bs r known ep long ew ec ex fits et er z =
+  shape_told i word x t bs r known ep long ew ec ex fits et er =
       subst (λ j. measure_in j bs ≡ sized (base_of b + x * part_of b) t) ep (go read refl (both_right within (row_by (profile_of a) a b read) row)) ∙ sym er
     where
       go : (r : Answer (ℕ × ℕ)) → read ≡ r → row_by (profile_of a) a b r ≡ true → measure_in (profile_of a) bs ≡ sized (base_of b + x * part_of b) t

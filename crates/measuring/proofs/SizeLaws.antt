@@ -1,7 +1,7 @@
 -- An item that is legal has as many octets as are measured, by its first octet where that tells: one law of how parts lie.
 --
 -- In order: parts by FX bits; the shapes; the law. Assumes nothing.
-use Prim.Native.Nat.{ℕ, zero, suc, ◌+◌, ◌-◌, ◌%◌, ◌<◌}
+use Prim.Native.Nat.{ℕ, ◌+◌, ◌-◌, ◌%◌, ◌<◌}
 use mathlib.Core.Path.{◌≡◌, refl, sym, ap, ◌∙◌, subst}
 use mathlib.Core.Bool.{Bool, true, false, ◌&&◌, false≢true}
 use mathlib.Core.Logic.{⊎_elim}
@@ -14,6 +14,8 @@ use Rattle.rules.specs.Answer.{ok}
 use Rattle.rules.specs.Chain.{joined}
 use Rattle.rules.proofs.AnswerLaws.{if_true, if_false, refused_ok, ok_inj, bind_elim, need_elim, if_inv, both_left, both_right, Octets}
 use Rattle.tables.specs.declared.tables.LayoutRow.{LayoutRow}
+use Rattle.tables.specs.declared.tables.Kind.{Kind}
+use Rattle.tables.specs.declared.tables.Kind.TheVariants as parts
 use Rattle.tables.specs.Tables.{profile_count, frn_count, group_at}
 use Rattle.layouts.specs.Read.{Shaped, chain, list_shape, shape_by, shape_of, whole_size}
 use Rattle.layouts.proofs.WholeLaws.{whole_shape}
@@ -68,28 +70,28 @@ chain_two a bs s one two h =
 
 -- ---- the shapes: the octets of an item by how its parts lie, its group and its first octet
 
-shape_size : (k lo hi a e : ℕ) (bs : List ℕ) (s : Shaped) → first_tells k a e ≡ true → shape_by k lo hi a e bs ≡ ok s → s.1 ≡ octets_by k (group_at a).octets (get_or bs 0 0)
+shape_size : (k : Kind) (lo hi a e : ℕ) (bs : List ℕ) (s : Shaped) → first_tells k a e ≡ true → shape_by k lo hi a e bs ≡ ok s → s.1 ≡ octets_by k (group_at a).octets (get_or bs 0 0)
 unfolding shape_by list_shape
-shape_size zero lo hi a e bs s w h = refused_ok h
-shape_size (suc zero) lo hi a e bs s w h =
+shape_size parts.NoItem lo hi a e bs s w h = refused_ok h
+shape_size parts.Fixed lo hi a e bs s w h =
     need_elim _ _ _ h λ t g.
     ap (λ x. x.1) (sym (ok_inj g))
-shape_size (suc (suc zero)) lo hi a e bs s w h =
+shape_size parts.Repeated lo hi a e bs s w h =
     need_elim _ _ _ h λ t h₁.
     need_elim _ _ _ h₁ λ t₁ h₂.
     need_elim _ _ _ h₂ λ t₂ h₃.
     need_elim _ _ _ h₃ λ t₃ g.
     ap (λ x. x.1) (sym (ok_inj g))
-shape_size (suc (suc (suc zero))) lo hi a e bs s w h =
+shape_size parts.Led lo hi a e bs s w h =
     need_elim _ _ _ h λ t h₁.
     need_elim _ _ _ h₁ λ t₁ h₂.
     need_elim _ _ _ h₂ λ t₂ g.
     ap (λ x. x.1) (sym (ok_inj g))
-shape_size (suc (suc (suc (suc zero)))) lo hi a e bs s w h =
+shape_size parts.Extended lo hi a e bs s w h =
     let v : Short a e = short_of a e w in
     let n : e - a ≡ 2 = omega (arith, v.0) in
     chain_two a bs s v.1 v.2 (subst (λ x. chain a x bs ≡ ok s) n h)
-shape_size (suc (suc (suc (suc (suc k))))) lo hi a e bs s w h = refused_ok h
+shape_size parts.Compound lo hi a e bs s w h = refused_ok h
 
 row_size_lem : (l : LayoutRow) (bs : List ℕ) (n : ℕ) → row_tells l ≡ true → whole_size l bs ≡ ok n → n ≡ row_octets l (get_or bs 0 0)
 unfolding whole_size shape_of

@@ -1,5 +1,4 @@
--- For each function that another crate can call, no two distinct results meet its statement. Not `shapes`: a table may say less than the profiles do, which
--- is only slow, and none may say more (`sound_shapes`). Assumes nothing.
+-- For each function that another crate can call, no two distinct results meet its statement. Assumes nothing.
 use Prim.Native.Nat.{ℕ}
 use mathlib.Core.Path.{◌≡◌, sym, ◌∙◌}
 use mathlib.Core.List.{List}
@@ -8,6 +7,3 @@ use Rattle.measuring.specs.Measure.{measure_of}
 
 pub one_measure : (category : ℕ) (part : List ℕ) (a b : Measured) → a ≡ measure_of category part → b ≡ measure_of category part → a ≡ b
 one_measure category part a b p q = p ∙ sym q
-
-pub one_measure_by : (category : ℕ) (part : List ℕ) (a b : Measured) → a ≡ measure_of category part → b ≡ measure_of category part → a ≡ b
-one_measure_by = one_measure

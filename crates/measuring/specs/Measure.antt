@@ -2,7 +2,8 @@
 -- time (document 02, W-201). No rule of a field is asked but where the first octet does not tell (W-205). Assumes nothing.
 --
 -- In order: the items of a set; the time; a record.
-use Rattle.std.specs.Prelude.{ℕ, ◌+◌, ◌-◌, ◌*◌, ◌/◌, ◌%◌, ◌^◌, Bool, true, false, List, [], ◌∷◌, eqb, leb, length, get_or, drop}
+use Rattle.std.specs.Prelude.{ℕ, ◌+◌, ◌-◌, ◌*◌, ◌/◌, ◌%◌, ◌^◌, Bool, true, false, List, [], ◌∷◌, eqb, leb, length, get_or, drop, Some, None}
+use Rattle.std.specs.Prelude as code
 use Rattle.std.proofs.Math.Option.{Option, none, some}
 use Rattle.rules.specs.Answer.{Answer, ok, refused, when◌then◌else◌}
 use Rattle.rules.specs.Presence.{flags, has}
@@ -52,9 +53,13 @@ time_in i bits bs at =
 
 -- ---- a record
 
+-- a time, as the code has it
+abbrev pub time_out : Option ℕ → code.Option ℕ
+time_out none = None
+time_out (some t) = Some t
+
 abbrev pub sized : ℕ → Option ℕ → Measured
-sized n none = record { size = n; timed = false; time = 0 }
-sized n (some t) = record { size = n; timed = true; time = t }
+sized n t = record { size = n; time = time_out t }
 
 -- size 0 where it has no FSPEC of its profile, or ends past the octets
 abbrev pub measure_by : ℕ → List ℕ → Answer (ℕ × ℕ) → Measured

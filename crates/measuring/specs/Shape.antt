@@ -2,13 +2,15 @@
 -- counts as untimed. A row of the table says nothing that the profiles do not have. Assumes nothing.
 --
 -- In order: an item; the items of flags; the time; a row; the table; what an answer tells.
-use Rattle.std.specs.Prelude.{ℕ, ◌+◌, ◌-◌, ◌*◌, ◌/◌, ◌%◌, ◌^◌, ◌≡◌, Bool, true, false, cond, ◌&&◌, List, [], ◌∷◌, leb, ltb, eqb, length, get_or}
+use Rattle.std.specs.Prelude.{ℕ, ◌+◌, ◌-◌, ◌*◌, ◌/◌, ◌%◌, ◌^◌, ◌≡◌, Bool, true, false, cond, ◌&&◌, List, [], ◌∷◌, leb, ltb, eqb, length, get_or, Option, Some, None}
 use Rattle.rules.specs.Answer.{Answer, ok, refused}
 use Rattle.rules.specs.Presence.{flags}
 use Rattle.tables.specs.Profiles.{profile_row_at}
 use Rattle.sets.specs.Sets.{category_at}
 use Rattle.sets.specs.Steps.{set_from, type_frn}
 use Rattle.tables.specs.Tests.{all_below}
+use Rattle.tables.specs.declared.tables.Kind.TheVariants.{Fixed}
+use Rattle.tables.specs.Tables.{same_kind}
 use Rattle.quick_items.specs.Item.{row_octets, is_place, row_of, tells_at}
 use Rattle.quick_records.specs.Shape.{shape_count, low_octets, used_of, profile_of}
 use Rattle.measuring.specs.Measure.{time_frn, is_in, measure_in}
@@ -18,7 +20,7 @@ use Rattle.measuring.specs.declared.record.Measured.{Measured}
 
 -- it is one part
 abbrev pub is_fixed : ℕ → ℕ → Bool
-is_fixed i f = is_place i f && eqb (row_of i f).kind 1
+is_fixed i f = is_place i f && same_kind (row_of i f).kind Fixed
 
 -- its octets by its first octet, where that tells
 abbrev pub by_first : ℕ → ℕ → ℕ → ℕ
@@ -107,7 +109,8 @@ sound_row a b =
 unfoldable pub sound_shapes : List ℕ → Bool
 sound_shapes t = all_below shape_count (λ k. sound_row (get_or t (2 * k) 0) (get_or t (2 * k + 1) 0))
 
--- ---- what an answer tells: nothing where its size is 0
+-- ---- what an answer tells, where there is one
 
-abbrev pub Told : Measured → ℕ → List ℕ → Type 0
-Told r i bs = (r.size ≡ 0 → ⊥) → measure_in i bs ≡ r
+abbrev pub Told : Option Measured → ℕ → List ℕ → Type 0
+Told None i bs = Unit {0}
+Told (Some r) i bs = measure_in i bs ≡ r

@@ -5,5 +5,5 @@
 mod record;
 mod shape;
 
-pub use record::{Measured, measure};
-pub use shape::{Shapes, measure_by, shapes};
+pub use record::Measured;
+pub use shape::measure;

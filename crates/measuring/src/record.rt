@@ -1,25 +1,25 @@
 // Item by item, in one pass: where there is a time, the items before it, and from there on the others.
-ghost use Rattle.std.specs.Prelude.{◌≡◌, true, ◌-◌, ◌*◌, ◌/◌, ◌^◌, ◌≤◌, ◌<◌, min, get_or, drop};
+ghost use Rattle.std.specs.Prelude.{◌≡◌, ◌-◌, ◌*◌, ◌/◌, ◌^◌, ◌≤◌, ◌<◌, get_or, drop};
 ghost use Rattle.std.proofs.Math.Option.{none};
 ghost use Rattle.rules.specs.Answer.{ok};
 ghost use Rattle.sets.specs.Steps.{type_frn};
 ghost use Rattle.items.specs.Answers.{check_at};
-ghost use Rattle.quick_items.specs.Item.{exact_steps, size_or0, octets_at};
-ghost use Rattle.measuring.specs.Measure.{end_of, start_of, time_frn, is_untimed, clock_at, time_in, sized, measure_by, measure_of};
+ghost use Rattle.quick_items.specs.Item.{size_or0, octets_at};
+ghost use Rattle.measuring.specs.Measure.{end_of, start_of, time_frn, is_untimed, clock_at, time_in, time_out, sized, measure_by, measure_in};
 
-use items::{ItemCheck, check_item};
+use items::check_item;
 use numbers::{octet, wide};
-use quick_items::{EXTENDED, Steps, steps, word_of};
-use sets::{ItemSet, SetRead, type_frn, weight};
-use tables::{profile_of, profile_row};
+use quick_items::{Kind, Steps, kind_of};
+use sets::{ItemSet, type_frn, weight};
+use tables::profile_row;
 
 // How many octets a record has, 0 where it has no FSPEC of its category or ends past what is lent; and its time of day, in 1/128 s, where it counts as
-// timed, 0 where not.
-#[derive(Drop)]
+// timed.
+#[derive(Clone, Copy, Debug, PartialEq, Eq)]
 pub struct Measured {
+    // 0 rather than no record, as a standing at a log's end has it, in C too.
     pub size: usize,
-    pub timed: bool,
-    pub time: u64,
+    pub time: Option<u64>,
 }
 
 // The octet at a place, 0 past the end.
@@ -32,32 +32,21 @@ pub fn octet_at(part: &[u8], at: usize) -> usize
     octet(part[at])
 }
 
-fn lesser(a: usize, b: usize) -> usize
-    ensures { result ≡ min a b }
-{
-    if a < b { a } else { b }
-}
+// A profile and a part travel together from here on, and are no struct: of a slice in a struct it is not known that its items are octets.
 
 // The octets of the item at an FRN that starts at a place, by its check; 0 where it is refused.
 fn asked_octets(profile: usize, frn: usize, part: &[u8], at: usize) -> usize
     ensures { result ≡ size_or0 (check_at profile frn (drop at part.now)) }
 {
-    let from = lesser(at, part.len());
-    match check_item(profile, frn, &part[from..]) {
-        ItemCheck::Whole(size) => size,
-        ItemCheck::Refused {
-            number: _,
-            place: _,
-        } => 0,
-    }
+    let from = at.min(part.len());
+    check_item(profile, frn, &part[from..]).unwrap_or(0)
 }
 
 // The same by its word, and where it is not one part by its first octet. A word of 0 says that the first octet does not tell.
-fn octets_at(t: &Steps, profile: usize, frn: usize, part: &[u8], at: usize) -> usize
-    requires { exact_steps t.now ≡ true }
+fn octets_at(profile: usize, frn: usize, part: &[u8], at: usize) -> usize
     ensures { result ≡ octets_at profile frn (drop at part.now) }
 {
-    let w = word_of(t, profile, frn);
+    let w = Steps::new().word_of(profile, frn);
     if w < 8 {
         if w == 0 {
             return asked_octets(profile, frn, part, at);
@@ -65,22 +54,23 @@ fn octets_at(t: &Steps, profile: usize, frn: usize, part: &[u8], at: usize) -> u
         return w;
     }
     let x = octet_at(part, at);
-    if w / 256 % 16 == EXTENDED {
-        return 1 + x % 2;
+    match kind_of(w) {
+        Kind::Extended => 1 + x % 2,
+        _ => w % 16 + x * (w / 16 % 16),
     }
-    w % 16 + x * (w / 16 % 16)
 }
 
 // Where the items of a set end, from a place on.
-fn items_from(t: &Steps, profile: usize, bits: u64, part: &[u8], from: usize) -> usize
-    requires { (bits < 2 ^ 63) × (from < 0x8000_0000_0040_0000) × (exact_steps t.now ≡ true) }
+fn items_from(profile: usize, bits: u64, part: &[u8], from: usize) -> usize
+    requires { (bits < 2 ^ 63) × (from < 0x8000_0000_0040_0000) }
     ensures { result ≡ end_of profile bits part.now from }
 {
     let mut left = bits;
     let mut at = from;
+    // Not a `for`: what is counted down is the set itself, and the next FRN is a look at it.
     while left != 0 {
         let frn = u64::leading_zeros(left) as usize;
-        at = at + octets_at(t, profile, frn, part, at);
+        at = at + octets_at(profile, frn, part, at);
         left = left - weight(frn);
     }
     at
@@ -95,15 +85,15 @@ fn before(bits: u64, frn: usize) -> u64
 }
 
 // Whether the record's message type is one that counts as untimed.
-fn is_untimed(t: &Steps, profile: usize, bits: u64, part: &[u8], from: usize) -> bool
-    requires { (bits < 2 ^ 63) × (from < 2 ^ 63) × (exact_steps t.now ≡ true) }
+fn is_untimed(profile: usize, bits: u64, part: &[u8], from: usize) -> bool
+    requires { (bits < 2 ^ 63) × (from < 2 ^ 63) }
     ensures { result ≡ is_untimed profile (get_or part.now (start_of profile (type_frn profile) bits part.now from) 0) }
 {
     let untimed_type = profile_row(profile).untimed as usize;
     if untimed_type == 0 {
         return false;
     }
-    let place = items_from(t, profile, before(bits, type_frn(profile)), part, from);
+    let place = items_from(profile, before(bits, type_frn(profile)), part, from);
     octet_at(part, place) + 1 == untimed_type
 }
 
@@ -111,26 +101,18 @@ fn is_untimed(t: &Steps, profile: usize, bits: u64, part: &[u8], from: usize) ->
 pub fn untimed(size: usize) -> Measured
     ensures { result ≡ sized size none }
 {
-    Measured {
-        size: size,
-        timed: false,
-        time: 0,
-    }
+    Measured { size, time: None }
 }
 
-// One of so many octets whose time stands at a place.
-pub fn timed(size: usize, part: &[u8], at: usize) -> Measured
+// The time that stands at a place, three octets; none where they end past the part.
+pub fn clock_at(part: &[u8], at: usize) -> Option<u64>
     requires { at < 0x8000_0000_0080_0000 }
-    ensures { result ≡ sized size (clock_at part.now at) }
+    ensures { result ≡ time_out (clock_at part.now at) }
 {
     if part.len() < at + 3 {
-        return untimed(size);
+        return None;
     }
-    Measured {
-        size: size,
-        timed: true,
-        time: wide(part[at]) * 65536 + wide(part[at + 1]) * 256 + wide(part[at + 2]),
-    }
+    Some(wide(part[at]) * 65536 + wide(part[at + 1]) * 256 + wide(part[at + 2]))
 }
 
 // The FRN of the time, 0 where the profile has none.
@@ -141,11 +123,11 @@ fn time_frn(profile: usize) -> usize
 }
 
 // A record that is not timed, whose set has been read.
-fn measure_untimed(t: &Steps, profile: usize, bits: u64, part: &[u8], from: usize) -> Measured
-    requires { (bits < 2 ^ 63) × (from < 2 ^ 63) × (time_in profile bits part.now from ≡ none) × (exact_steps t.now ≡ true) }
+fn measure_untimed(profile: usize, bits: u64, part: &[u8], from: usize) -> Measured
+    requires { (bits < 2 ^ 63) × (from < 2 ^ 63) × (time_in profile bits part.now from ≡ none) }
     ensures { result ≡ measure_by profile part.now (ok (bits, from)) }
 {
-    let end = items_from(t, profile, bits, part, from);
+    let end = items_from(profile, bits, part, from);
     if part.len() < end {
         return untimed(0);
     }
@@ -153,34 +135,36 @@ fn measure_untimed(t: &Steps, profile: usize, bits: u64, part: &[u8], from: usiz
 }
 
 // Any record whose set has been read: most have no time, and need no look for it.
-fn measure_set(t: &Steps, profile: usize, bits: u64, part: &[u8], from: usize) -> Measured
-    requires { (bits < 2 ^ 63) × (from < 2 ^ 63) × (exact_steps t.now ≡ true) }
+fn measure_set(profile: usize, bits: u64, part: &[u8], from: usize) -> Measured
+    requires { (bits < 2 ^ 63) × (from < 2 ^ 63) }
     ensures { result ≡ measure_by profile part.now (ok (bits, from)) }
 {
     let frn = time_frn(profile);
     if (bits >> (63 - frn)) % 2 != 1 {
-        return measure_untimed(t, profile, bits, part, from);
+        return measure_untimed(profile, bits, part, from);
     }
-    if is_untimed(t, profile, bits, part, from) {
-        return measure_untimed(t, profile, bits, part, from);
+    if is_untimed(profile, bits, part, from) {
+        return measure_untimed(profile, bits, part, from);
     }
     let early = before(bits, frn);
-    let start = items_from(t, profile, early, part, from);
-    let end = items_from(t, profile, bits - early, part, start);
+    let start = items_from(profile, early, part, from);
+    let end = items_from(profile, bits - early, part, start);
     if part.len() < end {
         return untimed(0);
     }
-    timed(end, part, start)
+    Measured {
+        size: end,
+        time: clock_at(part, start),
+    }
 }
 
-// The record at the start of a part.
-pub fn measure(category: u8, part: &[u8]) -> Measured
-    ensures { result ≡ measure_of category part.now }
+// The record at the start of a part. Seldom called, so not compiled into the loops that measure.
+#[inline(never)]
+pub fn by_items(profile: usize, part: &[u8]) -> Measured
+    ensures { result ≡ measure_in profile part.now }
 {
-    let profile = profile_of(category);
-    let SetRead::Items { set, octets } = ItemSet::from_octets(profile, part) else {
-        return untimed(0);
-    };
-    let t = steps();
-    measure_set(&t, profile, set.bits, part, octets)
+    match ItemSet::from_octets(profile, part) {
+        Ok(fspec) => measure_set(profile, fspec.set.bits, part, fspec.octets),
+        Err(_) => untimed(0),
+    }
 }

@@ -4,12 +4,10 @@ ghost use Rattle.std.specs.Prelude.{◌≡◌, true};
 ghost use Rattle.measuring.specs.Measure.{measure_of};
 ghost use Rattle.measuring.specs.Shape.{sound_shapes, Told};
 
-use super::record::{Measured, measure, octet_at, timed, untimed};
+use super::record::{Measured, by_items, clock_at, octet_at, untimed};
 use numbers::octet;
 use quick_records::{SLOTS, first_five, long, slot_of};
 use tables::profile_of;
-
-pub type Shapes = [u64; 2 * SLOTS];
 
 // Shapes, made by model/make.py, each where `quick_records::slot_of` looks for it: those of `quick_records` that have no item with FX bits or subfields, one
 // list or led item at most, and no time or message type of a timed record after that. A shape has two words, with columns: the profile; nothing; the octets
@@ -17,7 +15,7 @@ pub type Shapes = [u64; 2 * SLOTS];
 // the time stands; the octets of the record without the parts of its list; where the list stands; the octets of a part. A led item is a list of octets, its
 // length octet among them. Where there is no time its first three columns are 0, where there is no list its last two.
 // ---- made by model/make.py: SHAPES
-const SHAPES: Shapes = [
+static ROWS: [u64; 2 * SLOTS] = [
     0x1_0000_1_00000000E0, // no shape: category 018, FSPEC E0 again
     0x000_00_00_06_00_0,
     0x1_0000_1_00000000E0, // no shape: category 018, FSPEC E0 again
@@ -149,58 +147,66 @@ const SHAPES: Shapes = [
 ];
 // ---- end of what is made
 
-pub fn shapes() -> Shapes
-    ensures { sound_shapes result ≡ true }
-{
-    SHAPES
+// A row says nothing that the profiles do not have.
+#[derive(Clone, Copy)]
+struct Shapes {
+    rows: &'static [u64; 2 * SLOTS],
+    ghost sound: { sound_shapes rows.now ≡ true },
 }
 
-// The record at the start of a part, where it has a known shape and ends within the part; a size of 0 tells nothing.
-pub fn measure_shape(shapes: &Shapes, profile: usize, part: &[u8]) -> Measured
-    requires { sound_shapes shapes.now ≡ true }
-    ensures { Told result profile part.now }
-{
-    if part.len() < 5 {
-        return untimed(0);
+impl Shapes {
+    fn new() -> Shapes {
+        Shapes { rows: &ROWS }
     }
-    let five = first_five(part);
-    let at = 2 * slot_of(five, profile);
-    let shape = long(shapes[at]);
-    if shape / 0x1000_0000_0000_0000 != profile {
-        return untimed(0);
+
+    // The record at the start of a part, where it has a known shape and ends within the part.
+    fn told(&self, profile: usize, part: &[u8]) -> Option<Measured>
+        ensures { Told result profile part.now }
+    {
+        if part.len() < 5 {
+            return None;
+        }
+        let five = first_five(part);
+        let at = 2 * slot_of(five, profile);
+        let shape = long(self.rows[at]);
+        if shape / 0x1000_0000_0000_0000 != profile {
+            return None;
+        }
+        let used = shape / 0x100_0000_0000 % 16;
+        let up = 64 - 8 * used;
+        if five << up != shape << up {
+            return None;
+        }
+        let row = long(self.rows[at + 1]);
+        let place = row / 16 % 256;
+        if part.len() <= place {
+            return None;
+        }
+        let size = row / 4096 % 256 + octet(part[place]) * (row % 16);
+        if part.len() < size {
+            return None;
+        }
+        let time = row / 0x10_0000 % 256;
+        if time == 0 {
+            return Some(untimed(size));
+        }
+        if octet_at(part, row / 0x1000_0000 % 256) + 1 == row / 0x10_0000_0000 {
+            return Some(untimed(size));
+        }
+        Some(Measured {
+            size,
+            time: clock_at(part, time),
+        })
     }
-    let used = shape / 0x100_0000_0000 % 16;
-    let up = 64 - 8 * used;
-    if five << up != shape << up {
-        return untimed(0);
-    }
-    let row = long(shapes[at + 1]);
-    let place = row / 16 % 256;
-    if part.len() <= place {
-        return untimed(0);
-    }
-    let size = row / 4096 % 256 + octet(part[place]) * (row % 16);
-    if part.len() < size {
-        return untimed(0);
-    }
-    let time = row / 0x10_0000 % 256;
-    if time == 0 {
-        return untimed(size);
-    }
-    if octet_at(part, row / 0x1000_0000 % 256) + 1 == row / 0x10_0000_0000 {
-        return untimed(size);
-    }
-    timed(size, part, time)
 }
 
 // The record at the start of a part: by its shape, and else item by item.
-pub fn measure_by(shapes: &Shapes, category: u8, part: &[u8]) -> Measured
-    requires { sound_shapes shapes.now ≡ true }
+pub fn measure(category: u8, part: &[u8]) -> Measured
     ensures { result ≡ measure_of category part.now }
 {
-    let known = measure_shape(shapes, profile_of(category), part);
-    if known.size != 0 {
-        return known;
+    let profile = profile_of(category);
+    match Shapes::new().told(profile, part) {
+        Some(known) => known,
+        None => by_items(profile, part),
     }
-    measure(category, part)
 }

@@ -24,7 +24,7 @@ pub before-requires : goal.before-requires
 before-requires c = (omega (arith, frn_some (goal.at.before-requires c).Else-untimed_type-eq0, c.type_frn.ensures), omega (arith, type_few c.args.profile, c.type_frn.ensures))
 
 pub items_from-place-requires : goal.items_from-place-requires
-items_from-place-requires c = (omega (arith, early_few _ _ c.before-2.ensures, c.requires.0), omega (arith, c.requires.1), c.requires.2)
+items_from-place-requires c = (omega (arith, early_few _ _ c.before-2.ensures, c.requires.0), omega (arith, c.requires.1))
 
 pub returns : goal.returns
 returns c = untimed_is _ _ _ _ c.type_frn.result (row (goal.at.returns c).After-struct_known-1) c.type_frn.ensures c.before-2.ensures c.items_from-place.ensures c.octet_at.ensures.0

@@ -6,7 +6,7 @@ use lib.ListN.{length}
 use Rattle.sets.proofs.SetLaws.{octets_all}
 use Rattle.measuring.specs.Measure.{start_of, end_of}
 use Rattle.measuring.proofs.CategoryLaws.{time_few, frn_some}
-use Rattle.measuring.proofs.EndLaws.{end_far, early_few, time_absent, time_none, time_there, starts, ends, measure_past, measure_there}
+use Rattle.measuring.proofs.EndLaws.{end_far, early_few, time_absent, time_none, time_there, starts, ends, sized_at, measure_past, measure_there}
 use Rattle.rules.specs.Entry.{map_places}
 use Rattle.measuring.proofs.record.measure_set.Goals as goal
 use Rattle.measuring.proofs.record.measure_set.Goals.{After-items_from-end, After-items_from-start, After-time_frn-frn, Else-bits-frn-ne1}
@@ -22,17 +22,17 @@ pub overflow_sub-frn : goal.overflow_sub-frn
 overflow_sub-frn c = omega (arith, few (goal.at.overflow_sub-frn c).After-time_frn-frn)
 
 pub measure_untimed-requires : goal.measure_untimed-requires
-measure_untimed-requires c = (c.requires.0, c.requires.1, time_absent _ c.args.part.now _ _ c.time_frn-frn.ensures c.if-bits-frn-ne1.true, c.requires.2)
+measure_untimed-requires c = (c.requires.0, c.requires.1, time_absent _ c.args.part.now _ _ c.time_frn-frn.ensures c.if-bits-frn-ne1.true)
 
 pub measure_untimed-requires-then-is_untimed : goal.measure_untimed-requires-then-is_untimed
 measure_untimed-requires-then-is_untimed c =
-    (c.requires.0, c.requires.1, time_none _ c.args.part.now _ _ c.time_frn-frn.ensures c.if-bits-frn-ne1.false c.is_untimed.ensures c.if-is_untimed.true, c.requires.2)
+    (c.requires.0, c.requires.1, time_none _ c.args.part.now _ _ c.time_frn-frn.ensures c.if-bits-frn-ne1.false c.is_untimed.ensures c.if-is_untimed.true)
 
 pub before-early-requires : goal.before-early-requires
 before-early-requires c = (some (goal.at.before-early-requires c).Else-bits-frn-ne1, omega (arith, few (goal.at.before-early-requires c).After-time_frn-frn))
 
 pub items_from-start-requires : goal.items_from-start-requires
-items_from-start-requires c = (omega (arith, early_few _ _ c.before-early.ensures, c.requires.0), omega (arith, c.requires.1), c.requires.2)
+items_from-start-requires c = (omega (arith, early_few _ _ c.before-early.ensures, c.requires.0), omega (arith, c.requires.1))
 
 pub overflow_sub-bits : goal.overflow_sub-bits
 overflow_sub-bits c = early_few _ _ c.before-early.ensures
@@ -52,16 +52,16 @@ end_is c =
     ends _ c.args.part.now _ _ c.time_frn-frn.result c.before-early.ensures c.items_from-start.ensures c.requires.0 ((let it : 1 ≤ c.time_frn-frn.result = frn_some _ c.args.bits c.requires.0 c.if-bits-frn-ne1.false in it)) (omega (arith, (let it : c.time_frn-frn.result ≤ map_places = omega (arith, time_few c.args.profile, c.time_frn-frn.ensures) in it))) c.items_from-end.ensures
 
 pub items_from-end-requires : goal.items_from-end-requires
-items_from-end-requires c = (omega (arith, c.requires.0), omega (arith, c.requires.1, near (goal.at.items_from-end-requires c).After-items_from-start), c.requires.2)
+items_from-end-requires c = (omega (arith, c.requires.0), omega (arith, c.requires.1, near (goal.at.items_from-end-requires c).After-items_from-start))
 
 pub returns-then-part-end : goal.returns-then-part-end
 returns-then-part-end c = c.untimed.ensures ∙ measure_past _ c.args.part.now _ _ (end_is (goal.at.returns-then-part-end c).After-items_from-end) c.if-part-end.true
 
-pub timed-requires : goal.timed-requires
-timed-requires c = omega (arith, near (goal.at.timed-requires c).After-items_from-start, c.requires.1)
+pub clock_at-requires : goal.clock_at-requires
+clock_at-requires c = omega (arith, near (goal.at.clock_at-requires c).After-items_from-start, c.requires.1)
 
 pub returns : goal.returns
 returns c =
-    c.timed.ensures
+    sized_at _ _ c.clock_at.ensures
     ∙ measure_there _ c.args.part.now _ _ (end_is (goal.at.returns c).After-items_from-end) _ c.if-part-end.false
     (time_there _ c.args.part.now _ _ c.time_frn-frn.ensures c.if-bits-frn-ne1.false c.is_untimed.ensures c.if-is_untimed.false (start_is (goal.at.returns c).After-items_from-start))

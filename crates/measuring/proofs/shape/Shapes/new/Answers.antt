@@ -1,4 +1,4 @@
--- `measuring::shape::shapes` meets its contract: no shape says what the profiles do not have. Assumes nothing.
+-- `measuring::shape::Shapes::new` meets its contract and its table the invariant: no shape says what the profiles do not have. Assumes nothing.
 use mathlib.Core.Path.{refl}
 use Rattle.rules.specs.Answer.{need◌or◌then◌, when◌then◌else◌}
 use Rattle.rules.specs.Presence.{number, flags}
@@ -10,8 +10,8 @@ use Rattle.tables.specs.Profiles.{profile_row_at}
 use Rattle.tables.specs.Tables.{groups, layouts, group_at, layout_at, place_row_at}
 use Rattle.quick_items.specs.Item.{octets_at}
 use Rattle.measuring.specs.Shape.{sound_row, sound_shapes}
-use Rattle.measuring.proofs.shape.shapes.Goals as goal
+use Rattle.measuring.proofs.shape.Shapes.new.Goals as goal
 
-pub returns : goal.returns
+pub invariant_of-result : goal.invariant_of-result
 unfolding sound_shapes sound_row octets_at group_at layout_at place_row_at groups layouts set_from ended usable_bits need◌or◌then◌ when◌then◌else◌ flags number category_at categories bits_of profile_row_at frn_as type_frn
-returns c = refl
+invariant_of-result c = record { sound = refl }

@@ -1,4 +1,4 @@
--- `measuring::shape::measure_shape` meets its contract: the shape is one of the table's. Assumes nothing.
+-- `measuring::shape::Shapes::told` meets its contract: the shape is one of the table's. Assumes nothing.
 use Prim.Native.Nat.{ℕ, ◌+◌, ◌*◌, ◌≤◌, ◌<◌}
 use mathlib.Core.Path.{◌≡◌, refl}
 use mathlib.Core.Option.{Option}
@@ -6,24 +6,19 @@ use mathlib.Core.List.{List}
 use native.Mathlib.Omega.{arith}
 use Rattle.quick_records.specs.Shape.{used_of}
 use Rattle.measuring.specs.declared.record.Measured.{Measured}
-use Rattle.measuring.specs.Measure.{sized}
-use Rattle.measuring.specs.Shape.{untimed_of, kind_of, time_of, base_of, part_of, Told}
-use Rattle.measuring.proofs.ShapeLaws.{parts_fit, time_by, time_none, time_untimed, time_clock, told_none, shape_some, shape_few, shape_told}
-use Rattle.measuring.proofs.shape.measure_shape.Goals as goal
-use Rattle.measuring.proofs.shape.measure_shape.Goals.{Else-part-size, Else-shape-profile}
-
-pub returns-then-part-lt5 : goal.returns-then-part-lt5
-returns-then-part-lt5 c = told_none _ _ _ c.untimed.ensures
-
-pub returns-then-shape-profile : goal.returns-then-shape-profile
-returns-then-shape-profile c = told_none _ _ _ c.untimed-then-shape-profile.ensures
+use Rattle.measuring.specs.Measure.{sized, measure_in}
+use Rattle.measuring.specs.Shape.{untimed_of, kind_of, time_of, base_of, part_of}
+use Rattle.measuring.proofs.EndLaws.{sized_at}
+use Rattle.measuring.proofs.ShapeLaws.{parts_fit, time_by, time_none, time_untimed, time_clock, shape_some, shape_few, shape_told}
+use Rattle.measuring.proofs.shape.Shapes.told.Goals as goal
+use Rattle.measuring.proofs.shape.Shapes.told.Goals.{Else-part-size, Else-shape-profile}
 
 -- the octets of the shape's FSPEC
 some : (c : Else-shape-profile) → 0 < used_of c.long-shape.result
-some c = shape_some c.args.shapes.now c.requires _ _ _ c.slot_of-at.ensures c.long-shape.ensures refl
+some c = shape_some c.args.self.now.rows.now c.args.self.now.sound _ _ _ c.slot_of-at.ensures c.long-shape.ensures refl
 
 few : (c : Else-shape-profile) → used_of c.long-shape.result ≤ 5
-few c = shape_few c.args.shapes.now c.requires _ _ _ c.slot_of-at.ensures c.long-shape.ensures refl
+few c = shape_few c.args.self.now.rows.now c.args.self.now.sound _ _ _ c.slot_of-at.ensures c.long-shape.ensures refl
 
 pub overflow_sub-up : goal.overflow_sub-up
 overflow_sub-up c = omega (arith, few (goal.at.overflow_sub-up c).Else-shape-profile)
@@ -34,20 +29,11 @@ overflow_shl-five c = omega (arith, some (goal.at.overflow_shl-five c).Else-shap
 pub overflow_shl-shape : goal.overflow_shl-shape
 overflow_shl-shape c = omega (arith, some (goal.at.overflow_shl-shape c).Else-shape-profile, few (goal.at.overflow_shl-shape c).Else-shape-profile)
 
-pub returns-then-five-up : goal.returns-then-five-up
-returns-then-five-up c = told_none _ _ _ c.untimed-then-five-up.ensures
-
-pub returns-then-part-place : goal.returns-then-part-place
-returns-then-part-place c = told_none _ _ _ c.untimed-then-part-place.ensures
-
 pub overflow_mul-size : goal.overflow_mul-size
 overflow_mul-size c = record { fits = omega (arith, parts_fit c.octet.result c.long-row.result c.octet.ensures.1) }
 
 pub overflow_add-size : goal.overflow_add-size
 overflow_add-size c = record { fits = omega (arith, parts_fit c.octet.result c.long-row.result c.octet.ensures.1) }
-
-pub returns-then-part-size : goal.returns-then-part-size
-returns-then-part-size c = told_none _ _ _ c.untimed-then-part-size.ensures
 
 -- a record that ends within the part
 module _ (c : Else-part-size) where
@@ -61,13 +47,13 @@ module _ (c : Else-part-size) where
   octets = c.args.part.now
 
   told : (t : Option ℕ) (r : Measured) → time_by (time_of row) (kind_of row) (untimed_of row) octets ≡ t → r ≡ sized (base_of row + c.octet.result * part_of row) t
-      → Told r profile octets
+      → measure_in profile octets ≡ r
   told t r et er =
-      shape_told c.args.shapes.now c.requires _ _ _ c.slot_of-at.ensures c.long-shape.ensures c.long-row.ensures
+      shape_told c.args.self.now.rows.now c.args.self.now.sound _ _ _ c.slot_of-at.ensures c.long-shape.ensures c.long-row.ensures
       _ _ _ t octets r c.type_inv.part c.if-shape-profile.false c.if-part-lt5.false c.first_five-five.ensures c.if-five-up.false c.octet.ensures.0 c.if-part-size.false et er
 
 pub returns-then-time-eq0 : goal.returns-then-time-eq0
-returns-then-time-eq0 c = told (goal.at.returns-then-time-eq0 c).Else-part-size _ _ (time_none (time_of (row (goal.at.returns-then-time-eq0 c).Else-part-size)) (kind_of (row (goal.at.returns-then-time-eq0 c).Else-part-size)) (untimed_of (row (goal.at.returns-then-time-eq0 c).Else-part-size)) (octets (goal.at.returns-then-time-eq0 c).Else-part-size) c.if-time-eq0.true) c.untimed-then-time-eq0.ensures
+returns-then-time-eq0 c = told (goal.at.returns-then-time-eq0 c).Else-part-size _ _ (time_none (time_of (row (goal.at.returns-then-time-eq0 c).Else-part-size)) (kind_of (row (goal.at.returns-then-time-eq0 c).Else-part-size)) (untimed_of (row (goal.at.returns-then-time-eq0 c).Else-part-size)) (octets (goal.at.returns-then-time-eq0 c).Else-part-size) c.if-time-eq0.true) c.untimed.ensures
 
 pub returns-then-octet_at-row : goal.returns-then-octet_at-row
 returns-then-octet_at-row c =
@@ -75,4 +61,4 @@ returns-then-octet_at-row c =
 
 pub returns : goal.returns
 returns c =
-    told (goal.at.returns c).Else-part-size _ _ (time_clock (time_of (row (goal.at.returns c).Else-part-size)) (kind_of (row (goal.at.returns c).Else-part-size)) (untimed_of (row (goal.at.returns c).Else-part-size)) (octets (goal.at.returns c).Else-part-size) c.if-time-eq0.false c.octet_at.ensures.0 c.if-octet_at-row.false) c.timed.ensures
+    told (goal.at.returns c).Else-part-size _ _ (time_clock (time_of (row (goal.at.returns c).Else-part-size)) (kind_of (row (goal.at.returns c).Else-part-size)) (untimed_of (row (goal.at.returns c).Else-part-size)) (octets (goal.at.returns c).Else-part-size) c.if-time-eq0.false c.octet_at.ensures.0 c.if-octet_at-row.false) (sized_at _ _ c.clock_at.ensures)
