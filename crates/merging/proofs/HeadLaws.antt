@@ -2,10 +2,11 @@
 --
 -- In order: where a walk stands; whether there is a record; the record that a walk comes to; all that come; the records from a standing on.
 use Prim.Native.Nat.{ℕ, zero, suc, ◌+◌, ◌-◌, ◌<◌, ◌≤◌}
-use mathlib.Core.Path.{◌≡◌, refl, sym, ap, ◌∙◌, subst}
+use mathlib.Core.Path.{◌≡◌, refl, sym, ap, ap₂, ◌∙◌, subst}
 use mathlib.Core.Bool.{Bool, true, false, ◌&&◌, true≢false}
-use mathlib.Core.Option.{Option, none, some}
+use mathlib.Core.Option.{none}
 use mathlib.Core.List.{List, [], ◌∷◌}
+use Rattle.std.specs.Prelude.{is_some, unwrap_or}
 use native.Mathlib.Omega.{arith}
 use lib.Dec.{eqb, leb, ltb}
 use lib.ListN.{length}
@@ -62,30 +63,30 @@ module _ (n : ℕ) (c : Cursor) where
 -- ---- whether there is a record
 
 module _ (n : ℕ) (s : Standing) where
-  pub head_low : s.at.place < s.at.block → false ≡ is_head n s
-  unfolding is_head
-  head_low h = rw (lt-leb s.at.block s.at.place h)
+  -- it stands in the log, and has an octet that its block has
+  inside_by : Bool
+  inside_by = ltb 0 s.size && leb s.size (s.at.end - s.at.place)
 
-  module _ (low : s.at.block ≤ s.at.place) where
-    pub head_past : s.at.end < s.at.place → false ≡ is_head n s
-    unfolding is_head
-    head_past h = rw (le-leb s.at.block s.at.place low, lt-leb s.at.place s.at.end h)
+  head_test : in_log n s.at && inside_by ≡ is_head n s
+  unfolding is_head in_log inside_by
+  head_test = go (leb s.at.block s.at.place) (leb s.at.place s.at.end) (leb s.at.end n)
+    where
+      go : (a b c : Bool) → (a && (b && c)) && (ltb 0 s.size && leb s.size (s.at.end - s.at.place)) ≡ (a && (b && (c && (ltb 0 s.size && leb s.size (s.at.end - s.at.place)))))
+      go false b c = refl
+      go true false c = refl
+      go true true c = refl
 
-    module _ (within : s.at.place ≤ s.at.end) where
-      pub head_high : n < s.at.end → false ≡ is_head n s
-      unfolding is_head
-      head_high h = rw (le-leb s.at.block s.at.place low, le-leb s.at.place s.at.end within, lt-leb s.at.end n h)
+  pub head_out : in_log n s.at ≡ false → false ≡ is_head n s
+  head_out h = ap (λ t. t && inside_by) (sym h) ∙ head_test
 
-      module _ (high : s.at.end ≤ n) where
-        pub head_empty : s.size ≡ 0 → false ≡ is_head n s
-        unfolding is_head
-        head_empty h =
-            rw (le-leb s.at.block s.at.place low, le-leb s.at.place s.at.end within, le-leb s.at.end n high, le-ltb 0 s.size (omega arith))
+  module _ (i : in_log n s.at ≡ true) where
+    pub head_empty : s.size ≡ 0 → false ≡ is_head n s
+    unfolding inside_by
+    head_empty h = ap₂ (λ t u. t && (u && leb s.size (s.at.end - s.at.place))) (sym i) (sym (le-ltb 0 s.size (omega arith))) ∙ head_test
 
-        pub head_sized : (s.size ≡ 0 → ⊥) → leb s.size (s.at.end - s.at.place) ≡ is_head n s
-        unfolding is_head
-        head_sized h =
-            rw (le-leb s.at.block s.at.place low, le-leb s.at.place s.at.end within, le-leb s.at.end n high, lt-ltb 0 s.size (omega arith))
+    pub head_sized : (s.size ≡ 0 → ⊥) → leb s.size (s.at.end - s.at.place) ≡ is_head n s
+    unfolding inside_by
+    head_sized h = ap₂ (λ t u. t && (u && leb s.size (s.at.end - s.at.place))) (sym i) (sym (lt-ltb 0 s.size (omega arith))) ∙ head_test
 
   -- what it says
   pub record IsHead : Type 0 where
@@ -113,7 +114,7 @@ module _ (n : ℕ) (s : Standing) where
       }
 
   pub head_yes : IsHead → is_head n s ≡ true
-  head_yes m = sym (head_sized m.low m.within m.high (λ z. omega (arith, z, m.some_octet))) ∙ le-leb _ _ m.inside
+  head_yes m = sym (head_sized (log_in_lem n s.at (record { low = m.low; within = m.within; high = m.high })) (λ z. omega (arith, z, m.some_octet))) ∙ le-leb _ _ m.inside
 
   -- its octets lie in the log
   pub head_fits : is_head n s ≡ true → s.at.place + s.size ≤ n
@@ -136,17 +137,13 @@ end_none n m = go (is_head n (end_at m)) refl
 -- ---- the record that a walk comes to
 
 -- what is measured lies in the octets
-sized_size : (n : ℕ) (t : Option ℕ) → (sized n t).size ≡ n
-sized_size n none = refl
-sized_size n (some t) = refl
-
 pub measured_fits : (cat : ℕ) (bs : List ℕ) → (measure_of cat bs).size ≤ length bs
 unfolding measure_of measure_in when◌then◌else◌
 measured_fits cat bs = by (set_at (profile_in cat categories) bs)
   where
     go : (i bits used : ℕ) (t : Bool) → leb (end_of i bits bs used) (length bs) ≡ t
         → (when t then sized (end_of i bits bs used) (time_in i bits bs used) else sized 0 none).size ≤ length bs
-    go i bits used true e = rw (sized_size (end_of i bits bs used) (time_in i bits bs used)) (leb-true _ _ e)
+    go i bits used true e = leb-true _ _ e
     go i bits used false e = omega arith
 
     by : (a : Answer (ℕ × ℕ)) → (measure_by (profile_in cat categories) bs a).size ≤ length bs
@@ -159,7 +156,7 @@ module _ (n : ℕ) (d : Cursor) (m : Measured) where
   unfolding when◌then◌else◌
   by_none h = rw (eq-eqb m.size 0 h)
 
-  pub by_some : (m.size ≡ 0 → ⊥) → record { at = d; size = m.size; timed = m.timed; time = m.time } ≡ stood_by n d m
+  pub by_some : (m.size ≡ 0 → ⊥) → record { at = d; size = m.size; timed = is_some m.time; time = unwrap_or m.time 0 } ≡ stood_by n d m
   unfolding when◌then◌else◌
   by_some h = rw (ne_eqb m.size 0 h)
 
@@ -188,7 +185,7 @@ module _ (bs : List ℕ) where
     stood_none h = by_none (length bs) d _ h ∙ stood_is _ refl
 
     pub stood_some : (m : Measured) → m ≡ measure_of d.category (part bs d.place d.end) → (m.size ≡ 0 → ⊥)
-        → record { at = d; size = m.size; timed = m.timed; time = m.time } ≡ stood_at bs d
+        → record { at = d; size = m.size; timed = is_some m.time; time = unwrap_or m.time 0 } ≡ stood_at bs d
     stood_some m e h = by_some (length bs) d m h ∙ stood_is m e
 
   module _ (c : Cursor) where

@@ -7,6 +7,7 @@ use mathlib.Core.Bool.{true}
 use mathlib.Core.Option.{Option, none, some}
 use mathlib.Core.List.{List, [], ◌∷◌, ◌++◌, append_assoc}
 use native.Mathlib.Omega.{arith}
+use Rattle.std.specs.Prelude.{is_some, unwrap_or}
 use lib.Dec.{leb, le→leb, lt→ltb, ltb→lt}
 use lib.ListN.{length, take, drop, length-append, length-drop}
 use lib.Seq.{drop-drop, drop_at, take_at}
@@ -53,7 +54,7 @@ module _ (bs : List ℕ) (o : Octets bs) where
   -- ---- a record
 
   abbrev sized_at : Cursor → ℕ → Option ℕ → Standing
-  sized_at d n t = record { at = d; size = n; timed = (sized n t).timed; time = (sized n t).time }
+  sized_at d n t = record { at = d; size = n; timed = is_some (sized n t).time; time = unwrap_or (sized n t).time 0 }
 
   sized_head : (d : Cursor) (n : ℕ) (t : Option ℕ) → head_of (sized_at d n t) ≡ record { place = d.place; size = n; time = t }
   sized_head d n none = refl

@@ -1,72 +1,42 @@
 -- So many steps at once, turn by turn: the numbers that are stored, and what is still to come. Assumes nothing.
 use Prim.Native.Nat.{ℕ, zero, suc, ◌+◌, ◌*◌, ◌-◌, ◌<◌, ◌≤◌}
 use mathlib.Core.Path.{◌≡◌, refl, sym, ap, ap₂, ◌∙◌, subst}
-use mathlib.Core.Bool.{Bool, true, false}
+use mathlib.Core.Bool.{true, false}
 use mathlib.Core.Option.{Option, none, some}
 use mathlib.Core.List.{List, [], ◌∷◌, ◌++◌, append-nil, append_assoc}
 use native.Mathlib.Omega.{arith}
 use lib.Dec.{ltb}
-use lib.ListN.{length, set, get_or, length-append, length-set}
-use lib.Seq.{sets, length-sets, lt-length-set}
-use borrow.Author.Tests.{eq-eqb, ne_eqb, lt-ltb, le-ltb}
+use lib.ListN.{length, set, get_or, take, drop, length-append, length-set}
+use lib.Seq.{sets, length-sets, drop-drop}
+use borrow.Rule.Slice.PartMut.{put_mid}
+use Rattle.std.proofs.lemmas.List.Edits.{sets-eq}
+use borrow.Author.Tests.{lt-ltb, le-ltb}
 use Rattle.rules.specs.Answer.{when◌then◌else◌}
 use Rattle.rules.specs.Entry.{over}
 use Rattle.rules.proofs.AnswerLaws.{Octets}
 use Rattle.layouts.proofs.Stores.{sets_append, sets_over}
 use Rattle.merging.specs.declared.run.Merge.{Merge}
-use Rattle.merging.specs.declared.run.Moved.{Moved}
+use Rattle.merging.specs.declared.run.Side.{Side}
 use Rattle.merging.specs.declared.many.Ran.{Ran}
-use Rattle.rules.specs.Merge.{Log, log_a, log_b}
+use Rattle.rules.specs.Merge.{Log, log_a, log_b, choose, next}
 use Rattle.walking.specs.declared.Cursor.{Cursor}
 use Rattle.merging.specs.declared.heads.Standing.{Standing}
 use Rattle.merging.specs.Heads.{end_at, in_log, is_head, behind_of, stand_of}
-use Rattle.merging.specs.Run.{time_of, which_by, which_of, moved_by, move_of}
-use Rattle.merging.specs.Many.{log_number, number_of, pick, numbers_of, Many, nothing, and_then, many_of, ran_of}
+use Rattle.merging.specs.declared.run.Log as code
+use Rattle.merging.specs.declared.run.Log.TheVariants as log
+use Rattle.merging.specs.Run.{log_is, digit, digit_of, time_of, side_of, which_by, which_of, with_head, Move, moved_by, move_of}
+use Rattle.merging.specs.Many.{log_number, numbers_of, Many, nothing, and_then, many_of, ran_of}
 use Rattle.merging.proofs.HeadLaws.{head_fits, head_behind, stand_there}
 use Rattle.merging.proofs.WhichLaws.{which_by_lem, which_head}
 
--- ---- six numbers
+-- ---- so many numbers in place of as many
 
-module _ (l : List ℕ) (p a b c d e f : ℕ) (room : p + 6 ≤ length l) where
-  pub room_1 : p + 1 < length (set l p a)
-  room_1 = lt-length-set l p a (omega arith)
+pub six_stored : (l : List ℕ) (p : ℕ) (ns ys : List ℕ) → length ns ≡ 6 → p + 6 ≤ length l → ys ≡ ns → put_mid p (p + 6 - p) l ys ≡ sets l p ns
+six_stored l p ns ys six room e =
+    let k : p + (p + 6 - p) ≡ p + length ns = omega (arith, six) in
+    ap₂ (λ x y. take p l ++ (x ++ y)) e (drop-drop (p + 6 - p) p l ∙ ap (λ y. drop y l) k) ∙ sym (append_assoc (take p l) ns (drop (p + length ns) l)) ∙ sym (sets-eq ns l p (omega (arith, six)))
 
-  pub room_2 : p + 2 < length (set (set l p a) (p + 1) b)
-  room_2 = lt-length-set (set l p a) (p + 1) b (lt-length-set l p a (omega arith))
-
-  pub room_3 : p + 3 < length (set (set (set l p a) (p + 1) b) (p + 2) c)
-  room_3 = lt-length-set (set (set l p a) (p + 1) b) (p + 2) c (lt-length-set (set l p a) (p + 1) b (lt-length-set l p a (omega arith)))
-
-  pub six : (g : ℕ) → g ≡ f → set (set (set (set (set (set l p a) (p + 1) b) (p + 2) c) (p + 3) d) (p + 4) e) (p + 5) g ≡ sets l p (a ∷ b ∷ c ∷ d ∷ e ∷ f ∷ [])
-  six g h =
-      let e₁ : p + 1 ≡ suc p = omega arith in
-      let e₂ : p + 2 ≡ suc (suc p) = omega arith in
-      let e₃ : p + 3 ≡ suc (suc (suc p)) = omega arith in
-      let e₄ : p + 4 ≡ suc (suc (suc (suc p))) = omega arith in
-      let e₅ : p + 5 ≡ suc (suc (suc (suc (suc p)))) = omega arith in
-      rw (h, e₁, e₂, e₃, e₄, e₅)
-
-  pub room_4 : p + 4 < length (set (set (set (set l p a) (p + 1) b) (p + 2) c) (p + 3) d)
-  room_4 = lt-length-set (set (set (set l p a) (p + 1) b) (p + 2) c) (p + 3) d
-      (lt-length-set (set (set l p a) (p + 1) b) (p + 2) c (lt-length-set (set l p a) (p + 1) b (lt-length-set l p a (omega arith))))
-
-  pub room_5 : p + 5 < length (set (set (set (set (set l p a) (p + 1) b) (p + 2) c) (p + 3) d) (p + 4) e)
-  room_5 = lt-length-set (set (set (set (set l p a) (p + 1) b) (p + 2) c) (p + 3) d) (p + 4) e
-      (lt-length-set (set (set (set l p a) (p + 1) b) (p + 2) c) (p + 3) d
-      (lt-length-set (set (set l p a) (p + 1) b) (p + 2) c (lt-length-set (set l p a) (p + 1) b (lt-length-set l p a (omega arith)))))
-
--- ---- of two, by a log's number
-
-module _ {A : Type 0} (l : ℕ) (a b : A) where
-  pub pick_a : l ≡ 0 → a ≡ pick l a b
-  unfolding pick when◌then◌else◌
-  pick_a h = rw (eq-eqb l 0 h)
-
-  pub pick_b : (l ≡ 0 → ⊥) → b ≡ pick l a b
-  unfolding pick when◌then◌else◌
-  pick_b h = rw (ne_eqb l 0 h)
-
--- ---- a step, by the number of the log whose record goes
+-- ---- a record comes, or none
 
 module _ (as' bs : List ℕ) (m : Merge) where
   abbrev Goes : Option Log → Type 0
@@ -76,52 +46,41 @@ module _ (as' bs : List ℕ) (m : Merge) where
   unfolding move_of
   goes_is o e = ap (moved_by as' bs m) e
 
-  number_by : (o : Option Log) → number_of o ≡ log_number (moved_by as' bs m o).told
-  number_by none = refl
-  number_by (some log_a) = refl
-  number_by (some log_b) = refl
+  record Went (l : Log) : Type 0 where
+    told : next l ≡ (move_of as' bs m).told
+    size : (choose l m.a m.b).size ≡ (move_of as' bs m).size
+    at : (choose l m.a m.b).at ≡ (move_of as' bs m).at
+    fits : (k : ℕ) → length as' < k → length bs < k → (choose l m.a m.b).at.place + (choose l m.a m.b).size < k
+    within : in_log (length (choose l as' bs)) (behind_of (choose l m.a m.b)) ≡ true
+    after : with_head l (stand_of (choose l as' bs) (behind_of (choose l m.a m.b))) m ≡ (move_of as' bs m).merge
 
-  number_told : (o : Option Log) → Goes o → number_of o ≡ log_number (move_of as' bs m).told
-  number_told o e = number_by o ∙ ap (λ x. log_number x.told) (goes_is o e)
-
-  record Went (l : ℕ) : Type 0 where
-    size : (pick l m.a m.b).size ≡ (move_of as' bs m).size
-    at : (pick l m.a m.b).at ≡ (move_of as' bs m).at
-    fits : (k : ℕ) → length as' < k → length bs < k → (pick l m.a m.b).at.place + (pick l m.a m.b).size < k
-    within : in_log (length (pick l as' bs)) (behind_of (pick l m.a m.b)) ≡ true
-    after_a : l ≡ 0 → record { a = stand_of (pick l as' bs) (behind_of (pick l m.a m.b)); b = m.b; turn = m.turn } ≡ (move_of as' bs m).merge
-    after_b : (l ≡ 0 → ⊥) → record { a = m.a; b = stand_of (pick l as' bs) (behind_of (pick l m.a m.b)); turn = m.turn } ≡ (move_of as' bs m).merge
-
-  went_a : Goes (some log_a) → Went 0
-  unfolding pick when◌then◌else◌
-  went_a e =
+  went : (l : Log) → Goes (some l) → Went l
+  went log_a e =
       let h : is_head (length as') m.a ≡ true = which_head m.turn (length as') m.a (length bs) m.b log_a (sym e) in
+      let g : moved_by as' bs m (some log_a) ≡ move_of as' bs m = goes_is (some log_a) e in
       record {
-        size = ap (λ x. x.size) (goes_is (some log_a) e);
-        at = ap (λ x. x.at) (goes_is (some log_a) e);
+        told = ap (λ x. x.told) g;
+        size = ap (λ x. x.size) g;
+        at = ap (λ x. x.at) g;
         fits = λ k p q. omega (arith, head_fits (length as') m.a h, p);
         within = head_behind (length as') m.a h;
-        after_a = λ h. ap (λ x. x.merge) (goes_is (some log_a) e);
-        after_b = λ z. absurd (z refl);
+        after = ap (λ x. x.merge) g;
       }
-
-  went_b : Goes (some log_b) → Went 1
-  unfolding pick when◌then◌else◌
-  went_b e =
+  went log_b e =
       let h : is_head (length bs) m.b ≡ true = which_head m.turn (length as') m.a (length bs) m.b log_b (sym e) in
+      let g : moved_by as' bs m (some log_b) ≡ move_of as' bs m = goes_is (some log_b) e in
       record {
-        size = ap (λ x. x.size) (goes_is (some log_b) e);
-        at = ap (λ x. x.at) (goes_is (some log_b) e);
+        told = ap (λ x. x.told) g;
+        size = ap (λ x. x.size) g;
+        at = ap (λ x. x.at) g;
         fits = λ k p q. omega (arith, head_fits (length bs) m.b h, q);
         within = head_behind (length bs) m.b h;
-        after_a = λ h. absurd (omega (arith, h));
-        after_b = λ h. ap (λ x. x.merge) (goes_is (some log_b) e);
+        after = ap (λ x. x.merge) g;
       }
 
-  went : (o : Option Log) → Goes o → (l : ℕ) → l ≡ number_of o → l < 2 → Went l
-  went none e l f h = absurd (omega (arith, f, h))
-  went (some log_a) e l f h = subst Went (sym f) (went_a e)
-  went (some log_b) e l f h = subst Went (sym f) (went_b e)
+digit_few : (l : Log) → digit l < 2
+digit_few log_a = omega arith
+digit_few log_b = omega arith
 
 -- ---- a step more, or none
 
@@ -170,21 +129,25 @@ module _ (as' bs : List ℕ) (m : Merge) (old : List ℕ) (room : ℕ) where
         (ap₂ (λ y z. record { count = y; merge = z }) c g, r.kept ∙ ap (sets old 0) d ∙ sets_over (many_of room as' bs m).numbers old)
 
     -- no room is left
-    pub running_full : room ≤ n → Ends (many_of room as' bs m)
+    pub running_full : n ≡ room → (◌≡◌ {A = Ran} (record { count = room; merge = at }) (ran_of (many_of room as' bs m))) × (out ≡ over (many_of room as' bs m).numbers old)
     unfolding many_of
-    running_full h = let z : room - n ≡ 0 = omega arith in ends_by (ap (λ k. many_of k as' bs at) z)
+    running_full h =
+        let z : room - n ≡ 0 = omega arith in
+        let e : Ends (many_of room as' bs m) = ends_by (ap (λ k. many_of k as' bs at) z) in
+        (ap (λ k. record { count = k; merge = at }) (sym h) ∙ e.0, e.1)
 
     module _ (more : n < room) where
       left_is : room - n ≡ suc (room - (n + 1))
       left_is = omega arith
 
       -- nothing comes
-      pub running_off : (x : Moved) → x ≡ move_of as' bs at → 2 ≤ log_number x.told → Ends (many_of room as' bs m)
-      running_off x e h =
-          ends_by (ap (λ k. many_of k as' bs at) left_is ∙ many_off (room - (n + 1)) as' bs at (subst (λ y. 2 ≤ log_number y.told) e h))
+      pub running_none : none ≡ which_of at.turn (length as') at.a (length bs) at.b → Ends (many_of room as' bs m)
+      running_none e =
+          let d : 2 ≤ log_number (move_of as' bs at).told = subst (λ y. 2 ≤ log_number y.told) (goes_is as' bs at none e) (omega arith) in
+          ends_by (ap (λ k. many_of k as' bs at) left_is ∙ many_off (room - (n + 1)) as' bs at d)
 
       -- a record comes
-      pub running_on : (x : Moved) → x ≡ move_of as' bs at → log_number x.told < 2
+      running_on : (x : Move) → x ≡ move_of as' bs at → log_number x.told < 2
           → Running as' bs m old room (n + 1) x.merge (sets out (6 * n) (numbers_of (log_number x.told) x.size x.at))
       running_on x e h =
           let ns : List ℕ = numbers_of (log_number x.told) x.size x.at in
@@ -204,121 +167,110 @@ module _ (as' bs : List ℕ) (m : Merge) (old : List ℕ) (room : ℕ) where
             merge = r.merge ∙ ap (λ z. z.merge) y;
           }
 
-      module _ (o : Option Log) (e : o ≡ which_of at.turn (length as') at.a (length bs) at.b) (l : ℕ) (f : l ≡ number_of o) where
-        -- as the number tells
-        pub running_none : 2 ≤ l → Ends (many_of room as' bs m)
-        running_none h = running_off (move_of as' bs at) refl (subst (λ z. 2 ≤ z) (f ∙ number_told as' bs at o e) h)
+      module _ (l : Log) (e : some l ≡ which_of at.turn (length as') at.a (length bs) at.b) where
+        abbrev x : Move
+        x = move_of as' bs at
 
-        pub running_fits : l < 2 → (s : Standing) → s ≡ pick l at.a at.b → (k : ℕ) → length as' < k → length bs < k → s.at.place + s.size < k
-        running_fits h s p k x y = subst (λ t. t.at.place + t.size < k) (sym p) ((went as' bs at o e l f h).fits k x y)
+        u : Went as' bs at l
+        u = went as' bs at l e
 
-        pub running_within : l < 2 → (s : Standing) → s ≡ pick l at.a at.b → (g : List ℕ) → g ≡ pick l as' bs → (c : Cursor) → c ≡ behind_of s → in_log (length g) c ≡ true
-        running_within h s p g q c j = ap₂ (λ t u. in_log (length t) u) q (j ∙ ap behind_of p) ∙ (went as' bs at o e l f h).within
+        pub running_fits : (s : Standing) → s ≡ choose l at.a at.b → (k : ℕ) → length as' < k → length bs < k → s.at.place + s.size < k
+        running_fits s p k g h = subst (λ t. t.at.place + t.size < k) (sym p) (u.fits k g h)
+
+        pub running_within : (s : Standing) → s ≡ choose l at.a at.b → (g : List ℕ) → g ≡ choose l as' bs → (c : Cursor) → c ≡ behind_of s → in_log (length g) c ≡ true
+        running_within s p g q c j = ap₂ (λ t v. in_log (length t) v) q (j ∙ ap behind_of p) ∙ u.within
 
         -- and as it is stored
-        module _ (few : l < 2) (s : Standing) (p : s ≡ pick l at.a at.b) (y : List ℕ) (z : y ≡ sets out (6 * n) (numbers_of l s.size s.at)) where
-          abbrev x : Moved
-          x = move_of as' bs at
-
-          u : Went as' bs at l
-          u = went as' bs at o e l f few
-
-          k : l ≡ log_number x.told
-          k = f ∙ number_told as' bs at o e
-
+        module _ (s : Standing) (p : s ≡ choose l at.a at.b) (y : List ℕ) (z : y ≡ sets out (6 * n) (numbers_of (digit l) s.size s.at)) where
           stored : y ≡ sets out (6 * n) (numbers_of (log_number x.told) x.size x.at)
           stored =
               z
-              ∙ ap (λ t. sets out (6 * n) (numbers_of t s.size s.at)) k
+              ∙ ap (λ t. sets out (6 * n) (numbers_of (log_number t) s.size s.at)) u.told
               ∙ ap₂ (λ t v. sets out (6 * n) (numbers_of (log_number x.told) t v)) (ap (λ t. t.size) p ∙ u.size) (ap (λ t. t.at) p ∙ u.at)
 
-          running_to : (v : Merge) → v ≡ x.merge → Running as' bs m old room (n + 1) v y
-          running_to v h =
+          pub running_next : (g : List ℕ) → g ≡ choose l as' bs → (c : Cursor) → c ≡ behind_of s → (d : Standing) → d ≡ stand_of g c
+              → Running as' bs m old room (n + 1) (with_head l d at) y
+          running_next g q c j d i =
+              let h : with_head l d at ≡ x.merge = ap (λ t. with_head l t at) (i ∙ ap₂ stand_of q (j ∙ ap behind_of p)) ∙ u.after in
               subst (λ t. Running as' bs m old room (n + 1) t y) (sym h)
-              (subst (Running as' bs m old room (n + 1) x.merge) (sym stored) (running_on x refl (subst (λ t. t < 2) k few)))
+              (subst (Running as' bs m old room (n + 1) x.merge) (sym stored) (running_on x refl (subst (λ t. log_number t < 2) u.told (digit_few l))))
 
-          module _ (g : List ℕ) (q : g ≡ pick l as' bs) (c : Cursor) (j : c ≡ behind_of s) (d : Standing) (i : d ≡ stand_of g c) where
-            after : d ≡ stand_of (pick l as' bs) (behind_of (pick l at.a at.b))
-            after = i ∙ ap₂ stand_of q (j ∙ ap behind_of p)
+-- ---- the logs' next records, in an array
 
-            pub running_a : l ≡ 0 → Running as' bs m old room (n + 1) (record { a = d; b = at.b; turn = at.turn }) y
-            running_a h = running_to _ (ap (λ t. record { a = t; b = at.b; turn = at.turn }) after ∙ u.after_a h)
+abbrev pub blank : Side
+blank = record { head = end_at 0; there = false }
 
-            pub running_b : (l ≡ 0 → ⊥) → Running as' bs m old room (n + 1) (record { a = at.a; b = d; turn = at.turn }) y
-            running_b h = running_to _ (ap (λ t. record { a = at.a; b = t; turn = at.turn }) after ∙ u.after_b h)
+abbrev pub side_at : List Side → ℕ → Side
+side_at hs k = get_or hs k blank
 
--- ---- the heads, in an array
+abbrev pub state_of : List Side → ℕ → Merge
+state_of hs turn = record { a = (side_at hs 0).head; b = (side_at hs 1).head; turn = turn }
 
-abbrev pub state_of : List Standing → ℕ → Merge
-state_of hs turn = record { a = get_or hs 0 (end_at 0); b = get_or hs 1 (end_at 0); turn = turn }
+set_a : (hs : List Side) (d : Side) → length hs ≡ 2 → (side_at (set hs 0 d) 0 ≡ d) × (side_at (set hs 0 d) 1 ≡ side_at hs 1)
+set_a [] d e = absurd (omega (arith, e))
+set_a (x ∷ []) d e = absurd (omega (arith, e))
+set_a (x ∷ y ∷ zs) d e = (refl, refl)
 
-pub pick_head : (hs : List Standing) (l : ℕ) → l < 2 → get_or hs l (end_at 0) ≡ pick l (get_or hs 0 (end_at 0)) (get_or hs 1 (end_at 0))
-pick_head hs zero h = pick_a 0 _ _ refl
-pick_head hs (suc zero) h = pick_b 1 _ _ (λ z. omega (arith, z))
-pick_head hs (suc (suc l)) h = absurd (omega (arith, h))
+set_b : (hs : List Side) (d : Side) → length hs ≡ 2 → (side_at (set hs 1 d) 0 ≡ side_at hs 0) × (side_at (set hs 1 d) 1 ≡ d)
+set_b [] d e = absurd (omega (arith, e))
+set_b (x ∷ []) d e = absurd (omega (arith, e))
+set_b (x ∷ y ∷ zs) d e = (refl, refl)
 
-set_a : (hs : List Standing) (turn : ℕ) (d : Standing) → length hs ≡ 2 → state_of (set hs 0 d) turn ≡ record { a = d; b = get_or hs 1 (end_at 0); turn = turn }
-set_a [] turn d e = absurd (omega (arith, e))
-set_a (x ∷ []) turn d e = absurd (omega (arith, e))
-set_a (x ∷ y ∷ zs) turn d e = refl
-
-set_b : (hs : List Standing) (turn : ℕ) (d : Standing) → length hs ≡ 2 → state_of (set hs 1 d) turn ≡ record { a = get_or hs 0 (end_at 0); b = d; turn = turn }
-set_b [] turn d e = absurd (omega (arith, e))
-set_b (x ∷ []) turn d e = absurd (omega (arith, e))
-set_b (x ∷ y ∷ zs) turn d e = refl
-
-there_a : (ts : List Bool) (t : Bool) → length ts ≡ 2 → (get_or (set ts 0 t) 0 false ≡ t) × (get_or (set ts 0 t) 1 false ≡ get_or ts 1 false)
-there_a [] t e = absurd (omega (arith, e))
-there_a (x ∷ []) t e = absurd (omega (arith, e))
-there_a (x ∷ y ∷ zs) t e = (refl, refl)
-
-there_b : (ts : List Bool) (t : Bool) → length ts ≡ 2 → (get_or (set ts 1 t) 1 false ≡ t) × (get_or (set ts 1 t) 0 false ≡ get_or ts 0 false)
-there_b [] t e = absurd (omega (arith, e))
-there_b (x ∷ []) t e = absurd (omega (arith, e))
-there_b (x ∷ y ∷ zs) t e = (refl, refl)
+-- the record that goes, by the number of its log
+pub side_head : (hs : List Side) (l : code.Log) (k : ℕ) → k ≡ digit_of l → (side_at hs k).head ≡ choose (log_is l) (side_at hs 0).head (side_at hs 1).head
+side_head hs log.A k e = ap (λ j. (side_at hs j).head) e
+side_head hs log.B k e = ap (λ j. (side_at hs j).head) e
 
 -- with whether each is there
-pub record Held (as' bs : List ℕ) (m : Merge) (old : List ℕ) (room n : ℕ) (hs : List Standing) (ts : List Bool) (turn : ℕ) (out : List ℕ) : Type 0 where
+pub record Held (as' bs : List ℕ) (m : Merge) (old : List ℕ) (room n : ℕ) (hs : List Side) (turn : ℕ) (out : List ℕ) : Type 0 where
   pub two : length hs ≡ 2
-  pub tests : length ts ≡ 2
-  pub in_a : get_or ts 0 false ≡ is_head (length as') (get_or hs 0 (end_at 0))
-  pub in_b : get_or ts 1 false ≡ is_head (length bs) (get_or hs 1 (end_at 0))
+  pub in_a : (side_at hs 0).there ≡ is_head (length as') (side_at hs 0).head
+  pub in_b : (side_at hs 1).there ≡ is_head (length bs) (side_at hs 1).head
   pub run : Running as' bs m old room n (state_of hs turn) out
 
-module _ (as' bs : List ℕ) (m : Merge) (old : List ℕ) (room n : ℕ) (hs : List Standing) (ts : List Bool) (turn : ℕ) (out : List ℕ)
-    (r : Held as' bs m old room n hs ts turn out) (o : Option Log)
-    (w : o ≡ which_by turn (get_or ts 0 false) (get_or ts 1 false) (time_of (get_or hs 0 (end_at 0))) (time_of (get_or hs 1 (end_at 0)))) where
-  pub held_which : o ≡ which_of turn (length as') (get_or hs 0 (end_at 0)) (length bs) (get_or hs 1 (end_at 0))
-  held_which = w ∙ which_by_lem turn (length as') (get_or hs 0 (end_at 0)) (length bs) (get_or hs 1 (end_at 0)) _ _ (sym r.in_a) (sym r.in_b)
+module _ (as' bs : List ℕ) (m : Merge) (old : List ℕ) (room : ℕ) where
+  pub held_first : {p q : Side} → p ≡ side_of (length as') m.a → q ≡ side_of (length bs) m.b → Held as' bs m old room 0 (p ∷ q ∷ []) m.turn old
+  held_first {q = q} ea eb =
+      subst (λ z. Held as' bs m old room 0 (z ∷ q ∷ []) m.turn old) (sym ea)
+      (subst (λ z. Held as' bs m old room 0 (side_of (length as') m.a ∷ z ∷ []) m.turn old) (sym eb)
+      (record { two = refl; in_a = refl; in_b = refl; run = running_first as' bs m old room }))
 
-  pub held_on : n < room → Octets as' → Octets bs → (l : ℕ) → l ≡ number_of o → l < 2
-      → (y : List ℕ) → y ≡ sets out (6 * n) (numbers_of l (get_or hs l (end_at 0)).size (get_or hs l (end_at 0)).at)
-      → (g : List ℕ) → g ≡ pick l as' bs → (c : Cursor) → c ≡ behind_of (get_or hs l (end_at 0)) → (d : Standing) → d ≡ stand_of g c
-      → Held as' bs m old room (n + 1) (set hs l d) (set ts l (ltb 0 d.size)) turn y
-  held_on more oa ob zero f few y z g q c j d i =
-      let v : state_of (set hs 0 d) turn ≡ record { a = d; b = get_or hs 1 (end_at 0); turn = turn } = set_a hs turn d r.two in
-      let k : d ≡ stand_of as' c = i ∙ ap (λ t. stand_of t c) (q ∙ sym (pick_a 0 as' bs refl)) in
-      let u : ltb 0 d.size ≡ is_head (length as') d = ap (λ t. ltb 0 t.size) k ∙ stand_there as' oa c ∙ ap (is_head (length as')) (sym k) in
+module _ (as' bs : List ℕ) (m : Merge) (old : List ℕ) (room n : ℕ) (hs : List Side) (turn : ℕ) (out : List ℕ)
+    (r : Held as' bs m old room n hs turn out) (o : Option Log)
+    (w : o ≡ which_by turn (side_at hs 0).there (side_at hs 1).there (time_of (side_at hs 0).head) (time_of (side_at hs 1).head)) where
+  pub held_which : o ≡ which_of turn (length as') (side_at hs 0).head (length bs) (side_at hs 1).head
+  held_which = w ∙ which_by_lem turn (length as') (side_at hs 0).head (length bs) (side_at hs 1).head _ _ (sym r.in_a) (sym r.in_b)
+
+  pub held_on : n < room → Octets as' → Octets bs → (l : code.Log) → o ≡ some (log_is l) → (k : ℕ) → k ≡ digit_of l
+      → (y : List ℕ) → y ≡ sets out (6 * n) (numbers_of (digit_of l) (side_at hs k).head.size (side_at hs k).head.at)
+      → (g : List ℕ) → g ≡ choose (log_is l) as' bs → (c : Cursor) → c ≡ behind_of (side_at hs k).head → (d : Standing) → d ≡ stand_of g c
+      → Held as' bs m old room (n + 1) (set hs k (record { head = d; there = ltb 0 d.size })) turn y
+  held_on more oa ob log.A s (suc k) f y z g q c j d i = absurd (omega (arith, f))
+  held_on more oa ob log.A s zero f y z g q c j d i =
+      let t : Side = record { head = d; there = ltb 0 d.size } in
+      let v = set_a hs t r.two in
+      let e : d ≡ stand_of as' c = i ∙ ap (λ x. stand_of x c) q in
+      let u : ltb 0 d.size ≡ is_head (length as') d = ap (λ x. ltb 0 x.size) e ∙ stand_there as' oa c ∙ ap (is_head (length as')) (sym e) in
       record {
-        two = length-set hs 0 d ∙ r.two;
-        tests = length-set ts 0 (ltb 0 d.size) ∙ r.tests;
-        in_a = (there_a ts (ltb 0 d.size) r.tests).0 ∙ u ∙ ap (λ t. is_head (length as') t.a) (sym v);
-        in_b = (there_a ts (ltb 0 d.size) r.tests).1 ∙ r.in_b ∙ ap (λ t. is_head (length bs) t.b) (sym v);
+        two = length-set hs 0 t ∙ r.two;
+        in_a = ap (λ x. x.there) v.0 ∙ u ∙ ap (λ x. is_head (length as') x.head) (sym v.0);
+        in_b = ap (λ x. x.there) v.1 ∙ r.in_b ∙ ap (λ x. is_head (length bs) x.head) (sym v.1);
         run =
-            subst (λ t. Running as' bs m old room (n + 1) t y) (sym v)
-            (running_a as' bs m old room n (state_of hs turn) out r.run more o held_which 0 f few _ (pick_head hs 0 few) y z g q c j d i refl);
+            subst (λ x. Running as' bs m old room (n + 1) x y) (ap₂ (λ a b. record { a = a.head; b = b.head; turn = turn }) (sym v.0) (sym v.1))
+            (running_next as' bs m old room n (state_of hs turn) out r.run more log_a (sym s ∙ held_which) (side_at hs 0).head refl y z g q c j d i);
       }
-  held_on more oa ob (suc zero) f few y z g q c j d i =
-      let v : state_of (set hs 1 d) turn ≡ record { a = get_or hs 0 (end_at 0); b = d; turn = turn } = set_b hs turn d r.two in
-      let k : d ≡ stand_of bs c = i ∙ ap (λ t. stand_of t c) (q ∙ sym (pick_b 1 as' bs (λ z. omega (arith, z)))) in
-      let u : ltb 0 d.size ≡ is_head (length bs) d = ap (λ t. ltb 0 t.size) k ∙ stand_there bs ob c ∙ ap (is_head (length bs)) (sym k) in
+  held_on more oa ob log.B s zero f y z g q c j d i = absurd (omega (arith, f))
+  held_on more oa ob log.B s (suc (suc k)) f y z g q c j d i = absurd (omega (arith, f))
+  held_on more oa ob log.B s (suc zero) f y z g q c j d i =
+      let t : Side = record { head = d; there = ltb 0 d.size } in
+      let v = set_b hs t r.two in
+      let e : d ≡ stand_of bs c = i ∙ ap (λ x. stand_of x c) q in
+      let u : ltb 0 d.size ≡ is_head (length bs) d = ap (λ x. ltb 0 x.size) e ∙ stand_there bs ob c ∙ ap (is_head (length bs)) (sym e) in
       record {
-        two = length-set hs 1 d ∙ r.two;
-        tests = length-set ts 1 (ltb 0 d.size) ∙ r.tests;
-        in_a = (there_b ts (ltb 0 d.size) r.tests).1 ∙ r.in_a ∙ ap (λ t. is_head (length as') t.a) (sym v);
-        in_b = (there_b ts (ltb 0 d.size) r.tests).0 ∙ u ∙ ap (λ t. is_head (length bs) t.b) (sym v);
+        two = length-set hs 1 t ∙ r.two;
+        in_a = ap (λ x. x.there) v.0 ∙ r.in_a ∙ ap (λ x. is_head (length as') x.head) (sym v.0);
+        in_b = ap (λ x. x.there) v.1 ∙ u ∙ ap (λ x. is_head (length bs) x.head) (sym v.1);
         run =
-            subst (λ t. Running as' bs m old room (n + 1) t y) (sym v)
-            (running_b as' bs m old room n (state_of hs turn) out r.run more o held_which 1 f few _ (pick_head hs 1 few) y z g q c j d i (λ z. omega (arith, z)));
+            subst (λ x. Running as' bs m old room (n + 1) x y) (ap₂ (λ a b. record { a = a.head; b = b.head; turn = turn }) (sym v.0) (sym v.1))
+            (running_next as' bs m old room n (state_of hs turn) out r.run more log_b (sym s ∙ held_which) (side_at hs 1).head refl y z g q c j d i);
       }
-  held_on more oa ob (suc (suc l)) f few y z g q c j d i = absurd (omega (arith, few))

@@ -7,15 +7,10 @@ use lib.ListN.{length}
 use lib.IntN.{ℤ}
 use Rattle.rules.specs.Answer.{when◌then◌else◌}
 use Rattle.rules.specs.Catalogue.{categories}
-use Rattle.rules.specs.Merge.{Log, log_a, log_b, Span, merge_run}
+use Rattle.rules.specs.Merge.{Log, log_a, log_b, Told, next, finished, not_accepted, barred, Span, merge_run}
 use Rattle.rules.proofs.AnswerLaws.{Octets}
-use Rattle.merging.specs.declared.run.Log as code
-use Rattle.merging.specs.declared.run.Log.TheVariants as log
-use Rattle.merging.specs.declared.run.Told.{Told}
-use Rattle.merging.specs.declared.run.Told.TheVariants as told
 use Rattle.merging.specs.declared.run.Merge.{Merge}
-use Rattle.merging.specs.declared.run.Begun.TheVariants as begun
-use Rattle.merging.specs.Run.{move_of, begin_of, moves, moves_of}
+use Rattle.merging.specs.Run.{move_of, ready, begin_of, moves, moves_of}
 use Rattle.merging.specs.Many.{numbers_of, many_of}
 use Rattle.merging.proofs.RunLaws.{run_is}
 
@@ -42,11 +37,11 @@ module _ (as' bs : List ℕ) where
 
   moves_by : (k : ℕ) (m : Merge) (t : Told) → (move_of as' bs m).told ≡ t → Same k (move_of as' bs m).merge → Same (suc k) m
   unfolding many_of moves when◌then◌else◌
-  moves_by k m (told.Next log.A) e ih = rw e (ap (λ z. (log_a, ((move_of as' bs m).at.place, (move_of as' bs m).size)) ∷ z) ih)
-  moves_by k m (told.Next log.B) e ih = rw e (ap (λ z. (log_b, ((move_of as' bs m).at.place, (move_of as' bs m).size)) ∷ z) ih)
-  moves_by k m told.Finished e ih = rw e
-  moves_by k m (told.NotAccepted l n p) e ih = rw e
-  moves_by k m (told.Refused n) e ih = rw e
+  moves_by k m (next log_a) e ih = rw e (ap (λ z. (log_a, ((move_of as' bs m).at.place, (move_of as' bs m).size)) ∷ z) ih)
+  moves_by k m (next log_b) e ih = rw e (ap (λ z. (log_b, ((move_of as' bs m).at.place, (move_of as' bs m).size)) ∷ z) ih)
+  moves_by k m finished e ih = rw e
+  moves_by k m (not_accepted l n p) e ih = rw e
+  moves_by k m (barred n) e ih = rw e
 
   pub many_moves : (k : ℕ) (m : Merge) → Same k m
   unfolding many_of moves
@@ -54,7 +49,7 @@ module _ (as' bs : List ℕ) where
   many_moves (suc k) m = moves_by k m (move_of as' bs m).told refl (many_moves k (move_of as' bs m).merge)
 
   -- from the beginning, with room for all, it is the rule's run
-  pub many_run : (o : ℤ) (m : Merge) → Octets as' → Octets bs → begin_of as' bs o ≡ begun.Ready m
+  pub many_run : (o : ℤ) (m : Merge) → Octets as' → Octets bs → begin_of as' bs o ≡ ready m
       → spans_of (many_of (length as' + length bs) as' bs m).numbers ≡ merge_run categories as' bs o
   many_run o m oa ob e = many_moves (length as' + length bs) m ∙ sym (ap (moves_of (length as' + length bs) as' bs) e) ∙ run_is as' bs oa ob o
 
@@ -66,28 +61,28 @@ module _ (as' bs : List ℕ) where
   abbrev Still : Merge → Told → Type 0
   Still m t = (k : ℕ) → (move_of as' bs m).told ≡ t → (many_of k as' bs m).numbers ≡ []
 
-  still_finished : (m : Merge) → Still m told.Finished
+  still_finished : (m : Merge) → Still m finished
   unfolding many_of when◌then◌else◌
   still_finished m zero e = refl
   still_finished m (suc k) e = rw e
 
-  still_closed : (m : Merge) (l : code.Log) (n p : ℕ) → Still m (told.NotAccepted l n p)
+  still_closed : (m : Merge) (l : Log) (n p : ℕ) → Still m (not_accepted l n p)
   unfolding many_of when◌then◌else◌
   still_closed m l n p zero e = refl
   still_closed m l n p (suc k) e = rw e
 
-  still_barred : (m : Merge) (n : ℕ) → Still m (told.Refused n)
+  still_barred : (m : Merge) (n : ℕ) → Still m (barred n)
   unfolding many_of when◌then◌else◌
   still_barred m n zero e = refl
   still_barred m n (suc k) e = rw e
 
   joined_by : (j k : ℕ) (m : Merge) (t : Told) → (move_of as' bs m).told ≡ t → Joined j k (move_of as' bs m).merge → Joined (suc j) k m
   unfolding many_of when◌then◌else◌
-  joined_by j k m (told.Next log.A) e ih = ap (λ n. (many_of n as' bs m).numbers) (suc-add j k) ∙ rw e (ap (λ z. numbers_of 0 (move_of as' bs m).size (move_of as' bs m).at ++ z) ih)
-  joined_by j k m (told.Next log.B) e ih = ap (λ n. (many_of n as' bs m).numbers) (suc-add j k) ∙ rw e (ap (λ z. numbers_of 1 (move_of as' bs m).size (move_of as' bs m).at ++ z) ih)
-  joined_by j k m told.Finished e ih = still_finished m (suc j + k) e ∙ rw e (sym (still_finished m k e))
-  joined_by j k m (told.NotAccepted l n p) e ih = still_closed m l n p (suc j + k) e ∙ rw e (sym (still_closed m l n p k e))
-  joined_by j k m (told.Refused n) e ih = still_barred m n (suc j + k) e ∙ rw e (sym (still_barred m n k e))
+  joined_by j k m (next log_a) e ih = ap (λ n. (many_of n as' bs m).numbers) (suc-add j k) ∙ rw e (ap (λ z. numbers_of 0 (move_of as' bs m).size (move_of as' bs m).at ++ z) ih)
+  joined_by j k m (next log_b) e ih = ap (λ n. (many_of n as' bs m).numbers) (suc-add j k) ∙ rw e (ap (λ z. numbers_of 1 (move_of as' bs m).size (move_of as' bs m).at ++ z) ih)
+  joined_by j k m finished e ih = still_finished m (suc j + k) e ∙ rw e (sym (still_finished m k e))
+  joined_by j k m (not_accepted l n p) e ih = still_closed m l n p (suc j + k) e ∙ rw e (sym (still_closed m l n p k e))
+  joined_by j k m (barred n) e ih = still_barred m n (suc j + k) e ∙ rw e (sym (still_barred m n k e))
 
   pub many_joined : (j k : ℕ) (m : Merge) → Joined j k m
   unfolding many_of

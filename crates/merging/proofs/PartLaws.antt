@@ -11,17 +11,16 @@ use lib.IntN.{ℤ}
 use denote.Ref.{Bor}
 use Rattle.rules.specs.Answer.{when◌then◌else◌}
 use Rattle.rules.specs.Catalogue.{categories}
-use Rattle.rules.specs.Merge.{Log, log_a, log_b, choose, first, Head, Checked, accepted, unread, log_of, start_of, from_place, Told, next, finished, not_accepted, barred, Step, stay, goes, in_range, step_from, with_places, step_of, merge_step, part_log}
+use Rattle.rules.specs.Merge.{Log, log_a, log_b, choose, first, Head, Checked, accepted, unread, log_of, start_of, from_place, barred, Step, stay, goes, in_range, step_from, with_places, step_of, merge_step, part_log}
 use Rattle.rules.proofs.AnswerLaws.{some_inj, none_some, Octets}
 use Rattle.rules.proofs.RunLaws.{Rises}
 use Rattle.rules.proofs.LogLaws.{log_accepted, log_rises}
 use Rattle.finding.specs.Part.{VeryPart}
-use Rattle.merging.specs.declared.run.Log as code
-use Rattle.merging.specs.declared.run.Log.TheVariants as log
 use Rattle.merging.specs.declared.run.Merge.{Merge}
-use Rattle.merging.specs.declared.step.Merged.{Merged}
-use Rattle.merging.specs.Run.{log_in, told_in, which_of, moved_by, move_of}
-use Rattle.merging.specs.Step.{merged_of, part_in, of_log, PartOf}
+use Rattle.merging.specs.declared.run.MergeRefusal.{MergeRefusal}
+use Rattle.merging.specs.declared.run.MergeRefusal.TheVariants.{OfLog, Asked}
+use Rattle.merging.specs.Run.{told_of, which_of, moved_by, move_of}
+use Rattle.merging.specs.Step.{of_log, PartOf}
 use Rattle.merging.proofs.HeadLaws.{head_fits}
 use Rattle.merging.proofs.WhichLaws.{which_head}
 
@@ -92,46 +91,33 @@ step_inside as' bs p q o oa ob = by (log_of categories as') (log_of categories b
 
 -- ---- a step from any state, one that a caller changed too
 
--- how long the log is whose part comes out
-abbrev length_in : code.Log → ℕ → ℕ → ℕ
-length_in log.A m n = m
-length_in log.B m n = n
-
-pub step_part : (as' bs : List ℕ) (m : Merge) → (move_of as' bs m).at.place + (move_of as' bs m).size ≤ length_in (part_in (move_of as' bs m).told) (length as') (length bs)
+pub step_part : (as' bs : List ℕ) (m : Merge) → (move_of as' bs m).at.place + (move_of as' bs m).size ≤ choose (part_log (move_of as' bs m).told) (length as') (length bs)
 unfolding move_of
 step_part as' bs m = by (which_of m.turn (length as') m.a (length bs) m.b) refl
   where
     by : (w : Option Log) → which_of m.turn (length as') m.a (length bs) m.b ≡ w
-        → (moved_by as' bs m w).at.place + (moved_by as' bs m w).size ≤ length_in (part_in (moved_by as' bs m w).told) (length as') (length bs)
+        → (moved_by as' bs m w).at.place + (moved_by as' bs m w).size ≤ choose (part_log (moved_by as' bs m w).told) (length as') (length bs)
     by none e = omega arith
     by (some log_a) e = head_fits (length as') m.a (which_head m.turn (length as') m.a (length bs) m.b log_a e)
     by (some log_b) e = head_fits (length bs) m.b (which_head m.turn (length as') m.a (length bs) m.b log_b e)
 
--- ---- the part that the code hands back, of the log that it is told
+-- ---- the part that the code hands back: of the log that is told, and log A's where none is
 
-part_told : (t : Told) → part_in (told_in t) ≡ log_in (part_log t)
-part_told (next l) = refl
-part_told finished = refl
-part_told (not_accepted l r p) = refl
-part_told (barred r) = refl
+pub part_refused : (r : MergeRefusal) → part_log (told_of r) ≡ log_a
+part_refused (OfLog l r) = refl
+part_refused (Asked f) = refl
 
-log_inj : (k l : Log) → log_in k ≡ log_in l → k ≡ l
-log_inj log_a log_a h = refl
-log_inj log_a log_b h = let z : ◌≡◌ {A = ℕ} 0 1 = cc in absurd (omega arith)
-log_inj log_b log_a h = let z : ◌≡◌ {A = ℕ} 0 1 = cc in absurd (omega arith)
-log_inj log_b log_b h = refl
+module _ (s z : Step) (e : z ≡ s) (l : Log) (g : part_log z.told ≡ l) where
+  log_is_lem : part_log s.told ≡ l
+  log_is_lem = sym (ap (λ x. part_log x.told) e) ∙ g
 
-module _ (s : Step) (m : Merged) (e : m ≡ merged_of s) (k : code.Log) (h : k ≡ part_in m.told) (l : Log) (g : k ≡ log_in l) where
-  log_is : part_log s.told ≡ l
-  log_is = log_inj (part_log s.told) l (sym (part_told s.told) ∙ sym (ap (λ z. part_in z.told) e) ∙ sym h ∙ g)
+  span_is : s.span ≡ z.span
+  span_is = sym (ap (λ x. x.span) e)
 
-  span_is : ◌≡◌ {A = ℕ × ℕ} s.span (m.start, m.size)
-  span_is = sym (ap {B = ℕ × ℕ} (λ z. (z.start, z.size)) e)
-
-  pub part_here : (a b r : Bor (List ℕ)) → VeryPart (of_log l a b) r (m.start, m.size) → PartOf a b r s
+  pub part_here : (a b r : Bor (List ℕ)) → VeryPart (of_log l a b) r z.span → PartOf a b r s
   part_here a b r v =
-      subst (λ z. VeryPart (of_log z a b) r s.span) (sym log_is) (subst (VeryPart (of_log l a b) r) (sym span_is) v)
+      subst (λ x. VeryPart (of_log x a b) r s.span) (sym log_is_lem) (subst (VeryPart (of_log l a b) r) (sym span_is) v)
 
-  pub part_inside : (x y : ℕ) → Inside x y s → m.start + m.size ≤ choose l x y
+  pub part_inside : (x y : ℕ) → Inside x y s → z.span.0 + z.span.1 ≤ choose l x y
   part_inside x y i =
-      subst (λ z. z.0 + z.1 ≤ choose l x y) span_is (subst (λ z. s.span.0 + s.span.1 ≤ choose z x y) log_is i)
+      subst (λ w. w.0 + w.1 ≤ choose l x y) span_is (subst (λ w. s.span.0 + s.span.1 ≤ choose w x y) log_is_lem i)

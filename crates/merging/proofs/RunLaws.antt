@@ -9,8 +9,7 @@ use lib.IntN.{ℤ}
 use Rattle.rules.specs.Answer.{Answer, ok, refused, when◌then◌else◌}
 use Rattle.rules.specs.Catalogue.{categories}
 use Rattle.rules.specs.Entry.{Counts, check_recording}
-use Rattle.rules.specs.Merge.{mod_day, Log, log_a, log_b, Head, Span, Checked, accepted, unread, log_of, start_of, from_place, next, finished, not_accepted, barred, Step, in_range, step_from, with_places, step_of, when_next, steps_of, opening, extent, run_of, merge_run}
-use Rattle.rules.specs.Merge as rules
+use Rattle.rules.specs.Merge.{mod_day, Log, log_a, log_b, Head, Span, Checked, accepted, unread, log_of, start_of, from_place, barred, Step, in_range, step_from, with_places, step_of, when_next, steps_of, opening, extent, run_of, merge_run}
 use Rattle.rules.proofs.AnswerLaws.{Octets}
 use Rattle.rules.proofs.RunLaws.{Rises, from_start, from_next}
 use Rattle.rules.proofs.LogLaws.{log_rises}
@@ -18,15 +17,12 @@ use Rattle.walking.specs.declared.Cursor.{Cursor}
 use Rattle.walking.specs.Walk.{begin}
 use Rattle.merging.specs.declared.heads.Standing.{Standing}
 use Rattle.merging.specs.declared.run.Merge.{Merge}
-use Rattle.merging.specs.declared.run.Begun.TheVariants as begun
-use Rattle.merging.specs.declared.step.Merged.{Merged}
 use Rattle.merging.specs.Heads.{stand_of, is_head, behind_of, heads_left, head_of, left_of}
-use Rattle.merging.specs.Run.{told_in, which_of, moved_by, move_of, begun_by, begin_of, when_moved, moves, moves_of}
-use Rattle.merging.specs.Step.{merged_of}
+use Rattle.merging.specs.Run.{which_of, moved_by, move_of, ready, stopped, begun_by, begin_of, moves, moves_of}
 use Rattle.merging.proofs.WhichLaws.{which_head}
 use Rattle.merging.proofs.HeadLaws.{left_head, stands}
 use Rattle.merging.proofs.LogHeads.{log_on, log_off}
-use Rattle.merging.proofs.StepLaws.{next_place, merged_by, move_is}
+use Rattle.merging.proofs.StepLaws.{next_place, step_by, move_is}
 
 -- ---- a standing among a log's records: from its place come those that it stands for
 
@@ -44,14 +40,7 @@ on_next : (cs : List ℕ) → Octets cs → (hs : List Head) → Rises (length c
 on_next cs oc hs r s y h =
     on_stand cs oc hs (behind_of s) (from_next (length cs) 0 s.at.place hs (heads_left cs (behind_of s)) (head_of s) r (h ∙ ap some (left_head cs s y)))
 
--- ---- a step's answer, in the rule's words
-
-told_as : (t : rules.Told) (f : Log → List (Log × Span)) → when_moved (told_in t) f ≡ when_next t f
-told_as (next log_a) f = refl
-told_as (next log_b) f = refl
-told_as finished f = refl
-told_as (not_accepted l r p) f = refl
-told_as (barred r) f = refl
+-- ---- the run
 
 -- two logs that are accepted, and an offset in range
 module _ (as' bs : List ℕ) (oa : Octets as') (ob : Octets bs) (o : ℤ) (ranged : in_range o ≡ true) (xs ys : List Head) (ra : Rises (length as') 0 xs)
@@ -88,15 +77,14 @@ module _ (as' bs : List ℕ) (oa : Octets as') (ob : Octets bs) (o : ℤ) (range
   runs zero m g = refl
   runs (suc k) m g = rw (ranged, g.of_a, g.of_b) (by (step_from o (length as') (length bs) m.a.at.place m.b.at.place (left_of as' m.a) (left_of bs m.b)) (move_is as' bs oa ob o m g.turned) (runs k (move_of as' bs m).merge (after m g)))
     where
-      by : (s : Step) → merged_by (move_of as' bs m) ≡ merged_of s → Runs k (move_of as' bs m).merge
-          → (when_moved (move_of as' bs m).told λ l. (l, ((move_of as' bs m).at.place, (move_of as' bs m).size)) ∷ moves k as' bs (move_of as' bs m).merge)
+      by : (s : Step) → step_by (move_of as' bs m) ≡ s → Runs k (move_of as' bs m).merge
+          → (when_next (move_of as' bs m).told λ l. (l, ((move_of as' bs m).at.place, (move_of as' bs m).size)) ∷ moves k as' bs (move_of as' bs m).merge)
           ≡ (when_next s.told λ l. (l, s.span) ∷ steps_of (accepted xs (length as')) (accepted ys (length bs)) o k s.place_a s.place_b)
       by s e i =
-          let f : Merged → Log → List (Log × Span) =
-          λ z l. (l, (z.start, z.size)) ∷ steps_of (accepted xs (length as')) (accepted ys (length bs)) o k z.place_a z.place_b in
-          ap (λ z. when_moved (move_of as' bs m).told λ l. (l, ((move_of as' bs m).at.place, (move_of as' bs m).size)) ∷ z) i
-          ∙ ap (λ z. when_moved z.told (f z)) e
-          ∙ told_as s.told (f (merged_of s))
+          let f : Step → Log → List (Log × Span) =
+          λ z l. (l, z.span) ∷ steps_of (accepted xs (length as')) (accepted ys (length bs)) o k z.place_a z.place_b in
+          ap (λ z. when_next (move_of as' bs m).told λ l. (l, ((move_of as' bs m).at.place, (move_of as' bs m).size)) ∷ z) i
+          ∙ ap (λ z. when_next z.told (f z)) e
 
 -- ---- from the beginning
 
@@ -128,10 +116,10 @@ module _ (as' bs : List ℕ) (oa : Octets as') (ob : Octets bs) (o : ℤ) where
   unfolding begin_of merge_run run_of when◌then◌else◌
   run_is = by (check_recording categories as') (check_recording categories bs) refl refl
     where
-      ready : (x y : Counts) → check_recording categories as' ≡ ok x → check_recording categories bs ≡ ok y → (t : Bool) → in_range o ≡ t
-          → moves_of (length as' + length bs) as' bs (when t then begun.Ready (record { a = stand_of as' begin; b = stand_of bs begin; turn = mod_day o }) else begun.Refused 22)
+      opens : (x y : Counts) → check_recording categories as' ≡ ok x → check_recording categories bs ≡ ok y → (t : Bool) → in_range o ≡ t
+          → moves_of (length as' + length bs) as' bs (when t then ready (record { a = stand_of as' begin; b = stand_of bs begin; turn = mod_day o }) else stopped (barred 22))
           ≡ Rule (log_of categories as') (log_of categories bs)
-      ready x y ea eb true e =
+      opens x y ea eb true e =
           let hs : List Head = heads_left as' begin in
           let js : List Head = heads_left bs begin in
           runs as' bs oa ob o e hs js (rises as' oa x ea) (rises bs ob y eb) (length as' + length bs) (record { a = stand_of as' begin; b = stand_of bs begin; turn = mod_day o })
@@ -142,10 +130,10 @@ module _ (as' bs : List ℕ) (oa : Octets as') (ob : Octets bs) (o : ℤ) where
           })
           ∙ ap₂ (λ p q. steps_of (accepted hs (length as')) (accepted js (length bs)) o (length as' + length bs) p q) (sym (next_place as' oa begin)) (sym (next_place bs ob begin))
           ∙ sym (ap₂ Rule (log_on as' oa x ea) (log_on bs ob y eb))
-      ready x y ea eb false e = sym (ap₂ Rule (log_on as' oa x ea) (log_on bs ob y eb) ∙ none_22 e _ _ _ _ _ _ _)
+      opens x y ea eb false e = sym (ap₂ Rule (log_on as' oa x ea) (log_on bs ob y eb) ∙ none_22 e _ _ _ _ _ _ _)
 
       by : (x y : Answer Counts) → check_recording categories as' ≡ x → check_recording categories bs ≡ y
           → moves_of (length as' + length bs) as' bs (begun_by as' bs o x y) ≡ Rule (log_of categories as') (log_of categories bs)
       by (refused n p) y ea eb = sym (ap (λ u. Rule u (log_of categories bs)) (log_off as' n p ea) ∙ none_a n p (log_of categories bs) _ _ _)
       by (ok x) (refused n p) ea eb = sym (ap₂ Rule (log_on as' oa x ea) (log_off bs n p eb) ∙ none_b n p _ _ _ _ _)
-      by (ok x) (ok y) ea eb = ready x y ea eb (in_range o) refl
+      by (ok x) (ok y) ea eb = opens x y ea eb (in_range o) refl

@@ -13,7 +13,7 @@ use Rattle.rules.proofs.AnswerLaws.{Octets}
 use Rattle.walking.specs.declared.Cursor.{Cursor}
 use Rattle.walking.specs.Walk.{begin}
 use Rattle.merging.specs.declared.heads.Standing.{Standing}
-use Rattle.merging.specs.declared.heads.Sought.TheVariants as sought
+use Rattle.std.specs.Prelude.{Some, None}
 use Rattle.merging.specs.Heads.{stand_of, is_head, behind_of, heads_left, head_of, left_of, Stands, Found}
 use Rattle.merging.proofs.HeadLaws.{left_none, left_head, stands}
 
@@ -45,11 +45,11 @@ unfolding from_place when◌then◌else◌
 from_none end p e = rw (ne_eqb p end e)
 
 module _ (bs : List ℕ) (place : ℕ) (s : Standing) (k : Seeking bs place s) where
-  found_here : from_place (length bs) place (left_of bs s) ≡ some (left_of bs s) → Found bs (sought.At s) (from_place (length bs) place (heads_left bs begin))
+  found_here : from_place (length bs) place (left_of bs s) ≡ some (left_of bs s) → Found bs (Some s) (from_place (length bs) place (heads_left bs begin))
   unfolding Found
-  found_here f = subst (Found bs (sought.At s)) (sym f ∙ k.same) (record { is = refl; ended = k.ended })
+  found_here f = subst (Found bs (Some s)) (sym f ∙ k.same) (record { is = refl; ended = k.ended })
 
-  pub seek_hit : is_head (length bs) s ≡ true → s.at.place ≡ place → Found bs (sought.At s) (from_place (length bs) place (heads_left bs begin))
+  pub seek_hit : is_head (length bs) s ≡ true → s.at.place ≡ place → Found bs (Some s) (from_place (length bs) place (heads_left bs begin))
   seek_hit n e = found_here (rw (left_head bs s n) (from_hit (length bs) place (head_of s) (heads_left bs (behind_of s)) (sym e)))
 
   pub seek_more : (c : Cursor) (d : Standing) → is_head (length bs) s ≡ true → (s.at.place ≡ place → ⊥) → c ≡ behind_of s → d ≡ stand_of bs c → Seeking bs place d
@@ -66,14 +66,14 @@ module _ (bs : List ℕ) (place : ℕ) (s : Standing) (k : Seeking bs place s) w
             ∙ k.same;
       })
 
-  pub seek_last : is_head (length bs) s ≡ false → place ≡ length bs → Found bs (sought.At s) (from_place (length bs) place (heads_left bs begin))
+  pub seek_last : is_head (length bs) s ≡ false → place ≡ length bs → Found bs (Some s) (from_place (length bs) place (heads_left bs begin))
   seek_last n e = found_here (rw (left_none bs s n) (from_end (length bs) place e))
 
-  pub seek_miss : is_head (length bs) s ≡ false → (place ≡ length bs → ⊥) → Found bs sought.Nowhere (from_place (length bs) place (heads_left bs begin))
+  pub seek_miss : is_head (length bs) s ≡ false → (place ≡ length bs → ⊥) → Found bs None (from_place (length bs) place (heads_left bs begin))
   unfolding Found
   seek_miss n e =
       let f : from_place (length bs) place (left_of bs s) ≡ none = rw (left_none bs s n) (from_none (length bs) place e) in
-      subst (Found bs sought.Nowhere) (sym f ∙ k.same) tt
+      subst (Found bs None) (sym f ∙ k.same) tt
 
   -- the turns end, as there are fewer to come
   pub fewer : (c : Cursor) (d : Standing) → is_head (length bs) s ≡ true → c ≡ behind_of s → d ≡ stand_of bs c → length (left_of bs d) < length (left_of bs s)

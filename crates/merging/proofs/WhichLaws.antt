@@ -1,17 +1,18 @@
 -- The offset, and which of two records goes first, as the code goes. Assumes nothing.
 use Prim.Native.Nat.{ℕ, ◌+◌, ◌-◌, ◌%◌, ◌<◌, ◌≤◌}
 use mathlib.Core.Path.{◌≡◌, refl, sym, ap, ap₂, ◌∙◌}
-use mathlib.Core.Bool.{Bool, true, false, true≢false}
+use mathlib.Core.Bool.{Bool, true, false, not, true≢false}
 use mathlib.Core.Option.{Option, none, some}
 use native.Mathlib.Omega.{arith}
 use lib.Dec.{leb}
 use lib.IntN.{ℤ, pos, negsuc}
 use lib.Signed.{mag, lt_z}
-use borrow.Author.Tests.{le-ltb, le-leb, lt-leb}
+use borrow.Author.Tests.{le-ltb, le-leb, lt-leb, not-true, not-false}
 use Rattle.rules.specs.Merge.{day, half_day, mod_day, Log, log_a, log_b, log_if, choose, first, in_range}
 use Rattle.rules.proofs.AnswerLaws.{none_some}
 use Rattle.rules.proofs.DayLaws.{mod_less, gap_is}
 use Rattle.merging.specs.declared.heads.Standing.{Standing}
+use Rattle.merging.specs.declared.run.Side.{Side}
 use Rattle.merging.specs.Heads.{is_head}
 use Rattle.merging.specs.Run.{first_by, time_of, which_by, which_of}
 
@@ -54,28 +55,41 @@ first_is offset (some a) (some b) = ap (λ g. log_if (leb g half_day)) (gap_is o
 
 -- ---- which record goes first
 
-module _ (turn : ℕ) (x y : Bool) (a b : Standing) where
-  pub which_is_lem : (u v : Bool) → x ≡ u → y ≡ v → which_by turn u v (time_of a) (time_of b) ≡ which_by turn x y (time_of a) (time_of b)
-  which_is_lem u v p q = sym (ap₂ (λ s t. which_by turn s t (time_of a) (time_of b)) p q)
+module _ (turn : ℕ) (a b : Side) where
+  abbrev goes : Option Log
+  goes = which_by turn a.there b.there (time_of a.head) (time_of b.head)
 
-  module _ (p : x ≡ true) (q : y ≡ true) where
-    pub untimed_a : a.timed ≡ false → some log_a ≡ which_by turn x y (time_of a) (time_of b)
-    unfolding first_by
-    untimed_a e = rw (p, q, e)
+  as_there : (u v : Bool) → a.there ≡ u → b.there ≡ v → which_by turn u v (time_of a.head) (time_of b.head) ≡ goes
+  as_there u v p q = sym (ap₂ (λ s t. which_by turn s t (time_of a.head) (time_of b.head)) p q)
 
-    module _ (e : a.timed ≡ true) where
-      pub untimed_b : b.timed ≡ false → some log_b ≡ which_by turn x y (time_of a) (time_of b)
+  pub neither : not a.there ≡ true → not b.there ≡ true → none ≡ goes
+  neither p q = as_there false false (not-true _ p) (not-true _ q)
+
+  pub only_b : not a.there ≡ true → not b.there ≡ false → some log_b ≡ goes
+  only_b p q = as_there false true (not-true _ p) (not-false _ q)
+
+  module _ (p : not a.there ≡ false) where
+    pub only_a : not b.there ≡ true → some log_a ≡ goes
+    only_a q = as_there true false (not-false _ p) (not-true _ q)
+
+    module _ (q : not b.there ≡ false) where
+      pub untimed_a : not a.head.timed ≡ true → some log_a ≡ goes
       unfolding first_by
-      untimed_b f = rw (p, q, e, f)
+      untimed_a e = rw (not-false a.there p, not-false b.there q, not-true a.head.timed e)
 
-      module _ (f : b.timed ≡ true) where
-        pub timed_near : (b.time % day + turn % day + (day - a.time % day)) % day ≤ half_day → some log_a ≡ which_by turn x y (time_of a) (time_of b)
+      module _ (e : not a.head.timed ≡ false) where
+        pub untimed_b : not b.head.timed ≡ true → some log_b ≡ goes
         unfolding first_by
-        timed_near h = rw (p, q, e, f, le-leb _ _ h)
+        untimed_b f = rw (not-false a.there p, not-false b.there q, not-false a.head.timed e, not-true b.head.timed f)
 
-        pub timed_far : half_day < (b.time % day + turn % day + (day - a.time % day)) % day → some log_b ≡ which_by turn x y (time_of a) (time_of b)
-        unfolding first_by
-        timed_far h = rw (p, q, e, f, lt-leb _ _ h)
+        module _ (f : not b.head.timed ≡ false) where
+          pub timed_near : (b.head.time % day + turn % day + (day - a.head.time % day)) % day ≤ half_day → some log_a ≡ goes
+          unfolding first_by
+          timed_near h = rw (not-false a.there p, not-false b.there q, not-false a.head.timed e, not-false b.head.timed f, le-leb _ _ h)
+
+          pub timed_far : half_day < (b.head.time % day + turn % day + (day - a.head.time % day)) % day → some log_b ≡ goes
+          unfolding first_by
+          timed_far h = rw (not-false a.there p, not-false b.there q, not-false a.head.timed e, not-false b.head.timed f, lt-leb _ _ h)
 
 module _ (turn m : ℕ) (a : Standing) (n : ℕ) (b : Standing) where
   pub which_by_lem : (x y : Bool) → is_head m a ≡ x → is_head n b ≡ y → which_by turn x y (time_of a) (time_of b) ≡ which_of turn m a n b

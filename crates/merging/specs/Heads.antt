@@ -2,7 +2,7 @@
 -- measured. Assumes nothing.
 --
 -- In order: where a walk stands; the record that it comes to; all that come; a search.
-use Rattle.std.specs.Prelude.{ℕ, zero, suc, ◌+◌, ◌-◌, ◌≡◌, Bool, true, false, ◌&&◌, List, [], ◌∷◌, eqb, leb, ltb, length}
+use Rattle.std.specs.Prelude.{ℕ, zero, suc, ◌+◌, ◌-◌, ◌≡◌, Bool, true, false, ◌&&◌, List, [], ◌∷◌, eqb, leb, ltb, length, Option as Optional, Some, None, is_some, unwrap_or}
 use Rattle.std.proofs.Math.Option.{Option, none, some}
 use Rattle.rules.specs.Answer.{Answer, ok, refused, when◌then◌else◌}
 use Rattle.rules.specs.Merge.{Head}
@@ -11,8 +11,6 @@ use Rattle.measuring.specs.Measure.{measure_of}
 use Rattle.walking.specs.declared.Cursor.{Cursor}
 use Rattle.walking.specs.Walk.{part, block_at}
 use Rattle.merging.specs.declared.heads.Standing.{Standing}
-use Rattle.merging.specs.declared.heads.Sought.{Sought}
-use Rattle.merging.specs.declared.heads.Sought.TheVariants as sought
 
 -- ---- where a walk stands
 
@@ -37,7 +35,7 @@ unfoldable pub cursor_at : List ℕ → Cursor → Cursor
 cursor_at bs c = found_in (length bs) (block_at bs c)
 
 abbrev pub stood_by : ℕ → Cursor → Measured → Standing
-stood_by n d m = when eqb m.size 0 then end_at n else record { at = d; size = m.size; timed = m.timed; time = m.time }
+stood_by n d m = when eqb m.size 0 then end_at n else record { at = d; size = m.size; timed = is_some m.time; time = unwrap_or m.time 0 }
 
 unfoldable pub stood_at : List ℕ → Cursor → Standing
 stood_at bs d = stood_by (length bs) d (measure_of d.category (part bs d.place d.end))
@@ -80,8 +78,8 @@ pub record Stands (bs : List ℕ) (s : Standing) (hs : List Head) : Type 0 where
   pub ended : is_head (length bs) s ≡ false → s.at.place ≡ length bs
 
 -- what a search for a place finds
-unfoldable pub Found : List ℕ → Sought → Option (List Head) → Type 0
-Found bs (sought.At s) (some hs) = Stands bs s hs
-Found bs (sought.At s) none = ⊥
-Found bs sought.Nowhere (some hs) = ⊥
-Found bs sought.Nowhere none = Unit {0}
+unfoldable pub Found : List ℕ → Optional Standing → Option (List Head) → Type 0
+Found bs (Some s) (some hs) = Stands bs s hs
+Found bs (Some s) none = ⊥
+Found bs None (some hs) = ⊥
+Found bs None none = Unit {0}

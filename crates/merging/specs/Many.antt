@@ -1,34 +1,20 @@
 -- So many steps of the run at once: six numbers of each record that comes out, and the state after them. Assumes nothing.
-use Rattle.std.specs.Prelude.{ℕ, zero, suc, List, [], ◌∷◌, ◌++◌, eqb, ltb}
-use Rattle.std.proofs.Math.Option.{Option, none, some}
+use Rattle.std.specs.Prelude.{ℕ, zero, suc, List, [], ◌∷◌, ◌++◌, ltb}
 use Rattle.rules.specs.Answer.{when◌then◌else◌}
-use Rattle.rules.specs.Merge.{Log, log_a, log_b}
+use Rattle.rules.specs.Merge.{Told, next, finished, not_accepted, barred}
 use Rattle.walking.specs.declared.Cursor.{Cursor}
-use Rattle.merging.specs.declared.run.Log.TheVariants as log
-use Rattle.merging.specs.declared.run.Told.{Told}
-use Rattle.merging.specs.declared.run.Told.TheVariants as told
 use Rattle.merging.specs.declared.run.Merge.{Merge}
 use Rattle.merging.specs.declared.many.Ran.{Ran}
-use Rattle.merging.specs.Run.{move_of}
+use Rattle.merging.specs.Run.{digit, move_of}
 
 -- ---- a record
 
 -- 0 is log A's, 1 is log B's, 2 is none
 abbrev pub log_number : Told → ℕ
-log_number (told.Next log.A) = 0
-log_number (told.Next log.B) = 1
-log_number told.Finished = 2
-log_number (told.NotAccepted l n p) = 2
-log_number (told.Refused n) = 2
-
-abbrev pub number_of : Option Log → ℕ
-number_of (some log_a) = 0
-number_of (some log_b) = 1
-number_of none = 2
-
--- of two, by that number
-unfoldable pub pick : {A : Type 0} → ℕ → A → A → A
-pick l a b = when eqb l 0 then a else b
+log_number (next l) = digit l
+log_number finished = 2
+log_number (not_accepted l n p) = 2
+log_number (barred n) = 2
 
 -- its log, its octets, and the walk at it
 abbrev pub numbers_of : ℕ → ℕ → Cursor → List ℕ

@@ -1,13 +1,12 @@
 // The record that comes next in a log, with its time; and the search for a place (document 02, W-201). The log was checked before: a record is only
-// measured, item by item, or by a table of shapes that is lent.
+// measured.
 ghost use Rattle.std.specs.Prelude.{◌≡◌, true, ◌+◌, ◌^◌, ◌≤◌, ◌<◌, length};
 ghost use Rattle.rules.specs.Merge.{from_place};
-ghost use Rattle.measuring.specs.Shape.{sound_shapes};
 ghost use Rattle.walking.specs.Walk.{begin};
 ghost use Rattle.merging.specs.Heads.{in_log, end_cursor, end_at, cursor_at, stood_by, stood_at, stand_of, is_head, behind_of, heads_left, Found};
 
-use measuring::{Measured, Shapes, measure, measure_by};
-use walking::{BlockFound, Cursor};
+use measuring::{Measured, measure};
+use walking::{Cursor, block_at};
 
 // The record that comes next: the walk at it, whose place is its first byte, how many bytes it has, and its time where it counts as timed. At the
 // recording's end the size is 0 and the place the recording's length.
@@ -15,6 +14,7 @@ use walking::{BlockFound, Cursor};
 pub struct Standing {
     pub at: Cursor,
     pub size: usize,
+    // Not one Option: a run goes through C and back as it is, the time of a record that is not timed too.
     pub timed: bool,
     pub time: u64,
 }
@@ -24,20 +24,13 @@ impl Standing {
     pub fn is_head(self, len: usize) -> bool
         ensures { result ≡ is_head len self }
     {
-        let at = self.at;
-        if at.place < at.block {
-            return false;
-        }
-        if at.end < at.place {
-            return false;
-        }
-        if len < at.end {
+        if !is_in_log(self.at, len) {
             return false;
         }
         if self.size == 0 {
             return false;
         }
-        self.size <= at.end - at.place
+        self.size <= self.at.end - self.at.place
     }
 }
 
@@ -46,12 +39,21 @@ pub fn behind(standing: Standing) -> Cursor
     requires { standing.at.place + standing.size < 2 ^ 63 }
     ensures { result ≡ behind_of standing }
 {
-    let at = standing.at;
     Cursor {
-        block: at.block,
-        place: at.place + standing.size,
-        end: at.end,
-        category: at.category,
+        place: standing.at.place + standing.size,
+        ..standing.at
+    }
+}
+
+// Where a walk stands at the log's end.
+fn last(len: usize) -> Cursor
+    ensures { result ≡ end_cursor len }
+{
+    Cursor {
+        block: 0,
+        place: len,
+        end: len,
+        category: 0,
     }
 }
 
@@ -60,12 +62,7 @@ fn ended(len: usize) -> Standing
     ensures { result ≡ end_at len }
 {
     Standing {
-        at: Cursor {
-            block: 0,
-            place: len,
-            end: len,
-            category: 0,
-        },
+        at: last(len),
         size: 0,
         timed: false,
         time: 0,
@@ -90,18 +87,9 @@ fn cursor_at(recording: &[u8], cursor: Cursor) -> Cursor
     requires { cursor.end ≤ length recording.now }
     ensures { result ≡ cursor_at recording.now cursor }
 {
-    let found = walking::block_at(recording, cursor);
-    match found {
-        BlockFound::At(at) => at,
-        BlockFound::Refused {
-            number: _,
-            place: _,
-        } => Cursor {
-            block: 0,
-            place: recording.len(),
-            end: recording.len(),
-            category: 0,
-        },
+    match block_at(recording, cursor) {
+        Ok(at) => at,
+        Err(_) => last(recording.len()),
     }
 }
 
@@ -115,8 +103,8 @@ fn stood(len: usize, at: Cursor, measured: Measured) -> Standing
     Standing {
         at,
         size: measured.size,
-        timed: measured.timed,
-        time: measured.time,
+        timed: measured.time.is_some(),
+        time: measured.time.unwrap_or(0),
     }
 }
 
@@ -133,20 +121,6 @@ fn stood_at(recording: &[u8], at: Cursor) -> Standing
     )
 }
 
-// The same, by a table that is lent.
-fn stood_by(shapes: &Shapes, recording: &[u8], at: Cursor) -> Standing
-    requires { (sound_shapes shapes.now ≡ true) × (at.place ≤ at.end) × (at.end ≤ length recording.now) }
-    ensures { result ≡ stood_at recording.now at }
-{
-    let place = at.place;
-    let end = at.end;
-    stood(
-        recording.len(),
-        at,
-        measure_by(shapes, at.category, &recording[place..end]),
-    )
-}
-
 // The record that a walk comes to from a cursor; the log's end where there is none.
 pub fn stand(recording: &[u8], cursor: Cursor) -> Standing
     ensures { result ≡ stand_of recording.now cursor }
@@ -154,40 +128,34 @@ pub fn stand(recording: &[u8], cursor: Cursor) -> Standing
     if !is_in_log(cursor, recording.len()) {
         return ended(recording.len());
     }
+    stand_in(recording, cursor)
+}
+
+// The same from a cursor in the log: a loop over many records has it compiled in.
+#[inline(always)]
+pub fn stand_in(recording: &[u8], cursor: Cursor) -> Standing
+    requires { in_log (length recording.now) cursor ≡ true }
+    ensures { result ≡ stand_of recording.now cursor }
+{
     let at = cursor_at(recording, cursor);
     stood_at(recording, at)
 }
 
-// The same, by a table that is lent, from a cursor in the log: for one caller, whose loop it is compiled into.
-pub fn stand_by(shapes: &Shapes, recording: &[u8], cursor: Cursor) -> Standing
-    requires { (sound_shapes shapes.now ≡ true) × (in_log (length recording.now) cursor ≡ true) }
-    ensures { result ≡ stand_of recording.now cursor }
-{
-    let at = cursor_at(recording, cursor);
-    stood_by(shapes, recording, at)
-}
-
-// What a search for a place finds.
-#[derive(Drop)]
-pub enum Sought {
-    At(Standing),
-    Nowhere,
-}
-
 // The record that starts at a place, or the recording's end.
-pub fn seek(recording: &[u8], place: usize) -> Sought
+pub fn seek(recording: &[u8], place: usize) -> Option<Standing>
     ensures { Found recording.now result (from_place (length recording.now) place (heads_left recording.now begin)) }
 {
     let mut at = stand(recording, Cursor::start());
+    // Not a `for`: where a record starts is known only once the one before it is measured.
     while at.is_head(recording.len()) {
         if at.at.place == place {
-            return Sought::At(at);
+            return Some(at);
         }
         let next = behind(at);
         at = stand(recording, next);
     }
     if place == recording.len() {
-        return Sought::At(at);
+        return Some(at);
     }
-    Sought::Nowhere
+    None
 }

@@ -9,5 +9,5 @@ mod step;
 
 pub use heads::Standing;
 pub use many::{Ran, next_records};
-pub use run::{Begun, Log, Merge, Moved, Told, begin_merge};
+pub use run::{Log, Merge, MergeRefusal, Moved, begin_merge};
 pub use step::{Merged, merge_at, merge_step};

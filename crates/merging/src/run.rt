@@ -1,30 +1,47 @@
 // The run of two logs from both first records: a state by value, and a step that reads the record after the one that goes out (document 02, W-201).
 ghost use Rattle.std.specs.Prelude.{◌≡◌, ◌<◌};
-ghost use Rattle.rules.specs.Merge.{mod_day, in_range};
-ghost use Rattle.merging.specs.Run.{time_of, which_is, which_by, which_of, move_of, begin_of};
+ghost use Rattle.rules.specs.Merge.{choose, mod_day, in_range};
+ghost use Rattle.merging.specs.Run.{log_is, digit_of, time_of, side_of, which_is, which_by, with_head, moved_of, move_of, begun_of, begin_of};
 
 use crate::heads::{Standing, behind, stand};
 use numbers::magnitude;
-use recordings::RecordingChecked;
+use recordings::check_recording;
+use rules::{Fault, Refusal};
 use walking::Cursor;
 
-#[derive(Drop)]
+// Which of two logs.
+#[derive(Clone, Copy, Debug, PartialEq, Eq)]
 pub enum Log {
-    A,
-    B,
+    A = 0,
+    B = 1,
 }
 
-// What a step says.
-#[derive(Drop)]
-pub enum Told {
-    // A record comes next, of this log.
-    Next { log: Log },
-    // Both logs are at their ends.
-    Finished,
-    // A log is not accepted: its refusal's number and place, counted from its start.
-    NotAccepted { log: Log, number: u8, place: u64 },
-    // 22 or 23, at place 0.
-    Refused { number: u8 },
+impl Log {
+    // Its number, in C and in what many steps put out.
+    pub fn number(self) -> u8
+        ensures { result ≡ digit_of self }
+    {
+        self as u8
+    }
+}
+
+// Of two, the log's.
+pub fn pick<T: Copy>(log: Log, a: T, b: T) -> T
+    ensures { result ≡ choose (log_is log) a b }
+{
+    match log {
+        Log::A => a,
+        Log::B => b,
+    }
+}
+
+// Why there is no step.
+#[derive(Clone, Copy, Debug, PartialEq, Eq)]
+pub enum MergeRefusal {
+    // A log is not accepted: its own refusal.
+    OfLog { log: Log, refusal: Refusal },
+    // An offset, or a place: OffsetRange or PlaceInside.
+    Asked(Fault),
 }
 
 // ---- the offset
@@ -53,151 +70,124 @@ fn turn_of(amount: i64) -> u64
 
 // ---- which record goes first
 
-#[derive(Drop)]
-pub enum Which {
-    OfA,
-    OfB,
-    Neither,
+// The record that a log comes to, and whether it is one.
+#[derive(Clone, Copy)]
+pub struct Side {
+    pub head: Standing,
+    pub there: bool,
+}
+
+impl Side {
+    pub fn new(head: Standing, len: usize) -> Side
+        ensures { result ≡ side_of len head }
+    {
+        Side {
+            head,
+            there: head.is_head(len),
+        }
+    }
 }
 
 // By whether each log has a record. A log at its end yields to the other; a record without a time goes at once, A's before B's; else by the times, B's moved
 // on by the turn.
-pub fn first_by(there_a: bool, a: Standing, there_b: bool, b: Standing, turn: u64) -> Which
-    ensures { which_is result ≡ which_by turn there_a there_b (time_of a) (time_of b) }
+pub fn first_by(a: Side, b: Side, turn: u64) -> Option<Log>
+    ensures { which_is result ≡ which_by turn a.there b.there (time_of a.head) (time_of b.head) }
 {
-    if !there_a {
-        if !there_b {
-            return Which::Neither;
+    if !a.there {
+        if !b.there {
+            return None;
         }
-        return Which::OfB;
+        return Some(Log::B);
     }
-    if !there_b {
-        return Which::OfA;
+    if !b.there {
+        return Some(Log::A);
     }
-    if !a.timed {
-        return Which::OfA;
+    if !a.head.timed {
+        return Some(Log::A);
     }
-    if !b.timed {
-        return Which::OfB;
+    if !b.head.timed {
+        return Some(Log::B);
     }
-    let gap = (b.time % 11059200 + turn % 11059200 + (11059200 - a.time % 11059200)) % 11059200;
+    let gap = (b.head.time % 11059200 + turn % 11059200 + (11059200 - a.head.time % 11059200))
+        % 11059200;
     if gap <= 5529600 {
-        return Which::OfA;
+        return Some(Log::A);
     }
-    Which::OfB
-}
-
-fn first_of(a: Standing, len_a: usize, b: Standing, len_b: usize, turn: u64) -> Which
-    ensures { which_is result ≡ which_of turn len_a a len_b b }
-{
-    first_by(a.is_head(len_a), a, b.is_head(len_b), b, turn)
+    Some(Log::B)
 }
 
 // ---- the run
 
 // The next record of each log, and the offset modulo a day.
-#[derive(Drop)]
+#[derive(Clone, Copy)]
 pub struct Merge {
     pub a: Standing,
     pub b: Standing,
     pub turn: u64,
 }
 
-// What comes out: the walk of its log at the record, and how many bytes it has, none at the start where both are at their ends; and the state after it.
-#[derive(Drop)]
+// What comes out: its log, the walk of the log at the record, and how many bytes it has; and the state after it.
+#[derive(Clone, Copy)]
 pub struct Moved {
-    pub told: Told,
+    pub log: Log,
     pub at: Cursor,
     pub size: usize,
     pub merge: Merge,
 }
 
 impl Merge {
-    // The next record of two logs, and the state after it. Of any state: what comes out lies in its log.
-    pub fn step(self, log_a: &[u8], log_b: &[u8]) -> Moved
-        ensures { result ≡ move_of log_a.now log_b.now self }
+    // With another record of one log.
+    fn with(self, log: Log, head: Standing) -> Merge
+        ensures { result ≡ with_head (log_is log) head self }
     {
-        let at_a = self.a;
-        let at_b = self.b;
-        let turn = self.turn;
-        let which = first_of(at_a, log_a.len(), at_b, log_b.len(), turn);
-        match which {
-            Which::OfA => {
-                let after = stand(log_a, behind(at_a));
-                let at = at_a.at;
-                Moved {
-                    told: Told::Next { log: Log::A },
-                    at,
-                    size: at_a.size,
-                    merge: Merge {
-                        a: after,
-                        b: at_b,
-                        turn,
-                    },
-                }
-            }
-            Which::OfB => {
-                let after = stand(log_b, behind(at_b));
-                let at = at_b.at;
-                Moved {
-                    told: Told::Next { log: Log::B },
-                    at,
-                    size: at_b.size,
-                    merge: Merge {
-                        a: at_a,
-                        b: after,
-                        turn,
-                    },
-                }
-            }
-            Which::Neither => Moved {
-                told: Told::Finished,
-                at: Cursor::start(),
-                size: 0,
-                merge: self,
-            },
+        match log {
+            Log::A => Merge { a: head, ..self },
+            Log::B => Merge { b: head, ..self },
         }
     }
-}
 
-// How a run begins: with both logs at their first records; or it is refused.
-#[derive(Drop)]
-pub enum Begun {
-    Ready(Merge),
-    NotAccepted { log: Log, number: u8, place: u64 },
-    // 22, at place 0.
-    Refused { number: u8 },
-}
-
-// Both logs are checked, whole, once.
-pub fn begin_merge(log_a: &[u8], log_b: &[u8], offset: i64) -> Begun
-    ensures { result ≡ begin_of log_a.now log_b.now offset }
-{
-    let checked_a = recordings::check_recording(log_a);
-    if let RecordingChecked::Refused { number, place } = checked_a {
-        return Begun::NotAccepted {
-            log: Log::A,
-            number,
-            place,
-        };
+    // The next record of two logs, and the state after it; none where both are at their ends. Of any state: what comes out lies in its log.
+    pub fn step(self, log_a: &[u8], log_b: &[u8]) -> Option<Moved>
+        ensures { moved_of self result ≡ move_of log_a.now log_b.now self }
+    {
+        let log = first_by(
+            Side::new(self.a, log_a.len()),
+            Side::new(self.b, log_b.len()),
+            self.turn,
+        )?;
+        let head = pick(log, self.a, self.b);
+        let after = stand(pick(log, log_a, log_b), behind(head));
+        Some(Moved {
+            log,
+            at: head.at,
+            size: head.size,
+            merge: self.with(log, after),
+        })
     }
-    let checked_b = recordings::check_recording(log_b);
-    if let RecordingChecked::Refused { number, place } = checked_b {
-        return Begun::NotAccepted {
+}
+
+// How a run begins: with both logs at their first records. Both logs are checked, whole, once.
+pub fn begin_merge(log_a: &[u8], log_b: &[u8], offset: i64) -> Result<Merge, MergeRefusal>
+    ensures { begun_of result ≡ begin_of log_a.now log_b.now offset }
+{
+    if let Err(refusal) = check_recording(log_a) {
+        return Err(MergeRefusal::OfLog {
+            log: Log::A,
+            refusal,
+        });
+    }
+    if let Err(refusal) = check_recording(log_b) {
+        return Err(MergeRefusal::OfLog {
             log: Log::B,
-            number,
-            place,
-        };
+            refusal,
+        });
     }
     if !in_range(offset) {
-        return Begun::Refused { number: 22 };
+        return Err(MergeRefusal::Asked(Fault::OffsetRange));
     }
-    let at_a = stand(log_a, Cursor::start());
-    let at_b = stand(log_b, Cursor::start());
-    let turn = turn_of(offset);
-    Begun::Ready(Merge {
-        a: at_a,
-        b: at_b,
-        turn,
+    Ok(Merge {
+        a: stand(log_a, Cursor::start()),
+        b: stand(log_b, Cursor::start()),
+        turn: turn_of(offset),
     })
 }

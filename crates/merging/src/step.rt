@@ -2,97 +2,65 @@
 ghost use Rattle.std.specs.Prelude.{◌≡◌, ℤ};
 ghost use Rattle.rules.specs.Catalogue.{categories};
 ghost use Rattle.rules.specs.Merge.{mod_day, merge_step};
-ghost use Rattle.merging.specs.Step.{stayed, merged_of, places_step, part_in, PartOf};
+ghost use Rattle.merging.specs.Step.{merged_of, places_step, PartOf};
 
-use crate::heads::{Sought, seek};
-use crate::run::{Begun, Log, Merge, Told, begin_merge};
+use crate::heads::seek;
+use crate::run::{Log, Merge, MergeRefusal, begin_merge, pick};
 use finding::part_of;
+use rules::Fault;
 
-// What a step says; the part that it hands back, of the log that it names, by its start and its length; and the places. Where no record comes the part is the
-// empty one at log A's start, and the places are those given.
-#[derive(Drop)]
+// The record that comes next: its log, its start and its length there; and the new places.
+#[derive(Clone, Copy, Debug, PartialEq, Eq)]
 pub struct Merged {
-    pub told: Told,
+    pub log: Log,
     pub start: usize,
     pub size: usize,
     pub place_a: usize,
     pub place_b: usize,
 }
 
-fn stay(told: Told, place_a: usize, place_b: usize) -> Merged
-    ensures { result ≡ stayed told place_a place_b }
+// From a place in each of two logs that are accepted, with the offset modulo a day.
+fn step_from(
+    log_a: &[u8],
+    log_b: &[u8],
+    place_a: usize,
+    place_b: usize,
+    turn: u64,
+) -> Result<Option<Merged>, MergeRefusal>
+    ensures { (o : ℤ) → turn ≡ mod_day o → merged_of place_a place_b result ≡ places_step log_a.now log_b.now place_a place_b o }
 {
-    Merged {
-        told,
-        start: 0,
-        size: 0,
-        place_a,
-        place_b,
-    }
-}
-
-// From a place in each of two logs that are accepted, with the offset modulo a day: 23, or which record comes next.
-fn step_from(log_a: &[u8], log_b: &[u8], place_a: usize, place_b: usize, turn: u64) -> Merged
-    ensures { (o : ℤ) → turn ≡ mod_day o → result ≡ merged_of (places_step log_a.now log_b.now place_a place_b o) }
-{
-    let found_a = seek(log_a, place_a);
-    let Sought::At(at_a) = found_a else {
-        return stay(Told::Refused { number: 23 }, place_a, place_b);
+    let Some(a) = seek(log_a, place_a) else {
+        return Err(MergeRefusal::Asked(Fault::PlaceInside));
     };
-    let found_b = seek(log_b, place_b);
-    let Sought::At(at_b) = found_b else {
-        return stay(Told::Refused { number: 23 }, place_a, place_b);
+    let Some(b) = seek(log_b, place_b) else {
+        return Err(MergeRefusal::Asked(Fault::PlaceInside));
     };
-    let merge = Merge {
-        a: at_a,
-        b: at_b,
-        turn,
+    let Some(moved) = (Merge { a, b, turn }).step(log_a, log_b) else {
+        return Ok(None);
     };
-    let moved = merge.step(log_a, log_b);
-    let told = moved.told;
-    let after_a = moved.merge.a.at.place;
-    let after_b = moved.merge.b.at.place;
-    Merged {
-        told,
+    Ok(Some(Merged {
+        log: moved.log,
         start: moved.at.place,
         size: moved.size,
-        place_a: after_a,
-        place_b: after_b,
-    }
+        place_a: moved.merge.a.at.place,
+        place_b: moved.merge.b.at.place,
+    }))
 }
 
-// Which record comes next, and the new places: the logs' own refusals and 22 as where a run begins, then 23.
-pub fn merge_at(log_a: &[u8], log_b: &[u8], place_a: usize, place_b: usize, offset: i64) -> Merged
-    ensures { result ≡ merged_of (merge_step categories log_a.now log_b.now place_a place_b offset) }
+// Which record comes next, and the new places; none where both are at their ends, and there, and where there is a refusal, the places are those given. The
+// logs' own refusals and OffsetRange as where a run begins, then PlaceInside.
+pub fn merge_at(
+    log_a: &[u8],
+    log_b: &[u8],
+    place_a: usize,
+    place_b: usize,
+    offset: i64,
+) -> Result<Option<Merged>, MergeRefusal>
+    ensures { merged_of place_a place_b result ≡ merge_step categories log_a.now log_b.now place_a place_b offset }
 {
-    let begun = begin_merge(log_a, log_b, offset);
-    match begun {
-        Begun::NotAccepted { log, number, place } => stay(
-            Told::NotAccepted { log, number, place },
-            place_a,
-            place_b,
-        ),
-        Begun::Refused { number } => stay(Told::Refused { number }, place_a, place_b),
-        Begun::Ready(merge) => {
-            let turn = merge.turn;
-            step_from(log_a, log_b, place_a, place_b, turn)
-        }
-    }
-}
-
-// Whose part is handed back: log A's where no record comes.
-fn part_log(told: Told) -> Log
-    ensures { result ≡ part_in told }
-{
-    match told {
-        Told::Next { log } => log,
-        Told::Finished => Log::A,
-        Told::NotAccepted {
-            log: _,
-            number: _,
-            place: _,
-        } => Log::A,
-        Told::Refused { number: _ } => Log::A,
+    match begin_merge(log_a, log_b, offset) {
+        Ok(merge) => step_from(log_a, log_b, place_a, place_b, merge.turn),
+        Err(refusal) => Err(refusal),
     }
 }
 
@@ -106,13 +74,12 @@ pub fn merge_step<'a>(
 ) -> &'a [u8]
     ensures { PartOf log_a.entry log_b.entry result (merge_step categories log_a.now log_b.now place_a place_b offset) }
 {
-    let merged = merge_at(log_a, log_b, place_a, place_b, offset);
-    let told = merged.told;
-    let start = merged.start;
-    let size = merged.size;
-    let log = part_log(told);
-    match log {
-        Log::A => part_of(log_a, start, size),
-        Log::B => part_of(log_b, start, size),
+    match merge_at(log_a, log_b, place_a, place_b, offset) {
+        Ok(Some(merged)) => match merged.log {
+            Log::A => part_of(log_a, merged.start, merged.size),
+            Log::B => part_of(log_b, merged.start, merged.size),
+        },
+        Ok(None) => part_of(log_a, 0, 0),
+        Err(_) => part_of(log_a, 0, 0),
     }
 }

@@ -1,18 +1,16 @@
--- `heads::Standing::is_head` meets its contract: the tests in the rule's order. Assumes nothing.
-use Rattle.merging.proofs.HeadLaws.{head_low, head_past, head_high, head_empty, head_sized}
+-- `heads::Standing::is_head` meets its contract: it stands in the log, and has an octet that its block has. Assumes nothing.
+use mathlib.Core.Path.{sym, ◌∙◌}
+use Rattle.merging.proofs.HeadLaws.{in_log_lem, head_out, head_empty, head_sized}
 use Rattle.merging.proofs.heads.Standing.is_head.Goals as goal
 
-pub returns-then-at : goal.returns-then-at
-returns-then-at c = head_low _ _ c.if-at.true
-
-pub returns-then-at-2 : goal.returns-then-at-2
-returns-then-at-2 c = head_past _ _ c.if-at.false c.if-at-2.true
-
-pub returns-then-len-at : goal.returns-then-len-at
-returns-then-len-at c = head_high _ _ c.if-at.false c.if-at-2.false c.if-len-at.true
+pub returns-then-not-is_in_log : goal.returns-then-not-is_in_log
+returns-then-not-is_in_log c = head_out _ _ (sym c.is_in_log.ensures ∙ c.if-not-is_in_log.true)
 
 pub returns-then-self-eq0 : goal.returns-then-self-eq0
-returns-then-self-eq0 c = head_empty _ _ c.if-at.false c.if-at-2.false c.if-len-at.false c.if-self-eq0.true
+returns-then-self-eq0 c = head_empty _ _ (sym c.is_in_log.ensures ∙ c.if-not-is_in_log.false) c.if-self-eq0.true
+
+pub overflow_sub-result : goal.overflow_sub-result
+overflow_sub-result c = (in_log_lem _ _ (sym c.is_in_log.ensures ∙ c.if-not-is_in_log.false)).within
 
 pub returns : goal.returns
-returns c = head_sized _ _ c.if-at.false c.if-at-2.false c.if-len-at.false c.if-self-eq0.false
+returns c = head_sized _ _ (sym c.is_in_log.ensures ∙ c.if-not-is_in_log.false) c.if-self-eq0.false
