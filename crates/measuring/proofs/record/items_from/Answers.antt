@@ -4,12 +4,9 @@ use native.Mathlib.Omega.{arith}
 use lib.Pow.{pow_pos}
 use lib.Count.{count_leading_zeros}
 use Rattle.sets.proofs.SetLaws.{octets_all}
-use Rattle.measuring.proofs.EndLaws.{Standing, stand_first, Next, next, stand_next, stand_near, stand_end}
+use Rattle.measuring.proofs.EndLaws.{Standing, Next, next, stand_next, stand_near, stand_end}
 use Rattle.measuring.proofs.record.items_from.Goals as goal
 use Rattle.measuring.proofs.record.items_from.Goals.{After-octets_at-at, After-weight-left, In-loop-left}
-
-pub loop-left-init : goal.loop-left-init
-loop-left-init c = stand_first _ _ _ _ c.requires.0
 
 -- the item with the highest bit that is left
 of : (c : In-loop-left) → Next c.args.profile c.args.part.now c.loop-left.left c.loop-left.at (count_leading_zeros 64 c.loop-left.left)

@@ -1,12 +1,8 @@
 -- `record::measure_untimed` meets its contract. Assumes nothing.
 use mathlib.Core.Option.{none}
 use mathlib.Core.Path.{sym, ◌∙◌}
-use native.Mathlib.Omega.{arith}
 use Rattle.measuring.proofs.EndLaws.{measure_past, measure_there}
 use Rattle.measuring.proofs.record.measure_untimed.Goals as goal
-
-pub items_from-end-requires : goal.items_from-end-requires
-items_from-end-requires c = (c.requires.0, omega (arith, c.requires.1))
 
 pub returns-then-part-end : goal.returns-then-part-end
 returns-then-part-end c = c.untimed.ensures ∙ measure_past _ c.args.part.now _ _ c.items_from-end.ensures c.if-part-end.true

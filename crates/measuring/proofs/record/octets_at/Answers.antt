@@ -3,7 +3,7 @@ use Prim.Native.Nat.{◌<◌}
 use mathlib.Core.Path.{◌≡◌, ap, ◌∙◌, subst}
 use native.Mathlib.Omega.{arith}
 use lib.ListN.{get_or, drop}
-use Rattle.quick_items.proofs.ItemLaws.{kind_digit, octet_at, product_fits, asked_octets, free_octets, extended_octets, counted_octets}
+use Rattle.quick_items.proofs.ItemLaws.{kind_digit, octet_at, asked_octets, free_octets, extended_octets, counted_octets}
 use Rattle.sets.proofs.SetLaws.{octets_all}
 use Rattle.quick_items.specs.Item.{kind_by}
 use Rattle.measuring.proofs.EndLaws.{first_at}
@@ -30,12 +30,6 @@ first_is c = c.octet_at-x.ensures.0 ∙ first_at c.args.part.now c.args.at
 
 pub returns-in-Extended : goal.returns-in-Extended
 returns-in-Extended c = extended_octets _ _ _ c.new.result.exact c.word_of-w.ensures _ (few (goal.at.returns-in-Extended c).After-word_of-w) (omega (arith, c.if-w-lt8.false)) (first_is (goal.at.returns-in-Extended c).After-octet_at-x) (kind_digit _ c.in-Extended.ensures (omega arith))
-
-pub overflow_mul-result : goal.overflow_mul-result
-overflow_mul-result c = record { fits = omega (arith, product_fits c.octet_at-x.result c.word_of-w.result c.octet_at-x.ensures.1) }
-
-pub overflow_add-result-in_default : goal.overflow_add-result-in_default
-overflow_add-result-in_default c = record { fits = omega (arith, product_fits c.octet_at-x.result c.word_of-w.result c.octet_at-x.ensures.1) }
 
 pub returns-in_default : goal.returns-in_default
 returns-in_default c = counted_octets _ _ _ c.new.result.exact c.word_of-w.ensures _ (few (goal.at.returns-in_default c).After-word_of-w) (omega (arith, c.if-w-lt8.false)) (first_is (goal.at.returns-in_default c).After-octet_at-x) (λ e. c.in_default.not-Extended (c.kind_of.ensures ∙ ap kind_by e))
