@@ -16,11 +16,8 @@ use Rattle.rules.specs.Catalogue.{categories}
 use Rattle.rules.specs.Entry.{check_recording}
 use Rattle.rules.specs.Merge.{Log, log_a, log_b, choose, first, Head, Checked, accepted, unread, checked_as, log_of, Told, next, finished, not_accepted, barred, Step, stay, goes, in_range, start_of, from_place, step_from, with_places, step_of, merge_step}
 use Rattle.rules.proofs.AnswerLaws.{bind_out, Octets}
-use Rattle.merging.specs.declared.run.Log as code
-use Rattle.merging.specs.declared.run.Begun.{Begun}
-use Rattle.merging.specs.declared.run.Begun.TheVariants as begun
 use Rattle.merging.specs.declared.run.Merge.{Merge}
-use Rattle.merging.specs.Run.{begun_by, begin_of}
+use Rattle.merging.specs.Run.{Begun, ready, stopped, begun_by, begin_of}
 use Rattle.rules.specs.Entry.{Counts}
 use Rattle.asterix.specs.declared.MergeStepped.{MergeStepped}
 use Rattle.asterix.specs.declared.MergeBegun.{MergeBegun}
@@ -104,15 +101,29 @@ merge_step_tells as' bs p q o oa ob = by (merge_step categories as' bs p q o) (s
 
 -- ---- how a run begins
 
+-- a refusal: no record comes, nor an end
+abbrev pub Stops : Told → Type 0
+Stops (next l) = ◌≡◌ {A = ℕ} 0 1
+Stops finished = ◌≡◌ {A = ℕ} 0 1
+Stops (not_accepted l n p) = Unit {0}
+Stops (barred n) = Unit {0}
+
+abbrev Barred : Told → Type 0
+Barred (next l) = Unit {0}
+Barred finished = Unit {0}
+Barred (not_accepted l n p) = (1 ≤ n) × (n ≤ 21)
+Barred (barred n) = n ≡ 22
+
 pub record TellsBegun (b : Begun) (r : MergeBegun) : Type 0 where
-  pub ready : (m : Merge) → b ≡ begun.Ready m → r.number ≡ 0
-  pub closed : (l : code.Log) (n p : ℕ) → b ≡ begun.NotAccepted l n p → (r.number ≡ n) × (r.place ≡ p) × (1 ≤ n) × (n ≤ 21)
-  pub refused : (n : ℕ) → b ≡ begun.Refused n → (r.number ≡ n) × (r.place ≡ 0) × (n ≡ 22)
+  pub begins : (m : Merge) → b ≡ ready m → r.number ≡ 0
+  pub closed : (l : Log) (n p : ℕ) → b ≡ stopped (not_accepted l n p) → (r.number ≡ n) × (r.place ≡ p) × (1 ≤ n) × (n ≤ 21)
+  pub refused : (n : ℕ) → b ≡ stopped (barred n) → (r.number ≡ n) × (r.place ≡ 0) × (n ≡ 22)
+  -- by nothing else
+  pub stops : (t : Told) → b ≡ stopped t → Stops t
 
 abbrev Begins : Begun → Type 0
-Begins (begun.Ready m) = Unit {0}
-Begins (begun.NotAccepted l n p) = (1 ≤ n) × (n ≤ 21)
-Begins (begun.Refused n) = n ≡ 22
+Begins (ready m) = Unit {0}
+Begins (stopped t) = Stops t × Barred t
 
 begins : (as' bs : List ℕ) (o : ℤ) → Octets as' → Octets bs → Begins (begin_of as' bs o)
 unfolding begin_of when◌then◌else◌
@@ -125,11 +136,11 @@ begins as' bs o oa ob = by (check_recording categories as') (check_recording cat
 
     go : (x y : Counts) (t : Bool) → in_range o ≡ t → Begins (begun_by as' bs o (ok x) (ok y))
     go x y true e = rw e tt
-    go x y false e = rw e refl
+    go x y false e = rw e (tt, refl)
 
     by : (x y : Answer Counts) → check_recording categories as' ≡ x → check_recording categories bs ≡ y → Begins (begun_by as' bs o x y)
-    by (refused n p) y ea eb = numbered as' oa n p ea
-    by (ok x) (refused n p) ea eb = numbered bs ob n p eb
+    by (refused n p) y ea eb = (tt, numbered as' oa n p ea)
+    by (ok x) (refused n p) ea eb = (tt, numbered bs ob n p eb)
     by (ok x) (ok y) ea eb = go x y (in_range o) refl
 
 pub begin_merge_tells : (as' bs : List ℕ) (o : ℤ) → Octets as' → Octets bs → TellsBegun (begin_of as' bs o) (merge_begun (begin_of as' bs o))
@@ -139,7 +150,8 @@ begin_merge_tells as' bs o oa ob = by (begin_of as' bs o) (begins as' bs o oa ob
     by : (b : Begun) → Begins b → TellsBegun b (merge_begun b)
     by b h =
         record {
-          ready = λ m e. rw e refl;
-          closed = λ l n p e. let t : (1 ≤ n) × (n ≤ 21) = subst Begins e h in rw e (refl, refl, t.0, t.1);
-          refused = λ n e. let t : n ≡ 22 = subst Begins e h in rw e (refl, refl, t);
+          begins = λ m e. rw e refl;
+          closed = λ l n p e. let t : Begins (stopped (not_accepted l n p)) = subst Begins e h in rw e (refl, refl, t.1.0, t.1.1);
+          refused = λ n e. let t : Begins (stopped (barred n)) = subst Begins e h in rw e (refl, refl, t.1);
+          stops = λ t e. let u : Begins (stopped t) = subst Begins e h in u.0;
         }

@@ -29,8 +29,8 @@ use Rattle.rules.proofs.BlockLaws.{HeadCame, head_forth, block_laws, block_start
 use Rattle.blocks.proofs.LoopLaws.{Taken, taken}
 use Rattle.asterix.proofs.Numbered as numbered
 use Rattle.walking.specs.declared.Cursor as walking-cursor
-use Rattle.walking.specs.declared.Met.TheVariants as met
-use Rattle.walking.specs.declared.Walked.{Walked}
+use Rattle.walking.specs.Met as met
+use Rattle.walking.specs.Met.{Walked}
 use Rattle.walking.specs.Walk.{more, stays, answered, open_in, open_at, block_at, record_in, record_at, next_record}
 use Rattle.asterix.specs.declared.RecordMet.{RecordMet}
 use Rattle.asterix.specs.Answers.{record_met}

@@ -10,11 +10,11 @@ use Rattle.rules.specs.SheetChange.{sheet_add, sheet_remove, sheet_empty, write_
 use Rattle.rules.specs.Sheet.{read_sheet}
 use Rattle.marks.specs.Lists.{found_mark}
 use Rattle.asterix.specs.declared.sheet.Marks.{Marks}
-use Rattle.asterix.specs.declared.sheet.Mark.{Mark}
+use Rattle.rules.specs.declared.Mark.{Mark}
 use Rattle.asterix.specs.declared.sheet.SheetRead.{SheetRead}
 use Rattle.asterix.specs.declared.sheet.MarkFound.{MarkFound}
 use Rattle.asterix.specs.declared.sheet.SheetWritten.{SheetWritten}
-use Rattle.asterix.specs.Sheets.{marks_in, sheet_told, mark_in, mark_found, sheet_written}
+use Rattle.asterix.specs.Sheets.{marks_in, sheet_told, mark_found, sheet_written}
 
 pub one_read_sheet : (sheet : List ℕ) (a b : SheetRead) → a ≡ sheet_told (read_sheet form sheet) → b ≡ sheet_told (read_sheet form sheet) → a ≡ b
 one_read_sheet sheet a b p q = p ∙ sym q
@@ -30,8 +30,8 @@ pub one_write_sheet : (offset : ℤ) (marks : List ℕ) (out : List ℕ) (a b : 
 one_write_sheet offset marks out a b left right p l q r = (p ∙ sym q, l ∙ sym r)
 
 pub one_add_mark : (sheet : List ℕ) (mark : Mark) (out : List ℕ) (a b : SheetWritten) (left right : List ℕ)
-    → a ≡ sheet_written (fitted (length out) (sheet_add form (mark_in mark) sheet)) → left ≡ leaves (fitted (length out) (sheet_add form (mark_in mark) sheet)) out
-    → b ≡ sheet_written (fitted (length out) (sheet_add form (mark_in mark) sheet)) → right ≡ leaves (fitted (length out) (sheet_add form (mark_in mark) sheet)) out → (a ≡ b) × (left ≡ right)
+    → a ≡ sheet_written (fitted (length out) (sheet_add form mark sheet)) → left ≡ leaves (fitted (length out) (sheet_add form mark sheet)) out
+    → b ≡ sheet_written (fitted (length out) (sheet_add form mark sheet)) → right ≡ leaves (fitted (length out) (sheet_add form mark sheet)) out → (a ≡ b) × (left ≡ right)
 one_add_mark sheet mark out a b left right p l q r = (p ∙ sym q, l ∙ sym r)
 
 pub one_remove_mark : (sheet : List ℕ) (log place : ℕ) (out : List ℕ) (a b : SheetWritten) (left right : List ℕ)

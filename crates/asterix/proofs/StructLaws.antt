@@ -2,28 +2,27 @@
 --
 -- In order: a case of an answer; checking; finding; one item; adding a record. Assumes nothing.
 use Prim.Native.Nat.{ℕ}
-use mathlib.Core.Path.{◌≡◌, refl, sym, ap, ap₂, ◌∙◌}
+use mathlib.Core.Path.{◌≡◌, refl, sym, ap, ◌∙◌}
 use mathlib.Core.Bool.{Bool, true, false}
 use mathlib.Core.List.{List}
 use lib.IntN.{ℤ}
-use Rattle.rules.specs.Answer.{Answer, ok, refused, ◌>>=◌}
-use Rattle.rules.specs.Entry.{Counts, RecordMap, Laid, Added, added, refused_old, refused_new}
+use mir.Val.{bool_byte}
+use Rattle.rules.specs.Answer.{Answer, ok, refused, ◌>>=◌, when◌then◌else◌}
+use lib.ListN.{replicate}
+use Rattle.rules.specs.Entry.{map_places, Counts, RecordMap, Laid, Added, added, refused_old, refused_new}
 use Rattle.items.specs.Answers.{read_of, count_of}
 use Rattle.writing.specs.Item.{written_as}
-use Rattle.items.specs.declared.ItemRead as items-read
-use Rattle.writing.specs.declared.write.ItemWritten as writing-written
-use Rattle.records.specs.Answers.{map_in}
-use Rattle.records.specs.declared.RecordMap as records
+use Rattle.std.specs.Prelude.{Result}
+use Rattle.rules.specs.Told.{told}
+use Rattle.rules.specs.declared.faults.Refusal.{Refusal}
 use Rattle.blocks.specs.Answers.{checked_of}
-use Rattle.finding.specs.Found.{place_of, record_span, Located, item_place_of, item_span}
+use Rattle.finding.specs.Found.{found_in, Located, item_place_of, item_span}
 use Rattle.adding.specs.Added.{added_of, added_as}
-use Rattle.blocks.specs.declared.check.BlockChecked as blocks-checked
-use Rattle.finding.specs.declared.find.RecordPlace.{RecordPlace}
-use Rattle.finding.specs.declared.find.RecordLocated.{RecordLocated}
-use Rattle.finding.specs.declared.find.ItemLocated.{ItemLocated}
-use Rattle.adding.specs.declared.add.RecordAdded as adding-added
+use Rattle.finding.specs.declared.find.RecordFound as code
+use Rattle.finding.specs.declared.find.Span.{Span}
+use Rattle.adding.specs.declared.add.AddRefusal.{AddRefusal}
 use Rattle.recordings.specs.Answers.{counts_of}
-use Rattle.recordings.specs.declared.RecordingChecked as recordings-checked
+use Rattle.recordings.specs.declared.Counts as code-counts
 use Rattle.asterix.specs.declared.RecordFound.{RecordFound}
 use Rattle.asterix.specs.declared.ItemFound.{ItemFound}
 use Rattle.asterix.specs.declared.ItemRead.{ItemRead}
@@ -35,27 +34,33 @@ use Rattle.asterix.specs.Answers.{block_checked, recording_checked, record_found
 in_case : {A S : Type 0} (f : A → S) {x y : A} {s : S} → f x ≡ s → x ≡ y → f y ≡ s
 in_case f h e = sym (ap f e) ∙ h
 
+-- a flag as C has it
+pub flag_is : (t : Bool) → bool_byte t ≡ (when t then 1 else 0)
+unfolding when◌then◌else◌
+flag_is true = refl
+flag_is false = refl
+
 -- ---- checking
 
-pub block_checked_lem : {r y : blocks-checked.BlockChecked} (a : Answer ℕ) → checked_of r ≡ a → r ≡ y → block_checked (checked_of y) ≡ block_checked a
+pub block_checked_lem : {r y : Result ℕ Refusal} (a : Answer ℕ) → checked_of r ≡ a → r ≡ y → block_checked (checked_of y) ≡ block_checked a
 block_checked_lem a h e = in_case (λ x. block_checked (checked_of x)) (ap block_checked h) e
 
-pub recording_checked_lem : {r y : recordings-checked.RecordingChecked} (a : Answer Counts) → counts_of r ≡ a → r ≡ y → recording_checked (counts_of y) ≡ recording_checked a
+pub recording_checked_lem : {r y : Result code-counts.Counts Refusal} (a : Answer Counts) → counts_of r ≡ a → r ≡ y → recording_checked (counts_of y) ≡ recording_checked a
 recording_checked_lem a h e = in_case (λ x. recording_checked (counts_of x)) (ap recording_checked h) e
 
 -- ---- finding
 
-abbrev pub record_by : records.RecordMap → Answer (ℕ × ℕ) → RecordFound
-record_by m (ok s) = record { number = 0; place = 0; start = s.0; length = s.1; end = m.end; count = m.count; starts = m.starts }
-record_by m (refused n p) = record { number = n; place = p; start = 0; length = 0; end = 0; count = 0; starts = m.starts }
+abbrev pub record_by : Answer code.RecordFound → RecordFound
+record_by (ok f) = record { number = 0; place = 0; start = f.start; length = f.length; end = f.map.end; count = f.map.count; starts = f.map.starts }
+record_by (refused n p) = record { number = n; place = p; start = 0; length = 0; end = 0; count = 0; starts = replicate map_places 0 }
 
-record_by_lem : (a : Answer RecordMap) → record_by (map_in a) (record_span a) ≡ record_found a
+record_by_lem : (a : Answer RecordMap) → record_by (found_in a) ≡ record_found a
 unfolding record_found
 record_by_lem (ok m) = refl
 record_by_lem (refused n p) = refl
 
-pub record_found_lem : (r : RecordLocated) {y : RecordPlace} (a : Answer RecordMap) → Located r a → r.answer ≡ y → record_by r.map (place_of y) ≡ record_found a
-record_found_lem r a h e = in_case (λ x. record_by r.map (place_of x)) (ap₂ record_by h.map h.answer ∙ record_by_lem a) e
+pub record_found_lem : {r y : Result code.RecordFound Refusal} (a : Answer RecordMap) → Located r a → r ≡ y → record_by (told y) ≡ record_found a
+record_found_lem a h e = in_case (λ x. record_by (told x)) (ap record_by h ∙ record_by_lem a) e
 
 abbrev pub item_by : Answer (ℕ × ℕ) → ItemFound
 item_by (ok s) = record { number = 0; place = 0; start = s.0; length = s.1 }
@@ -66,7 +71,7 @@ unfolding item_found
 item_by_lem (ok l) = refl
 item_by_lem (refused n p) = refl
 
-pub item_found_lem : {r y : ItemLocated} (a : Answer Laid) → item_place_of r ≡ item_span a → r ≡ y → item_by (item_place_of y) ≡ item_found a
+pub item_found_lem : {r y : Result Span Refusal} (a : Answer Laid) → item_place_of r ≡ item_span a → r ≡ y → item_by (item_place_of y) ≡ item_found a
 item_found_lem a h e = in_case (λ x. item_by (item_place_of x)) (ap item_by h ∙ item_by_lem a) e
 
 -- ---- one item
@@ -80,7 +85,7 @@ unfolding item_read count_of ◌>>=◌
 read_by_lem (ok fs) = refl
 read_by_lem (refused n p) = refl
 
-pub item_read_lem : {r y : items-read.ItemRead} (a : Answer (List ℤ)) → read_of r ≡ count_of a → r ≡ y → read_by (read_of y) ≡ item_read a
+pub item_read_lem : {r y : Result ℕ Refusal} (a : Answer (List ℤ)) → read_of r ≡ count_of a → r ≡ y → read_by (read_of y) ≡ item_read a
 item_read_lem a h e = in_case (λ x. read_by (read_of x)) (ap read_by h ∙ read_by_lem a) e
 
 abbrev pub written_by : Answer ℕ → ItemWritten
@@ -92,7 +97,7 @@ unfolding item_written count_of ◌>>=◌
 written_by_lem (ok bs) = refl
 written_by_lem (refused n p) = refl
 
-pub item_written_lem : {r y : writing-written.ItemWritten} (a : Answer (List ℕ)) → written_as r ≡ count_of a → r ≡ y → written_by (written_as y) ≡ item_written a
+pub item_written_lem : {r y : Result ℕ Refusal} (a : Answer (List ℕ)) → written_as r ≡ count_of a → r ≡ y → written_by (written_as y) ≡ item_written a
 item_written_lem a h e = in_case (λ x. written_by (written_as x)) (ap written_by h ∙ written_by_lem a) e
 
 -- ---- adding a record
@@ -112,5 +117,5 @@ added_by_lem (added bs) = refl
 added_by_lem (refused_old n p) = refl
 added_by_lem (refused_new n p) = refl
 
-pub record_added_lem : {r y : adding-added.RecordAdded} (a : Added) → added_of r ≡ added_as a → r ≡ y → added_by (added_of y) ≡ record_added a
+pub record_added_lem : {r y : Result ℕ AddRefusal} (a : Added) → added_of r ≡ added_as a → r ≡ y → added_by (added_of y) ≡ record_added a
 record_added_lem a h e = in_case (λ x. added_by (added_of x)) (ap added_by h ∙ added_by_lem a) e

@@ -5,23 +5,14 @@
 use Rattle.std.specs.Prelude.{ℕ, ◌-◌, not, List, eqb, ℤ, length, replicate}
 use Rattle.rules.specs.Answer.{Answer, ok, refused, when◌then◌else◌}
 use Rattle.rules.specs.Entry.{map_places, Counts, RecordMap, Laid, Added, added, refused_old, refused_new}
-use Rattle.walking.specs.declared.Cursor as walking-cursor
-use Rattle.walking.specs.declared.Met.{Met}
-use Rattle.walking.specs.declared.Met.TheVariants as met
-use Rattle.walking.specs.declared.Walked.{Walked}
-use Rattle.rules.specs.Merge.{Step}
+use Rattle.walking.specs.declared.Cursor.{Cursor}
+use Rattle.walking.specs.Met.{Met, Walked}
+use Rattle.walking.specs.Met as met
+use Rattle.rules.specs.Merge.{Step, Told, next, finished, not_accepted, barred}
 use Rattle.merging.specs.declared.heads.Standing.{Standing}
-use Rattle.merging.specs.declared.run.Log as code
-use Rattle.merging.specs.declared.run.Log.TheVariants as code-log
-use Rattle.merging.specs.declared.run.Told.{Told}
-use Rattle.merging.specs.declared.run.Told.TheVariants as told
 use Rattle.merging.specs.declared.run.Merge as code-merge
-use Rattle.merging.specs.declared.run.Begun.{Begun}
-use Rattle.merging.specs.declared.run.Begun.TheVariants as begun
-use Rattle.merging.specs.declared.step.Merged.{Merged}
-use Rattle.merging.specs.Step.{merged_of}
+use Rattle.merging.specs.Run.{Begun, ready, stopped, digit}
 use Rattle.merging.specs.Many.{Many}
-use Rattle.asterix.specs.declared.Cursor.{Cursor}
 use Rattle.asterix.specs.declared.RecordMet.{RecordMet}
 use Rattle.asterix.specs.declared.MergeStepped.{MergeStepped}
 use Rattle.asterix.specs.declared.MergeHead.{MergeHead}
@@ -60,13 +51,6 @@ item_found (refused n p) = record { number = n; place = p; start = 0; length = 0
 
 -- ---- walking a log
 
--- a cursor of C as the walk has it, and back
-abbrev pub cursor_in : Cursor → walking-cursor.Cursor
-cursor_in c = record { block = c.block; place = c.place; end = c.end; category = c.category }
-
-abbrev pub cursor_out : walking-cursor.Cursor → Cursor
-cursor_out c = record { block = c.block; place = c.place; end = c.end; category = c.category }
-
 -- without a record all is 0 but a refusal's number and place, and `next`, where the walk goes on
 abbrev pub unmet_by : ℕ → ℕ → Cursor → RecordMet
 unmet_by n p c = record {
@@ -96,73 +80,45 @@ met_by (met.Record k s l) w = record {
   end = w.map.end;
   count = w.map.count;
   starts = w.map.starts;
-  next = cursor_out w.next;
+  next = w.next;
 }
-met_by met.Finished w = unmet_by 0 0 (cursor_out w.next)
-met_by (met.Refused n p) w = unmet_by n p (cursor_out w.next)
+met_by met.Finished w = unmet_by 0 0 w.next
+met_by (met.Refused n p) w = unmet_by n p w.next
 
 unfoldable pub record_met : Walked → RecordMet
 record_met w = met_by w.met w
 
 -- ---- two logs on one line
 
--- 0 is log A, 1 is log B
-abbrev pub log_number : code.Log → ℕ
-log_number code-log.A = 0
-log_number code-log.B = 1
+-- without a record all is 0 but a refusal's number, place and log, and the places
+abbrev pub unmerged_by : ℕ → ℕ → ℕ → ℕ → ℕ → MergeStepped
+unmerged_by n l p a b = record { number = n; met = 0; log = l; place = p; start = 0; length = 0; place_a = a; place_b = b }
 
--- `met` is 1 where a record comes next; `log` is the record's, or that of a refusal of its own
-abbrev pub stepped_by : Told → Merged → MergeStepped
-stepped_by (told.Next l) m = record {
+-- `met` is 1 where a record comes next; `log` is the record's, or that of a refusal of its own: 0 is log A, 1 is log B
+abbrev pub stepped_by : Told → Step → MergeStepped
+stepped_by (next l) s = record {
   number = 0;
   met = 1;
-  log = log_number l;
+  log = digit l;
   place = 0;
-  start = m.start;
-  length = m.size;
-  place_a = m.place_a;
-  place_b = m.place_b;
+  start = s.span.0;
+  length = s.span.1;
+  place_a = s.place_a;
+  place_b = s.place_b;
 }
-stepped_by told.Finished m = record {
-  number = 0;
-  met = 0;
-  log = 0;
-  place = 0;
-  start = m.start;
-  length = m.size;
-  place_a = m.place_a;
-  place_b = m.place_b;
-}
-stepped_by (told.NotAccepted l n p) m = record {
-  number = n;
-  met = 0;
-  log = log_number l;
-  place = p;
-  start = m.start;
-  length = m.size;
-  place_a = m.place_a;
-  place_b = m.place_b;
-}
-stepped_by (told.Refused n) m = record {
-  number = n;
-  met = 0;
-  log = 0;
-  place = 0;
-  start = m.start;
-  length = m.size;
-  place_a = m.place_a;
-  place_b = m.place_b;
-}
+stepped_by finished s = unmerged_by 0 0 0 s.place_a s.place_b
+stepped_by (not_accepted l n p) s = unmerged_by n (digit l) p s.place_a s.place_b
+stepped_by (barred n) s = unmerged_by n 0 0 s.place_a s.place_b
 
 unfoldable pub merge_stepped : Step → MergeStepped
-merge_stepped s = stepped_by (merged_of s).told (merged_of s)
+merge_stepped s = stepped_by s.told s
 
 -- a run of C as the code has it, and back
 abbrev pub head_out : Standing → MergeHead
-head_out s = record { at = cursor_out s.at; length = s.size; timed = (when s.timed then 1 else 0); time = s.time }
+head_out s = record { at = s.at; length = s.size; timed = (when s.timed then 1 else 0); time = s.time }
 
 abbrev pub head_in : MergeHead → Standing
-head_in h = record { at = cursor_in h.at; size = h.length; timed = not (eqb h.timed 0); time = h.time }
+head_in h = record { at = h.at; size = h.length; timed = not (eqb h.timed 0); time = h.time }
 
 abbrev pub merge_out : code-merge.Merge → Merge
 merge_out m = record { a = head_out m.a; b = head_out m.b; turn = m.turn }
@@ -177,10 +133,16 @@ no_head = record { at = record { block = 0; place = 0; end = 0; category = 0 }; 
 abbrev pub none_begun : ℕ → ℕ → ℕ → MergeBegun
 none_begun n l p = record { number = n; log = l; place = p; merge = record { a = no_head; b = no_head; turn = 0 } }
 
+-- a run begins, or is refused for what a log is or for what is asked
+abbrev pub stopped_by : Told → MergeBegun
+stopped_by (next l) = none_begun 0 0 0
+stopped_by finished = none_begun 0 0 0
+stopped_by (not_accepted l n p) = none_begun n (digit l) p
+stopped_by (barred n) = none_begun n 0 0
+
 unfoldable pub merge_begun : Begun → MergeBegun
-merge_begun (begun.Ready m) = record { number = 0; log = 0; place = 0; merge = merge_out m }
-merge_begun (begun.NotAccepted l n p) = none_begun n (log_number l) p
-merge_begun (begun.Refused n) = none_begun n 0 0
+merge_begun (ready m) = record { number = 0; log = 0; place = 0; merge = merge_out m }
+merge_begun (stopped t) = stopped_by t
 
 unfoldable pub merge_next : Many → MergeNext
 merge_next r = record { count = r.count; merge = merge_out r.merge }

@@ -1,17 +1,14 @@
 -- The struct that an answer on exercise sheets makes, for C and Rust, as `Answers` has the others. Assumes nothing.
-use Rattle.std.specs.Prelude.{ℕ, not, List, eqb, pos, length}
+use Rattle.std.specs.Prelude.{ℕ, not, List, eqb, pos, length, Option, Some, None, Result, Ok, Err}
 use Rattle.rules.specs.Answer.{Answer, ok, refused, when◌then◌else◌}
 use Rattle.rules.specs.Sheet.{Sheet}
-use Rattle.rules.specs.declared.Mark as rules
+use Rattle.rules.specs.declared.Mark.{Mark}
+use Rattle.rules.specs.declared.faults.Refusal.{Refusal}
+use Rattle.rules.specs.Told.{number_of}
 use Rattle.marks.specs.declared.Lists.{Lists}
-use Rattle.marks.specs.declared.MarkFound as code
-use Rattle.marks.specs.declared.MarkFound.TheVariants as code-found
 use Rattle.marks.specs.Lists.{lists_of}
-use Rattle.laying.specs.declared.Written.{Written}
-use Rattle.laying.specs.declared.Written.TheVariants.{Length, Refused}
 use Rattle.asterix.specs.declared.sheet.Marks.{Marks}
 use Rattle.asterix.specs.declared.sheet.SheetRead.{SheetRead}
-use Rattle.asterix.specs.declared.sheet.Mark.{Mark}
 use Rattle.asterix.specs.declared.sheet.MarkFound.{MarkFound}
 use Rattle.asterix.specs.declared.sheet.SheetWritten.{SheetWritten}
 
@@ -30,18 +27,15 @@ sheet_told (refused n p) = record { number = n; edition = 0; place = p; offset =
 
 -- ---- marks by their numbers
 
-abbrev pub mark_in : Mark → rules.Mark
-mark_in m = record { log = m.log; place = m.place; station = m.station; comment = m.comment }
-
-unfoldable pub mark_found : code.MarkFound → MarkFound
-mark_found (code-found.Found m) = record { found = 1; mark = record { place = m.place; log = m.log; station = m.station; comment = m.comment } }
-mark_found code-found.Nothing = record { found = 0; mark = record { place = 0; log = 0; station = 0; comment = 0 } }
+unfoldable pub mark_found : Option Mark → MarkFound
+mark_found (Some m) = record { found = 1; mark = m }
+mark_found None = record { found = 0; mark = record { log = 0; place = 0; station = 0; comment = 0 } }
 
 -- ---- writing and changing
 
-abbrev pub written_by : Written → SheetWritten
-written_by (Length n) = record { number = 0; place = 0; length = n }
-written_by (Refused n p) = record { number = n; place = p; length = 0 }
+abbrev pub written_by : Result ℕ Refusal → SheetWritten
+written_by (Ok n) = record { number = 0; place = 0; length = n }
+written_by (Err r) = record { number = number_of r.fault; place = r.place; length = 0 }
 
 -- how many bytes the sheet has
 unfoldable pub sheet_written : Answer (List ℕ) → SheetWritten

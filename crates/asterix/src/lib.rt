@@ -16,17 +16,17 @@ ghost use Rattle.walking.specs.Walk.{next_record};
 ghost use Rattle.rules.specs.Merge.{merge_step};
 ghost use Rattle.merging.specs.Run.{begin_of};
 ghost use Rattle.merging.specs.Many.{many_of};
-ghost use Rattle.asterix.specs.Answers.{block_checked, recording_checked, record_found, item_found, cursor_in, unmet_by, record_met, log_number, merge_stepped, head_out, head_in, merge_out, merge_in, none_begun, merge_begun, merge_next, item_read, item_written, record_added};
+ghost use Rattle.asterix.specs.Answers.{block_checked, recording_checked, record_found, item_found, unmet_by, record_met, unmerged_by, merge_stepped, head_out, head_in, merge_out, merge_in, none_begun, merge_begun, merge_next, item_read, item_written, record_added};
 
-use finding::{ItemLocated, RecordPlace};
-use merging::{Begun, Told};
+use adding::AddRefusal;
+use merging::MergeRefusal;
 use records::PLACES;
 use sets::ItemSet;
 pub use sheet::{
     Mark, MarkFound, Marks, SheetRead, SheetWritten, asterix_add_mark, asterix_empty_sheet,
     asterix_find_mark, asterix_read_sheet, asterix_remove_mark, asterix_write_sheet,
 };
-use walking::Met;
+pub use walking::Cursor;
 
 // ---- checking
 
@@ -43,14 +43,14 @@ pub fn asterix_check_block(block: &[u8]) -> BlockChecked
     ensures { result ≡ block_checked (check_block categories block.now) }
 {
     match blocks::check_block(block) {
-        blocks::BlockChecked::Accepted { records } => BlockChecked {
+        Ok(records) => BlockChecked {
             number: 0,
             place: 0,
             records,
         },
-        blocks::BlockChecked::Refused { number, place } => BlockChecked {
-            number,
-            place,
+        Err(refusal) => BlockChecked {
+            number: refusal.fault.number(),
+            place: refusal.place,
             records: 0,
         },
     }
@@ -70,15 +70,15 @@ pub fn asterix_check_recording(recording: &[u8]) -> RecordingChecked
     ensures { result ≡ recording_checked (check_recording categories recording.now) }
 {
     match recordings::check_recording(recording) {
-        recordings::RecordingChecked::Accepted { blocks, records } => RecordingChecked {
+        Ok(counts) => RecordingChecked {
             number: 0,
             place: 0,
-            blocks: blocks as usize,
-            records: records as usize,
+            blocks: counts.blocks as usize,
+            records: counts.records as usize,
         },
-        recordings::RecordingChecked::Refused { number, place } => RecordingChecked {
-            number,
-            place: place as usize,
+        Err(refusal) => RecordingChecked {
+            number: refusal.fault.number(),
+            place: refusal.place,
             blocks: 0,
             records: 0,
         },
@@ -103,28 +103,27 @@ pub struct RecordFound {
 pub fn asterix_find_record(block: &[u8], n: usize) -> RecordFound
     ensures { result ≡ record_found (find_record categories block.now n) }
 {
-    let located = finding::locate_record(block, n);
-    let map = located.map;
-    let starts = map.starts;
-    let answer = located.answer;
-    match answer {
-        RecordPlace::At { start, length } => RecordFound {
-            number: 0,
-            place: 0,
-            start,
-            length,
-            end: map.end,
-            count: map.count,
-            starts,
-        },
-        RecordPlace::Refused { number, place } => RecordFound {
-            number,
-            place,
+    match finding::locate_record(block, n) {
+        Ok(found) => {
+            let starts = found.map.starts;
+            RecordFound {
+                number: 0,
+                place: 0,
+                start: found.start,
+                length: found.length,
+                end: found.map.end,
+                count: found.map.count,
+                starts,
+            }
+        }
+        Err(refusal) => RecordFound {
+            number: refusal.fault.number(),
+            place: refusal.place,
             start: 0,
             length: 0,
             end: 0,
             count: 0,
-            starts,
+            starts: [0; PLACES],
         },
     }
 }
@@ -143,15 +142,15 @@ pub fn asterix_find_item(block: &[u8], reference: u16, n: usize) -> ItemFound
     ensures { result ≡ item_found (find_item categories block.now reference n) }
 {
     match finding::locate_item(block, reference, n) {
-        ItemLocated::At { start, length } => ItemFound {
+        Ok(item) => ItemFound {
             number: 0,
             place: 0,
-            start,
-            length,
+            start: item.start,
+            length: item.length,
         },
-        ItemLocated::Refused { number, place } => ItemFound {
-            number,
-            place,
+        Err(refusal) => ItemFound {
+            number: refusal.fault.number(),
+            place: refusal.place,
             start: 0,
             length: 0,
         },
@@ -159,16 +158,6 @@ pub fn asterix_find_item(block: &[u8], reference: u16, n: usize) -> ItemFound
 }
 
 // ---- walking a log
-
-// Where a walk stands: `Cursor` of `walking`.
-#[repr(C)]
-#[derive(Drop)]
-pub struct Cursor {
-    pub block: usize,
-    pub place: usize,
-    pub end: usize,
-    pub category: u8,
-}
 
 // `met` is 1 where a record was met; 0 with `number` 0 is the end. The map counts from the start of the record's block.
 #[repr(C)]
@@ -208,63 +197,31 @@ fn unmet(number: u8, place: usize, next: Cursor) -> RecordMet
 
 // The record at a cursor, or the first of the next block.
 pub fn asterix_next_record(recording: &[u8], cursor: Cursor) -> RecordMet
-    ensures { result ≡ record_met (next_record recording.now (cursor_in cursor)) }
+    ensures { result ≡ record_met (next_record recording.now cursor) }
 {
-    let walked = walking::next_record(
-        recording,
-        walking::Cursor {
-            block: cursor.block,
-            place: cursor.place,
-            end: cursor.end,
-            category: cursor.category,
-        },
-    );
-    let after = walked.next;
-    let next = Cursor {
-        block: after.block,
-        place: after.place,
-        end: after.end,
-        category: after.category,
-    };
-    let met = walked.met;
-    match met {
-        Met::Record {
-            category,
-            start,
-            length,
-        } => {
-            let map = walked.map;
-            let starts = map.starts;
+    match walking::next_record(recording, cursor) {
+        Ok(Some(met)) => {
+            let starts = met.map.starts;
             RecordMet {
                 number: 0,
                 met: 1,
-                category,
+                category: met.category,
                 place: 0,
-                start,
-                length,
-                block: after.block,
-                end: map.end,
-                count: map.count,
+                start: met.start,
+                length: met.length,
+                block: met.next.block,
+                end: met.map.end,
+                count: met.map.count,
                 starts,
-                next,
+                next: met.next,
             }
         }
-        Met::Finished => unmet(0, 0, next),
-        Met::Refused { number, place } => unmet(number, place, next),
+        Ok(None) => unmet(0, 0, cursor),
+        Err(refusal) => unmet(refusal.fault.number(), refusal.place, cursor),
     }
 }
 
 // ---- two logs on one line
-
-// 0 is log A, 1 is log B.
-fn log_number(log: merging::Log) -> u8
-    ensures { result ≡ log_number log }
-{
-    match log {
-        merging::Log::A => 0,
-        merging::Log::B => 1,
-    }
-}
 
 // `met` is 1 where a record comes next; 0 with `number` 0 is the end of both logs. `log` is the record's, or that of a refusal of its own.
 #[repr(C)]
@@ -280,6 +237,22 @@ pub struct MergeStepped {
     pub place_b: usize,
 }
 
+// A step at which no record comes.
+fn unmerged(number: u8, log: u8, place: usize, place_a: usize, place_b: usize) -> MergeStepped
+    ensures { result ≡ unmerged_by number log place place_a place_b }
+{
+    MergeStepped {
+        number,
+        met: 0,
+        log,
+        place,
+        start: 0,
+        length: 0,
+        place_a,
+        place_b,
+    }
+}
+
 // Which record of two logs comes next, from a place in each; and the new places.
 pub fn asterix_merge_step(
     log_a: &[u8],
@@ -290,55 +263,32 @@ pub fn asterix_merge_step(
 ) -> MergeStepped
     ensures { result ≡ merge_stepped (merge_step categories log_a.now log_b.now place_a place_b offset) }
 {
-    let merged = merging::merge_at(log_a, log_b, place_a, place_b, offset);
-    let told = merged.told;
-    match told {
-        Told::Next { log } => MergeStepped {
+    match merging::merge_at(log_a, log_b, place_a, place_b, offset) {
+        Ok(Some(merged)) => MergeStepped {
             number: 0,
             met: 1,
-            log: log_number(log),
+            log: merged.log.number(),
             place: 0,
             start: merged.start,
             length: merged.size,
             place_a: merged.place_a,
             place_b: merged.place_b,
         },
-        Told::Finished => MergeStepped {
-            number: 0,
-            met: 0,
-            log: 0,
-            place: 0,
-            start: merged.start,
-            length: merged.size,
-            place_a: merged.place_a,
-            place_b: merged.place_b,
-        },
-        Told::NotAccepted { log, number, place } => MergeStepped {
-            number,
-            met: 0,
-            log: log_number(log),
-            place: place as usize,
-            start: merged.start,
-            length: merged.size,
-            place_a: merged.place_a,
-            place_b: merged.place_b,
-        },
-        Told::Refused { number } => MergeStepped {
-            number,
-            met: 0,
-            log: 0,
-            place: 0,
-            start: merged.start,
-            length: merged.size,
-            place_a: merged.place_a,
-            place_b: merged.place_b,
-        },
+        Ok(None) => unmerged(0, 0, 0, place_a, place_b),
+        Err(MergeRefusal::OfLog { log, refusal }) => unmerged(
+            refusal.fault.number(),
+            log.number(),
+            refusal.place,
+            place_a,
+            place_b,
+        ),
+        Err(MergeRefusal::Asked(fault)) => unmerged(fault.number(), 0, 0, place_a, place_b),
     }
 }
 
 // The record that comes next in a log: the walk at it, how many octets it has, and its time where `timed` is not 0.
 #[repr(C)]
-#[derive(Drop)]
+#[derive(Clone, Copy)]
 pub struct MergeHead {
     pub at: Cursor,
     pub length: usize,
@@ -348,57 +298,61 @@ pub struct MergeHead {
 
 // Where a run of two logs stands: `Merge` of `merging`.
 #[repr(C)]
-#[derive(Drop)]
+#[derive(Clone, Copy)]
 pub struct Merge {
     pub a: MergeHead,
     pub b: MergeHead,
     pub turn: u64,
 }
 
-fn head_out(standing: merging::Standing) -> MergeHead
-    ensures { result ≡ head_out standing }
-{
-    let at = standing.at;
-    let timed = if standing.timed { 1 } else { 0 };
-    MergeHead {
-        at: Cursor {
-            block: at.block,
-            place: at.place,
-            end: at.end,
-            category: at.category,
-        },
-        length: standing.size,
-        timed,
-        time: standing.time,
+// Between a run of C and the code's own: the flag is an octet in C, which may hold any.
+impl From<merging::Standing> for MergeHead {
+    ghost from_gives = { λ s h. h ≡ head_out s };
+
+    fn from(standing: merging::Standing) -> MergeHead {
+        MergeHead {
+            at: standing.at,
+            length: standing.size,
+            timed: u8::from(standing.timed),
+            time: standing.time,
+        }
     }
 }
 
-fn head_in(head: MergeHead) -> merging::Standing
-    ensures { result ≡ head_in head }
-{
-    let at = head.at;
-    merging::Standing {
-        at: walking::Cursor {
-            block: at.block,
-            place: at.place,
-            end: at.end,
-            category: at.category,
-        },
-        size: head.length,
-        timed: head.timed != 0,
-        time: head.time,
+impl From<MergeHead> for merging::Standing {
+    ghost from_gives = { λ h s. s ≡ head_in h };
+
+    fn from(head: MergeHead) -> merging::Standing {
+        merging::Standing {
+            at: head.at,
+            size: head.length,
+            timed: head.timed != 0,
+            time: head.time,
+        }
     }
 }
 
-fn merge_out(merge: merging::Merge) -> Merge
-    ensures { result ≡ merge_out merge }
-{
-    let a = merge.a;
-    let b = merge.b;
-    Merge {
-        a: head_out(a),
-        b: head_out(b),
-        turn: merge.turn,
+impl From<merging::Merge> for Merge {
+    ghost from_gives = { λ m c. c ≡ merge_out m };
+
+    fn from(merge: merging::Merge) -> Merge {
+        Merge {
+            a: MergeHead::from(merge.a),
+            b: MergeHead::from(merge.b),
+            turn: merge.turn,
+        }
+    }
+}
+
+impl From<Merge> for merging::Merge {
+    ghost from_gives = { λ c m. m ≡ merge_in c };
+
+    fn from(merge: Merge) -> merging::Merge {
+        merging::Merge {
+            a: merging::Standing::from(merge.a),
+            b: merging::Standing::from(merge.b),
+            turn: merge.turn,
+        }
     }
 }
 
@@ -415,33 +369,19 @@ pub struct MergeBegun {
 fn none_begun(number: u8, log: u8, place: usize) -> MergeBegun
     ensures { result ≡ none_begun number log place }
 {
+    let none = MergeHead {
+        at: Cursor::start(),
+        length: 0,
+        timed: 0,
+        time: 0,
+    };
     MergeBegun {
         number,
         log,
         place,
         merge: Merge {
-            a: MergeHead {
-                at: Cursor {
-                    block: 0,
-                    place: 0,
-                    end: 0,
-                    category: 0,
-                },
-                length: 0,
-                timed: 0,
-                time: 0,
-            },
-            b: MergeHead {
-                at: Cursor {
-                    block: 0,
-                    place: 0,
-                    end: 0,
-                    category: 0,
-                },
-                length: 0,
-                timed: 0,
-                time: 0,
-            },
+            a: none,
+            b: none,
             turn: 0,
         },
     }
@@ -451,18 +391,17 @@ fn none_begun(number: u8, log: u8, place: usize) -> MergeBegun
 pub fn asterix_begin_merge(log_a: &[u8], log_b: &[u8], offset: i64) -> MergeBegun
     ensures { result ≡ merge_begun (begin_of log_a.now log_b.now offset) }
 {
-    let begun = merging::begin_merge(log_a, log_b, offset);
-    match begun {
-        Begun::Ready(merge) => MergeBegun {
+    match merging::begin_merge(log_a, log_b, offset) {
+        Ok(merge) => MergeBegun {
             number: 0,
             log: 0,
             place: 0,
-            merge: merge_out(merge),
+            merge: Merge::from(merge),
         },
-        Begun::NotAccepted { log, number, place } => {
-            none_begun(number, log_number(log), place as usize)
+        Err(MergeRefusal::OfLog { log, refusal }) => {
+            none_begun(refusal.fault.number(), log.number(), refusal.place)
         }
-        Begun::Refused { number } => none_begun(number, 0, 0),
+        Err(MergeRefusal::Asked(fault)) => none_begun(fault.number(), 0, 0),
     }
 }
 
@@ -484,18 +423,10 @@ pub fn asterix_next_merged_words<'a>(
     ensures answer { result ≡ merge_next (many_of (length out.old / 6) log_a.now log_b.now (merge_in merge)) }
     ensures left { out.new ≡ over (many_of (length out.old / 6) log_a.now log_b.now (merge_in merge)).numbers out.old }
 {
-    let a = merge.a;
-    let b = merge.b;
-    let from = merging::Merge {
-        a: head_in(a),
-        b: head_in(b),
-        turn: merge.turn,
-    };
-    let ran = merging::next_records(from, log_a, log_b, out);
-    let after = ran.merge;
+    let ran = merging::next_records(merging::Merge::from(merge), log_a, log_b, out);
     MergeNext {
         count: ran.count,
-        merge: merge_out(after),
+        merge: Merge::from(ran.merge),
     }
 }
 
@@ -520,14 +451,14 @@ pub fn asterix_read_item(
     ensures left { fields.new ≡ leaves (read_one categories category reference item.now) fields.old }
 {
     match items::read_item(category, reference, item, fields) {
-        items::ItemRead::Fields { count } => ItemRead {
+        Ok(count) => ItemRead {
             number: 0,
             place: 0,
             count,
         },
-        items::ItemRead::Refused { number, place } => ItemRead {
-            number,
-            place,
+        Err(refusal) => ItemRead {
+            number: refusal.fault.number(),
+            place: refusal.place,
             count: 0,
         },
     }
@@ -552,14 +483,14 @@ pub fn asterix_write_item(
     ensures left { out.new ≡ leaves (write_one categories category reference fields.now (length out.old)) out.old }
 {
     match writing::write_item(category, reference, fields, out) {
-        writing::ItemWritten::Length(length) => ItemWritten {
+        Ok(length) => ItemWritten {
             number: 0,
             place: 0,
             length,
         },
-        writing::ItemWritten::Refused { number, place } => ItemWritten {
-            number,
-            place,
+        Err(refusal) => ItemWritten {
+            number: refusal.fault.number(),
+            place: refusal.place,
             length: 0,
         },
     }
@@ -582,22 +513,22 @@ pub fn asterix_add_record(out: &mut [u8], used: usize, frns: u64, items: &[u8]) 
     ensures left { out.new ≡ leaves_added (add_record categories out.old used (frns_of frns) items.now) out.old }
 {
     match adding::add_record(out, used, ItemSet { bits: frns }, items) {
-        adding::RecordAdded::Length(length) => RecordAdded {
+        Ok(length) => RecordAdded {
             number: 0,
             in_new: 0,
             place: 0,
             length,
         },
-        adding::RecordAdded::RefusedOld { number, place } => RecordAdded {
-            number,
+        Err(AddRefusal::Old(refusal)) => RecordAdded {
+            number: refusal.fault.number(),
             in_new: 0,
-            place,
+            place: refusal.place,
             length: 0,
         },
-        adding::RecordAdded::RefusedNew { number, place } => RecordAdded {
-            number,
+        Err(AddRefusal::New(refusal)) => RecordAdded {
+            number: refusal.fault.number(),
             in_new: 1,
-            place,
+            place: refusal.place,
             length: 0,
         },
     }

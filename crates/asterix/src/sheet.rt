@@ -5,10 +5,11 @@ ghost use Rattle.rules.specs.SheetForm.{form};
 ghost use Rattle.rules.specs.Sheet.{read_sheet};
 ghost use Rattle.rules.specs.SheetChange.{sheet_add, sheet_remove, sheet_empty, write_marks, fitted};
 ghost use Rattle.marks.specs.Lists.{found_mark};
-ghost use Rattle.asterix.specs.Sheets.{marks_out, marks_in, sheet_told, mark_in, mark_found, written_by, sheet_written};
+ghost use Rattle.asterix.specs.Sheets.{marks_out, marks_in, sheet_told, mark_found, written_by, sheet_written};
 
-use laying::Written;
 use marks::Lists;
+pub use rules::Mark;
+use rules::Refusal;
 
 // ---- reading
 
@@ -32,26 +33,30 @@ pub struct SheetRead {
     pub marks: Marks,
 }
 
-fn marks_out(lists: Lists) -> Marks
-    ensures { result ≡ marks_out lists }
-{
-    let split = if lists.split { 1 } else { 0 };
-    Marks {
-        base: lists.base,
-        first: lists.first,
-        count: lists.count,
-        split,
+// Between where the marks lie in C and in the code: the flag is an octet in C, which may hold any.
+impl From<Lists> for Marks {
+    ghost from_gives = { λ l m. m ≡ marks_out l };
+
+    fn from(lists: Lists) -> Marks {
+        Marks {
+            base: lists.base,
+            first: lists.first,
+            count: lists.count,
+            split: u8::from(lists.split),
+        }
     }
 }
 
-fn marks_in(marks: Marks) -> Lists
-    ensures { result ≡ marks_in marks }
-{
-    Lists {
-        split: marks.split != 0,
-        base: marks.base,
-        first: marks.first,
-        count: marks.count,
+impl From<Marks> for Lists {
+    ghost from_gives = { λ m l. l ≡ marks_in m };
+
+    fn from(marks: Marks) -> Lists {
+        Lists {
+            split: marks.split != 0,
+            base: marks.base,
+            first: marks.first,
+            count: marks.count,
+        }
     }
 }
 
@@ -60,21 +65,17 @@ pub fn asterix_read_sheet(sheet: &[u8]) -> SheetRead
     ensures { result ≡ sheet_told (read_sheet form sheet.now) }
 {
     match sheets::read_sheet(sheet) {
-        sheets::SheetRead::Accepted {
-            edition,
-            offset,
-            marks,
-        } => SheetRead {
+        Ok(read) => SheetRead {
             number: 0,
-            edition,
+            edition: read.edition,
             place: 0,
-            offset,
-            marks: marks_out(marks),
+            offset: read.offset,
+            marks: Marks::from(read.marks),
         },
-        sheets::SheetRead::Refused { number, place } => SheetRead {
-            number,
+        Err(refusal) => SheetRead {
+            number: refusal.fault.number(),
             edition: 0,
-            place,
+            place: refusal.place,
             offset: 0,
             marks: Marks {
                 base: 0,
@@ -90,15 +91,6 @@ pub fn asterix_read_sheet(sheet: &[u8]) -> SheetRead
 
 #[repr(C)]
 #[derive(Drop)]
-pub struct Mark {
-    pub place: u32,
-    pub log: u8,
-    pub station: u8,
-    pub comment: u8,
-}
-
-#[repr(C)]
-#[derive(Drop)]
 pub struct MarkFound {
     pub found: u8,
     pub mark: Mark,
@@ -108,17 +100,9 @@ pub struct MarkFound {
 pub fn asterix_find_mark(sheet: &[u8], marks: Marks, n: usize) -> MarkFound
     ensures { result ≡ mark_found (found_mark (marks_in marks) sheet.now n) }
 {
-    match marks::find_mark(sheet, marks_in(marks), n) {
-        marks::MarkFound::Found(m) => MarkFound {
-            found: 1,
-            mark: Mark {
-                place: m.place,
-                log: m.log,
-                station: m.station,
-                comment: m.comment,
-            },
-        },
-        marks::MarkFound::Nothing => MarkFound {
+    match marks::find_mark(sheet, Lists::from(marks), n) {
+        Some(mark) => MarkFound { found: 1, mark },
+        None => MarkFound {
             found: 0,
             mark: Mark {
                 place: 0,
@@ -140,20 +124,22 @@ pub struct SheetWritten {
     pub length: usize,
 }
 
-fn written(answer: Written) -> SheetWritten
-    ensures { result ≡ written_by answer }
-{
-    match answer {
-        Written::Length(length) => SheetWritten {
-            number: 0,
-            place: 0,
-            length,
-        },
-        Written::Refused { number, place } => SheetWritten {
-            number,
-            place,
-            length: 0,
-        },
+impl From<Result<usize, Refusal>> for SheetWritten {
+    ghost from_gives = { λ r w. w ≡ written_by r };
+
+    fn from(answer: Result<usize, Refusal>) -> SheetWritten {
+        match answer {
+            Ok(length) => SheetWritten {
+                number: 0,
+                place: 0,
+                length,
+            },
+            Err(refusal) => SheetWritten {
+                number: refusal.fault.number(),
+                place: refusal.place,
+                length: 0,
+            },
+        }
     }
 }
 
@@ -162,21 +148,15 @@ pub fn asterix_write_sheet(offset: i64, marks: &[u8], out: &mut [u8]) -> SheetWr
     ensures answer { result ≡ sheet_written (fitted (length out.old) (write_marks form form.least offset marks.now)) }
     ensures left { out.new ≡ leaves (fitted (length out.old) (write_marks form form.least offset marks.now)) out.old }
 {
-    written(sheets::write_sheet(offset, marks, out))
+    SheetWritten::from(sheets::write_sheet(offset, marks, out))
 }
 
 // The sheet with a mark more.
 pub fn asterix_add_mark(sheet: &[u8], mark: Mark, out: &mut [u8]) -> SheetWritten
-    ensures answer { result ≡ sheet_written (fitted (length out.old) (sheet_add form (mark_in mark) sheet.now)) }
-    ensures left { out.new ≡ leaves (fitted (length out.old) (sheet_add form (mark_in mark) sheet.now)) out.old }
+    ensures answer { result ≡ sheet_written (fitted (length out.old) (sheet_add form mark sheet.now)) }
+    ensures left { out.new ≡ leaves (fitted (length out.old) (sheet_add form mark sheet.now)) out.old }
 {
-    let m = rules::Mark {
-        log: mark.log,
-        place: mark.place,
-        station: mark.station,
-        comment: mark.comment,
-    };
-    written(sheets::add_mark(sheet, m, out))
+    SheetWritten::from(sheets::add_mark(sheet, mark, out))
 }
 
 // The sheet without its mark at a log and place.
@@ -184,7 +164,7 @@ pub fn asterix_remove_mark(sheet: &[u8], log: u8, place: u32, out: &mut [u8]) ->
     ensures answer { result ≡ sheet_written (fitted (length out.old) (sheet_remove form log place sheet.now)) }
     ensures left { out.new ≡ leaves (fitted (length out.old) (sheet_remove form log place sheet.now)) out.old }
 {
-    written(sheets::remove_mark(sheet, log, place, out))
+    SheetWritten::from(sheets::remove_mark(sheet, log, place, out))
 }
 
 // The sheet without its marks.
@@ -192,5 +172,5 @@ pub fn asterix_empty_sheet(sheet: &[u8], out: &mut [u8]) -> SheetWritten
     ensures answer { result ≡ sheet_written (fitted (length out.old) (sheet_empty form sheet.now)) }
     ensures left { out.new ≡ leaves (fitted (length out.old) (sheet_empty form sheet.now)) out.old }
 {
-    written(sheets::empty_sheet(sheet, out))
+    SheetWritten::from(sheets::empty_sheet(sheet, out))
 }

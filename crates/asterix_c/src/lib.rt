@@ -11,12 +11,12 @@ ghost use Rattle.walking.specs.Walk.{next_record};
 ghost use Rattle.rules.specs.Merge.{merge_step};
 ghost use Rattle.merging.specs.Run.{begin_of};
 ghost use Rattle.merging.specs.Many.{many_of};
-ghost use Rattle.asterix.specs.Answers.{block_checked, recording_checked, record_found, item_found, cursor_in, record_met, merge_stepped, merge_in, merge_begun, merge_next, item_read, item_written, record_added};
+ghost use Rattle.asterix.specs.Answers.{block_checked, recording_checked, record_found, item_found, record_met, merge_stepped, merge_in, merge_begun, merge_next, item_read, item_written, record_added};
 ghost use Rattle.rules.specs.SheetForm.{form};
 ghost use Rattle.rules.specs.Sheet.{read_sheet};
 ghost use Rattle.rules.specs.SheetChange.{sheet_add, sheet_remove, sheet_empty, write_marks, fitted};
 ghost use Rattle.marks.specs.Lists.{found_mark};
-ghost use Rattle.asterix.specs.Sheets.{marks_in, sheet_told, mark_in, mark_found, sheet_written};
+ghost use Rattle.asterix.specs.Sheets.{marks_in, sheet_told, mark_found, sheet_written};
 
 use asterix::{
     BlockChecked, Cursor, ItemFound, ItemRead, ItemWritten, Mark, MarkFound, Marks, Merge,
@@ -59,7 +59,7 @@ pub extern "C" fn asterix_find_item(block: &[u8], reference: u16, n: usize) -> I
 // The record at a cursor, or the first of the next block.
 #[unsafe(no_mangle)]
 pub extern "C" fn asterix_next_record(recording: &[u8], cursor: Cursor) -> RecordMet
-    ensures { result ≡ record_met (next_record recording.now (cursor_in cursor)) }
+    ensures { result ≡ record_met (next_record recording.now cursor) }
 {
     asterix::asterix_next_record(recording, cursor)
 }
@@ -178,8 +178,8 @@ pub extern "C" fn asterix_write_sheet(offset: i64, marks: &[u8], out: &mut [u8])
 // The sheet with a mark more.
 #[unsafe(no_mangle)]
 pub extern "C" fn asterix_add_mark(sheet: &[u8], mark: Mark, out: &mut [u8]) -> SheetWritten
-    ensures answer { result ≡ sheet_written (fitted (length out.old) (sheet_add form (mark_in mark) sheet.now)) }
-    ensures left { out.new ≡ leaves (fitted (length out.old) (sheet_add form (mark_in mark) sheet.now)) out.old }
+    ensures answer { result ≡ sheet_written (fitted (length out.old) (sheet_add form mark sheet.now)) }
+    ensures left { out.new ≡ leaves (fitted (length out.old) (sheet_add form mark sheet.now)) out.old }
 {
     asterix::asterix_add_mark(sheet, mark, out)
 }

@@ -3,10 +3,10 @@ use Rattle.asterix.specs.Answers.{block_checked}
 use Rattle.asterix.proofs.StructLaws.{block_checked_lem}
 use Rattle.asterix.proofs.asterix_check_block.Goals as goal
 
-pub returns-in-Accepted : goal.returns-in-Accepted
+pub returns-in-Ok : goal.returns-in-Ok
 unfolding block_checked
-returns-in-Accepted c = block_checked_lem _ c.check_block.ensures c.in-Accepted.is
+returns-in-Ok c = block_checked_lem _ c.check_block.ensures c.in-Ok.is
 
-pub returns-in-Refused : goal.returns-in-Refused
+pub returns-in-Err : goal.returns-in-Err
 unfolding block_checked
-returns-in-Refused c = block_checked_lem _ c.check_block.ensures c.in-Refused.is
+returns-in-Err c = rw c.number.ensures (block_checked_lem _ c.check_block.ensures c.in-Err.is)

@@ -3,10 +3,10 @@ use Rattle.asterix.specs.Answers.{recording_checked}
 use Rattle.asterix.proofs.StructLaws.{recording_checked_lem}
 use Rattle.asterix.proofs.asterix_check_recording.Goals as goal
 
-pub returns-in-Accepted : goal.returns-in-Accepted
+pub returns-in-Ok : goal.returns-in-Ok
 unfolding recording_checked
-returns-in-Accepted c = recording_checked_lem _ c.check_recording.ensures c.in-Accepted.is
+returns-in-Ok c = recording_checked_lem _ c.check_recording.ensures c.in-Ok.is
 
-pub returns-in-Refused : goal.returns-in-Refused
+pub returns-in-Err : goal.returns-in-Err
 unfolding recording_checked
-returns-in-Refused c = recording_checked_lem _ c.check_recording.ensures c.in-Refused.is
+returns-in-Err c = rw c.number.ensures (recording_checked_lem _ c.check_recording.ensures c.in-Err.is)

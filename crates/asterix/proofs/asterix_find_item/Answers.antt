@@ -2,8 +2,8 @@
 use Rattle.asterix.proofs.StructLaws.{item_found_lem}
 use Rattle.asterix.proofs.asterix_find_item.Goals as goal
 
-pub returns-in-At : goal.returns-in-At
-returns-in-At c = item_found_lem _ c.locate_item.ensures c.in-At.is
+pub returns-in-Ok : goal.returns-in-Ok
+returns-in-Ok c = item_found_lem _ c.locate_item.ensures c.in-Ok.is
 
-pub returns-in-Refused : goal.returns-in-Refused
-returns-in-Refused c = item_found_lem _ c.locate_item.ensures c.in-Refused.is
+pub returns-in-Err : goal.returns-in-Err
+returns-in-Err c = rw c.number.ensures (item_found_lem _ c.locate_item.ensures c.in-Err.is)

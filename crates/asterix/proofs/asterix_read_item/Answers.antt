@@ -2,8 +2,8 @@
 use Rattle.asterix.proofs.StructLaws.{item_read_lem}
 use Rattle.asterix.proofs.asterix_read_item.Goals as goal
 
-pub returns-in-Fields : goal.returns-in-Fields
-returns-in-Fields c = record { answer = item_read_lem _ c.read_item.ensures.answer c.in-Fields.is; left = c.read_item.ensures.left }
+pub returns-in-Ok : goal.returns-in-Ok
+returns-in-Ok c = record { answer = item_read_lem _ c.read_item.ensures.answer c.in-Ok.is; left = c.read_item.ensures.left }
 
-pub returns-in-Refused : goal.returns-in-Refused
-returns-in-Refused c = record { answer = item_read_lem _ c.read_item.ensures.answer c.in-Refused.is; left = c.read_item.ensures.left }
+pub returns-in-Err : goal.returns-in-Err
+returns-in-Err c = record { answer = rw c.number.ensures (item_read_lem _ c.read_item.ensures.answer c.in-Err.is); left = c.read_item.ensures.left }

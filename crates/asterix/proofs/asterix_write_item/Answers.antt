@@ -2,8 +2,8 @@
 use Rattle.asterix.proofs.StructLaws.{item_written_lem}
 use Rattle.asterix.proofs.asterix_write_item.Goals as goal
 
-pub returns-in-Length : goal.returns-in-Length
-returns-in-Length c = record { answer = item_written_lem _ c.write_item.ensures.answer c.in-Length.is; left = c.write_item.ensures.left }
+pub returns-in-Ok : goal.returns-in-Ok
+returns-in-Ok c = record { answer = item_written_lem _ c.write_item.ensures.answer c.in-Ok.is; left = c.write_item.ensures.left }
 
-pub returns-in-Refused : goal.returns-in-Refused
-returns-in-Refused c = record { answer = item_written_lem _ c.write_item.ensures.answer c.in-Refused.is; left = c.write_item.ensures.left }
+pub returns-in-Err : goal.returns-in-Err
+returns-in-Err c = record { answer = rw c.number.ensures (item_written_lem _ c.write_item.ensures.answer c.in-Err.is); left = c.write_item.ensures.left }

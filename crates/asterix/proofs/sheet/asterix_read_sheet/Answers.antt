@@ -6,10 +6,10 @@ use Rattle.asterix.proofs.SheetStructs.{sheet_told_lem}
 use borrow.Author.Rules.{rules}
 use Rattle.asterix.proofs.sheet.asterix_read_sheet.Goals as goal
 
-pub returns-in-Accepted : goal.returns-in-Accepted
-returns-in-Accepted c =
-    ap₂ (λ o m. record { number = 0; edition = c.in-Accepted.edition; place = 0; offset = o; marks = m }) (to_z-of_z w64 c.in-Accepted.offset (search rules)) c.marks_out.ensures
-    ∙ sheet_told_lem _ c.read_sheet.ensures c.in-Accepted.is
+pub returns-in-Ok : goal.returns-in-Ok
+returns-in-Ok c =
+    ap₂ (λ o m. record { number = 0; edition = c.in-Ok.read.edition; place = 0; offset = o; marks = m }) (to_z-of_z w64 c.in-Ok.read.offset (search rules)) c.from.ensures
+    ∙ sheet_told_lem _ c.read_sheet.ensures c.in-Ok.is
 
-pub returns-in-Refused : goal.returns-in-Refused
-returns-in-Refused c = sheet_told_lem _ c.read_sheet.ensures c.in-Refused.is
+pub returns-in-Err : goal.returns-in-Err
+returns-in-Err c = rw c.number.ensures (sheet_told_lem _ c.read_sheet.ensures c.in-Err.is)

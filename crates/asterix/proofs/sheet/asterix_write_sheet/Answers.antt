@@ -6,5 +6,5 @@ use Rattle.asterix.proofs.sheet.asterix_write_sheet.Goals as goal
 
 pub returns : goal.returns
 returns c =
-    let told = offset_written _ _ c.args.marks.now c.args.out.now _ _ _ (to_z-of_z w64 c.args.offset c.ranges.offset) c.written.ensures (c.write_sheet.ensures.value, c.write_sheet.ensures.out_after) in
+    let told = offset_written _ _ c.args.marks.now c.args.out.now _ _ _ (to_z-of_z w64 c.args.offset c.ranges.offset) c.from.ensures (c.write_sheet.ensures.value, c.write_sheet.ensures.out_after) in
     record { answer = told.0; left = told.1 }
