@@ -9,8 +9,8 @@ two results meet its statement, or on what ground there is none. The exports to 
 own: each is held to state, word for word, what the function of its name in the crate `asterix` states.
 
 Held, each difference being a line and the exit status 1: no function without a row, no row without a
-function; each function states its result, and of each buffer lent to be written to what it then
-holds; a theorem is named `one_` and the function's name, stands in a file of the crate's proofs
+function; each function states its result, by its clauses or by what its result's type keeps of
+itself, and of each buffer lent to be written to what it then holds; a theorem is named `one_` and the function's name, stands in a file of the crate's proofs
 whose name ends in Unique, has as hypotheses, twice, the very words of the function's statement, and
 beside them only what types give (a bound by a power of two) or the function asks, and ends in that
 the results, and what is left in lent buffers, are the same; a function without one has its ground in
@@ -66,7 +66,7 @@ class Function:
                 left, kind = parameter.split(":", 1)
                 self.parameters[left.replace("mut ", "").strip()] = " ".join(kind.split())
         self.result = ""
-        self.requires, self.ensures = [], []
+        self.requires, self.ensures, self.kept = [], [], []
         while True:
             word = re.compile(r"\s*(->\s*[^{;]*?(?=\s+(?:requires|ensures)\b|\s*\{)|(requires|ensures)(?:\s+\w+)?(?=\s*\{))").match(text, at)
             if not word:
@@ -92,6 +92,7 @@ class Function:
 
     def hypothesis(self, said, which):
         """A clause in a theorem's words, of the result a and what is left, or of b and what is right."""
+        said = re.sub(r"(?<![\w.])self\.(?:now|old)\b", "self", said)
         for name, kind in self.parameters.items():
             if kind.startswith("&"):
                 # a clause that speaks of the reference itself has what it holds beside it
@@ -106,6 +107,17 @@ def same_statement(one, other):
 
 def bare(text):
     return re.sub(r"//[^\n]*", "", text)
+
+
+def kept_facts():
+    """The facts that each struct keeps of itself by its ghost fields, or by those of its fields' types: of each name of a type, the names of the fields."""
+    facts, fields = {}, {}
+    for source in sorted((ROOT / "crates").glob("*/src/*.rt")):
+        for word in re.finditer(r"(?m)^[ \t]*(?:pub(?:\(\w+\))? )?struct (\w+)[^{;(]*(?=\{)", bare(source.read_text())):
+            body, _ = clause(bare(source.read_text()), word.end())
+            facts[word.group(1)] = re.findall(r"\bghost (\w+): \{", body)
+            fields[word.group(1)] = re.findall(r"\b\w+: (\w+)\b", body)
+    return {name: own + [fact for kind in fields[name] for fact in facts.get(kind, [])] for name, own in facts.items()}
 
 
 def functions_in(crate, text, exported, everything):
@@ -166,7 +178,7 @@ def parts(statement):
 def check(function, statements, plain):
     """The theorem's name, or None. plain: the names of theorems of functions that no type owns."""
     where = "%s::%s" % (function.crate, function.title)
-    if not function.ensures:
+    if not function.ensures and not function.kept:
         differ("%s states nothing" % where)
     for name, kind in function.parameters.items():
         # a reader is no buffer: what it still has, no contract of a read says
@@ -217,7 +229,9 @@ def main(arguments):
     made = {}
     used = {}
     functions = callable_functions()
+    kept = kept_facts()
     for function in functions:
+        function.kept = kept.get(function.owner if function.result == "Self" else function.result, [])
         if function.crate == EXPORTS:
             continue
         statements = theorems(function.crate)
@@ -231,6 +245,8 @@ def main(arguments):
                 if word in function.known and word not in function.parameters and word not in cited:
                     cited.append(word)
         says = ", ".join("`%s`" % word for word in cited) or "; ".join("`%s`" % said for said in function.ensures)
+        if not says:
+            says = "by its type: " + ", ".join("`%s`" % fact for fact in dict.fromkeys(function.kept))
         ground = there.get(key, ("", "", ""))[2]
         if name:
             once = "`%s`" % name

@@ -24,8 +24,8 @@ use Rattle.blocks.proofs.HeadLaws.{headed, opened_named}
 -- ---- profiles
 
 -- no two have one category
-pub one_index : (i j : ℕ) → category_of (category_at i).cat categories ≡ some (category_at i) → category_at i ≡ category_at j → i ≡ j
-one_index i j h e =
+pub index_of_one : (i j : ℕ) → category_of (category_at i).cat categories ≡ some (category_at i) → category_at i ≡ category_at j → i ≡ j
+index_of_one i j h e =
     let k : category_of (category_at j).cat categories ≡ some (category_at j) = rw (← e) h in
     sym (index_is i h) ∙ ap (λ c. profile_in c.cat categories) e ∙ index_is j k
 
@@ -38,7 +38,7 @@ opened_profile bs least o h = sym (index_is o.profile (opened_named bs least _ (
 pub one_front_head : (part : List ℕ) (a b : Result Head Fault) → head_of a ≡ head_by leb part → head_of b ≡ head_by leb part → a ≡ b
 one_front_head part (Ok h) (Ok k) p q =
     let e : head_said h ≡ head_said k = ok_inj (p ∙ sym q) in
-    ap₂ (λ i n. Ok (record { profile = i; len = n })) (one_index h.profile k.profile (headed leb part _ (sym p)).named (ap (λ z. z.category) e)) (ap (λ z. z.len) e)
+    ap₂ (λ i n. Ok (record { profile = i; len = n })) (index_of_one h.profile k.profile (headed leb part _ (sym p)).named (ap (λ z. z.category) e)) (ap (λ z. z.len) e)
 one_front_head part (Ok h) (Err f) p q = let e : head_of (Ok h) ≡ head_of (Err f) = p ∙ sym q in let z : ◌≡◌ {A = ℕ} 0 1 = cc in absurd (omega arith)
 one_front_head part (Err f) (Ok k) p q = let e : head_of (Err f) ≡ head_of (Ok k) = p ∙ sym q in let z : ◌≡◌ {A = ℕ} 0 1 = cc in absurd (omega arith)
 one_front_head part (Err f) (Err g) p q = let e : head_of (Err f) ≡ head_of (Err g) = p ∙ sym q in ap Err (one_fault f g (cc))

@@ -15,7 +15,7 @@ use Rattle.blocks.specs.declared.check.Front as code
 use Rattle.blocks.specs.Read.{open_from, check_front}
 use Rattle.blocks.specs.Answers.{checked_of, opened_said, opened_of, front_said, front_of}
 use Rattle.blocks.proofs.HeadLaws.{opened_named}
-use Rattle.blocks.proofs.HeadUnique.{one_index}
+use Rattle.blocks.proofs.HeadUnique.{index_of_one}
 
 pub one_check_block : (block : List ℕ) (a b : Result ℕ Refusal) → checked_of a ≡ check_block categories block → checked_of b ≡ check_block categories block → a ≡ b
 one_check_block block a b p q = one_told a b (p ∙ sym q)
@@ -23,7 +23,7 @@ one_check_block block a b p q = one_told a b (p ∙ sym q)
 pub one_open_block : (block : List ℕ) (least : ℕ) (a b : Result Opened Refusal) → opened_of a ≡ open_from least block → opened_of b ≡ open_from least block → a ≡ b
 one_open_block block least (Ok o) (Ok k) p q =
     let e : opened_said o ≡ opened_said k = ok_inj (p ∙ sym q) in
-    ap₂ (λ i n. Ok (record { profile = i; records = n })) (one_index o.profile k.profile (opened_named block least _ (sym p)) (ap (λ z. z.category) e)) (ap (λ z. z.count) e)
+    ap₂ (λ i n. Ok (record { profile = i; records = n })) (index_of_one o.profile k.profile (opened_named block least _ (sym p)) (ap (λ z. z.category) e)) (ap (λ z. z.count) e)
 one_open_block block least (Ok o) (Err s) p q = let e : opened_of (Ok o) ≡ opened_of (Err s) = p ∙ sym q in let z : ◌≡◌ {A = ℕ} 0 1 = cc in absurd (omega arith)
 one_open_block block least (Err r) (Ok k) p q = let e : opened_of (Err r) ≡ opened_of (Ok k) = p ∙ sym q in let z : ◌≡◌ {A = ℕ} 0 1 = cc in absurd (omega arith)
 one_open_block block least (Err r) (Err s) p q = ap Err (one_refusal r s (p ∙ sym q))

@@ -8,7 +8,7 @@ use Rattle.rules.specs.declared.Shape.{Shape}
 use Rattle.rules.specs.Mark.{size, ok_mark, number4, count}
 use Rattle.marks.specs.declared.Tally.{Tally}
 use Rattle.marks.specs.declared.Lists.{Lists}
-use Rattle.marks.specs.declared.Change.{Change}
+use Rattle.marks.specs.declared.NewList.{NewList}
 use Rattle.std.specs.Prelude.{Option}
 use Rattle.marks.specs.Lists.{passing, tally, both_tallies, mark_at, end_of, new_count, new_at, new_marks, found_mark}
 
@@ -47,13 +47,14 @@ one_find_mark sheet lists i a b p q = p ∙ sym q
 
 -- ---- a changed list by its numbers
 
-pub one_count : (lists : Lists) (change : Change) (a b : ℕ)
-    → (a ≡ new_count change lists) × (a ≤ 8192) → (b ≡ new_count change lists) × (b ≤ 8192) → a ≡ b
-one_count lists change a b p q = p.0 ∙ sym q.0
+pub one_count : (self : NewList) (a b : ℕ)
+    → (a ≡ new_count self.change self.lists) × (a ≤ 8192) → (b ≡ new_count self.change self.lists) × (b ≤ 8192) → a ≡ b
+one_count self a b p q = p.0 ∙ sym q.0
 
-pub one_new_mark : (s : List ℕ) (lists : Lists) (change : Change) (j : ℕ) (a b : Mark) → a ≡ new_at change lists s j → b ≡ new_at change lists s j → a ≡ b
-one_new_mark s lists change j a b p q = p ∙ sym q
+pub one_mark : (self : NewList) (j : ℕ) (a b : Mark) → a ≡ new_at self.change self.lists self.bytes.now j → b ≡ new_at self.change self.lists self.bytes.now j → a ≡ b
+one_mark self j a b p q = p ∙ sym q
 
-pub one_count_new : (s : List ℕ) (lists : Lists) (change : Change) (station a b : ℕ)
-    → a ≡ count station (new_marks change lists s) → b ≡ count station (new_marks change lists s) → a ≡ b
-one_count_new s lists change station a b p q = p ∙ sym q
+pub one_count_of : (self : NewList) (station a b : ℕ)
+    → a ≡ count station (new_marks self.change self.lists self.bytes.now) → a ≤ new_count self.change self.lists
+    → b ≡ count station (new_marks self.change self.lists self.bytes.now) → b ≤ new_count self.change self.lists → a ≡ b
+one_count_of self station a b p k q l = p ∙ sym q

@@ -130,19 +130,19 @@ one_number self a b p q = p ∙ sym q
 pub one_is_head : (len : ℕ) (self : Standing) (a b : Bool) → a ≡ is_head len self → b ≡ is_head len self → a ≡ b
 one_is_head len self a b p q = p ∙ sym q
 
-pub one_step : (as' bs : List ℕ) (self : Merge) (a b : Option Moved) → moved_of self a ≡ move_of as' bs self → moved_of self b ≡ move_of as' bs self → a ≡ b
-one_step as' bs self a b p q = moved_inj self a b (p ∙ sym q)
+pub one_step : (log_a log_b : List ℕ) (self : Merge) (a b : Option Moved) → moved_of self a ≡ move_of log_a log_b self → moved_of self b ≡ move_of log_a log_b self → a ≡ b
+one_step _ _ self a b p q = moved_inj self a b (p ∙ sym q)
 
-pub one_begin_merge : (as' bs : List ℕ) (offset : ℤ) (a b : Result Merge MergeRefusal) → begun_of a ≡ begin_of as' bs offset → begun_of b ≡ begin_of as' bs offset → a ≡ b
-one_begin_merge as' bs offset a b p q = begun_inj a b (p ∙ sym q)
+pub one_begin_merge : (log_a log_b : List ℕ) (offset : ℤ) (a b : Result Merge MergeRefusal) → begun_of a ≡ begin_of log_a log_b offset → begun_of b ≡ begin_of log_a log_b offset → a ≡ b
+one_begin_merge _ _ offset a b p q = begun_inj a b (p ∙ sym q)
 
-pub one_merge_at : (as' bs : List ℕ) (place_a place_b : ℕ) (offset : ℤ) (a b : Result (Option Merged) MergeRefusal)
-    → merged_of place_a place_b a ≡ merge_step categories as' bs place_a place_b offset
-    → merged_of place_a place_b b ≡ merge_step categories as' bs place_a place_b offset → a ≡ b
-one_merge_at as' bs place_a place_b offset a b p q = merged_inj place_a place_b a b (p ∙ sym q)
+pub one_merge_at : (log_a log_b : List ℕ) (place_a place_b : ℕ) (offset : ℤ) (a b : Result (Option Merged) MergeRefusal)
+    → merged_of place_a place_b a ≡ merge_step categories log_a log_b place_a place_b offset
+    → merged_of place_a place_b b ≡ merge_step categories log_a log_b place_a place_b offset → a ≡ b
+one_merge_at _ _ place_a place_b offset a b p q = merged_inj place_a place_b a b (p ∙ sym q)
 
-pub one_merge_step : (as' bs : Bor (List ℕ)) (place_a place_b : ℕ) (offset : ℤ) (a b : Bor (List ℕ))
-    → PartOf as' bs a (merge_step categories as'.now bs.now place_a place_b offset)
-    → PartOf as' bs b (merge_step categories as'.now bs.now place_a place_b offset) → (a.ref_ptr ≡ b.ref_ptr) × (a.now ≡ b.now)
-one_merge_step as' bs place_a place_b offset a b p q =
+pub one_merge_step : (log_a log_b : Bor (List ℕ)) (place_a place_b : ℕ) (offset : ℤ) (a b : Bor (List ℕ))
+    → PartOf log_a log_b a (merge_step categories log_a.now log_b.now place_a place_b offset)
+    → PartOf log_a log_b b (merge_step categories log_a.now log_b.now place_a place_b offset) → (a.ref_ptr ≡ b.ref_ptr) × (a.now ≡ b.now)
+one_merge_step _ _ place_a place_b offset a b p q =
     (ap₂ (λ u v. (u, v)) (p.block ∙ sym q.block) (p.offset ∙ sym q.offset), p.bytes ∙ sym q.bytes)

@@ -6,8 +6,8 @@
 use Prim.Native.Nat.{ℕ, ◌/◌, ◌%◌}
 use mathlib.Core.Path.{◌≡◌, sym, ◌∙◌}
 use mathlib.Core.Bool.{Bool}
-use mathlib.Core.List.{List}
 use Rattle.quick_items.specs.declared.Kind.{Kind}
+use Rattle.quick_items.specs.declared.Steps.{Steps}
 use Rattle.quick_items.specs.Item.{asks, kind_by, word_for}
 
 pub one_is_kept : (low high n : ℕ) (a b : Bool) → a ≡ asks low high n → b ≡ asks low high n → a ≡ b
@@ -16,5 +16,5 @@ one_is_kept low high n a b p q = p ∙ sym q
 pub one_kind_of : (word : ℕ) (a b : Kind) → a ≡ kind_by (word / 256 % 16) → b ≡ kind_by (word / 256 % 16) → a ≡ b
 one_kind_of word a b p q = p ∙ sym q
 
-pub one_word_of : (t : List ℕ) (profile frn a b : ℕ) → a ≡ word_for t profile frn → b ≡ word_for t profile frn → a ≡ b
-one_word_of t profile frn a b p q = p ∙ sym q
+pub one_word_of : (self : Steps) (profile frn a b : ℕ) → a ≡ word_for self.words.now profile frn → b ≡ word_for self.words.now profile frn → a ≡ b
+one_word_of self profile frn a b p q = p ∙ sym q
