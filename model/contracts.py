@@ -124,7 +124,7 @@ def functions_in(crate, text, exported, everything):
     found = []
     impls = []
     known = {name for names in re.findall(r"(?m)^ghost use Rattle\.(?!std\.)\S+\.\{(.*)\};", text) for name in names.split(", ")}
-    for block in re.finditer(r"(?m)^impl (\w+) ", text):
+    for block in re.finditer(r"(?m)^impl (\w+)(?:<[^>]*>)? (?=\{)", text):
         _, end = clause(text, block.end())
         impls.append((block.start(), end, block.group(1)))
     for word in re.finditer(r"(?m)^[ \t]*pub (?:extern \"C\" )?fn (\w+)(?:<[^>]*>)?", text):

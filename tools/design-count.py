@@ -68,24 +68,22 @@ def flags(folder):
                     yield path, i + 1, name[1]
 
 
-KEPT = set("fn let mut if else match while for in return struct enum impl pub const self Self true false as u8 u16 u32 u64 usize i64 bool".split())
+TYPES = r"\b(?:u8|u16|u32|u64|usize|i64|bool|[A-Z]\w*)\b"
 
 
 def shape_of(text):
-    """The text with every name and number of its own as one letter."""
-    words = re.findall(r"\w+|[^\w\s]", text)
-    return " ".join(it if it in KEPT or not re.match(r"\w", it) else ("0" if it[0].isdigit() else "x") for it in words)
+    """The text with each type, constant and number as one letter; other names stay."""
+    return " ".join(re.findall(r"\w+|[^\w\s]", re.sub(r"\b\d\w*\b", "0", re.sub(TYPES, "T", text))))
 
 
 def twins(folder):
-    """2: functions of one body, and types of one declaration, but for names and numbers: each that has a twin."""
+    """2: functions of one body, and types of one declaration, but for types, constants and numbers: each that has a twin."""
     found = collections.defaultdict(list)
     for path, text in files(folder):
         body = code(text)
         for m in re.finditer(r"^([ ]*)(?:pub )?fn (\w+).*?\n\1\{\n(.*?)^\1\}", body, re.M | re.S):
-            shape = shape_of(m[3])
-            if len(shape) > 24:
-                found["fn", shape].append((path, line_of(text, m.start()), m[2]))
+            if len(shape_of(m[3])) > 24:
+                found["fn", shape_of(m[3])].append((path, line_of(text, m.start()), m[2]))
         for m in re.finditer(r"^(?:pub )?(struct|enum) (\w+)[^{;]*\{(.*?)^\}", body, re.M | re.S):
             shape = shape_of(re.sub(r"\bpub\b|#\[.*?\]", "", m[3]))
             if len(shape) > 12:
@@ -159,7 +157,7 @@ def buffers(folder):
         if re.search(r": &mut \[[^\]]*\]", params) and re.search(r"\b(?:at|start|q|place|used|from|to): usize", params):
             yield path, line, name
     for path, text in files(folder):
-        for m in re.finditer(r"^(?:pub )?const ([A-Z_0-9]+): \[", code(text), re.M):
+        for m in re.finditer(r"^(?:pub )?(?:const|static) ([A-Z_0-9]+): \[", code(text), re.M):
             yield path, line_of(text, m.start()), m[1]
 
 

@@ -2,7 +2,8 @@
 --
 -- In order: where there is no octet, nothing is summed; a table that has passed the test. Assumes nothing.
 use Prim.Native.Nat.{ℕ, ◌/◌, ◌≤◌, ◌<◌}
-use mathlib.Core.Path.{◌≡◌, sym, ap, ◌∙◌}
+use mathlib.Core.Path.{◌≡◌, refl, sym, ap, ◌∙◌}
+use native.Mathlib.Omega.{arith}
 use mathlib.Core.Bool.{true, ◌&&◌}
 use mathlib.Core.List.{List, []}
 use native.Mathlib.Nat.{le_trans}
@@ -24,6 +25,24 @@ use Rattle.tables.proofs.ProfileLaws.{profile_at_lem, category_none}
 no_octet : (i k value : ℕ) → length (profile_at categories i) ≤ k → 0 ≡ least_length categories i k value
 unfolding least_length
 no_octet i k value l = sym (ap (λ r. sum_least r (flags 7 (value / 2))) (get_or-eq_default (profile_at categories i) [] l))
+
+-- an index past the last has no octet
+pub no_profile : (i k value : ℕ) → length categories ≤ i → 0 ≡ least_length categories i k value
+unfolding categories
+no_profile i k value l =
+    let e : length (profile_at categories i) ≡ 0 = ap length (sym (profile_at_lem i) ∙ ap (λ c. c.profile) (category_none i l)) in
+    no_octet i k value (omega arith)
+
+-- no FSPEC has sixteen octets
+few : all_below 3 (λ i. leb (length (profile_at categories i)) 16) ≡ true
+unfolding categories
+few = refl
+
+pub far_octet : (i k value : ℕ) → i < length categories → 16 ≤ k → 0 ≡ least_length categories i k value
+unfolding categories
+far_octet i k value l h =
+    let e : i < 3 = l in
+    no_octet i k value (le_trans (leb-true _ _ (all_below_lem 3 (λ j. leb (length (profile_at categories j)) 16) i few e)) h)
 
 -- ---- a table
 

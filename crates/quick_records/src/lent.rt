@@ -7,7 +7,7 @@ ghost use Rattle.quick_records.specs.Shape.{shape_count, sound_shape, sound_sets
 
 use numbers::octet;
 use quick_items::Steps;
-use sets::ItemSet;
+use sets::{ItemSet, MessageRow};
 use tables::PROFILES;
 
 // How many message types each profile has a place for, by number; how many rows, one for each type after one that is no type's; how many ways FRN 4 to 7
@@ -629,13 +629,6 @@ pub struct Sets {
     pub ghost sound: { sound_sets words.now ≡ true },
 }
 
-// What a message type must have; what it must or may have.
-#[derive(Clone, Copy)]
-pub struct Asked {
-    pub must: ItemSet,
-    pub may: ItemSet,
-}
-
 // A shape, by the four words of its row.
 #[derive(Clone, Copy)]
 pub struct Shape {
@@ -652,12 +645,12 @@ impl Sets {
     }
 
     // By the row of a message type.
-    pub(crate) fn asked(&self, profile: usize, row: usize) -> Asked
+    pub(crate) fn asked(&self, profile: usize, row: usize) -> MessageRow
         requires { (profile < profile_count) × (row < row_count) }
         ensures { (result.must.bits ≡ must_at profile row) × (result.may.bits ≡ may_at profile row) }
     {
         let at = 2 * (profile * ROWS + row);
-        Asked {
+        MessageRow {
             must: ItemSet {
                 bits: self.words[at],
             },

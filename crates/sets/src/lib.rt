@@ -11,6 +11,7 @@ ghost use Rattle.sets.specs.Sets.{category_at, within, frns_of, set_at, fspec_at
 ghost use Rattle.sets.specs.Steps.{usable_bits, ended, type_frn, judge_set, rows_left};
 ghost use Rattle.sets.specs.Answers.{set_of, judged_of};
 
+pub use messages::MessageRow;
 use messages::row_of;
 use numbers::wide;
 use rules::Fault;
