@@ -108,6 +108,8 @@ fn stood(len: usize, at: Cursor, measured: Measured) -> Standing
     }
 }
 
+// Compiled into both loops over records: a call would hand what was measured through memory.
+#[inline(always)]
 fn stood_at(recording: &[u8], at: Cursor) -> Standing
     requires { (at.place ≤ at.end) × (at.end ≤ length recording.now) }
     ensures { result ≡ stood_at recording.now at }
