@@ -10,9 +10,9 @@ use rules::{Mark, Shape};
 // ---- one mark
 
 // The last log and the last station that there are (W-203).
-const LAST_LOG: u8 = 1;
+pub const LAST_LOG: u8 = 1;
 
-const LAST_STATION: u8 = 5;
+pub const LAST_STATION: u8 = 5;
 
 // The number of four bytes, the highest first.
 pub fn number_4(bs: &[u8]) -> u32

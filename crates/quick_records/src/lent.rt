@@ -677,8 +677,8 @@ impl Sets {
 #[derive(Clone, Copy)]
 pub struct Tables {
     pub steps: Steps,
-    pub(crate) types: Types,
-    pub(crate) sets: Sets,
+    pub types: Types,
+    pub sets: Sets,
 }
 
 impl Tables {
