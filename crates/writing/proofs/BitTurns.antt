@@ -13,6 +13,7 @@ use lib.IntN.{ℤ}
 use lib.ListN.{length, length-append}
 use lib.Pow.{pow_pos, pow_mono}
 use lib.Seq.{sets, length-sets}
+use Rattle.std.specs.Prelude.{Option, Some, None, cond, is_some, unwrap_or}
 use Rattle.rules.specs.Answer.{Answer, ok, refused, ◌>>=◌}
 use Rattle.rules.specs.Presence.{number}
 use Rattle.rules.specs.Catalogue.{categories}
@@ -20,7 +21,7 @@ use Rattle.rules.proofs.AnswerLaws.{ok_inj, bind_in, bind_out, bind_elim, bind_c
 use Rattle.tables.specs.Tables.{subfield_count, layouts, layout_at, subfields_in, subfield_at}
 use Rattle.layouts.proofs.Stores.{sets_append}
 use Rattle.writing.specs.Write.{marked}
-use Rattle.writing.specs.Compound.{Place, place_from, Row, join_row, row_from, place_size, RowSized, row_size, place_of, row_of}
+use Rattle.writing.specs.Compound.{Place, place_from, Row, join_row, row_from, sized_place, place_size, RowSized, row_size, place_of, row_of}
 use Rattle.writing.proofs.Sound.{every, every_at}
 use Rattle.writing.proofs.LaidLaws.{marked_lt}
 use Rattle.writing.proofs.Handed.{refused_before}
@@ -68,14 +69,25 @@ row_nil : (e i : ℕ) (vs : List ℤ) (k : ℕ) → e ≤ i → row_from (e - i)
 unfolding row_from
 row_nil e i vs k h = let m : e - i ≡ 0 = omega arith in ap (λ x. row_from x i vs k) m
 
--- what a bit's size says
-size_ok : (i : ℕ) (vs : List ℤ) (k : ℕ) (t : Bool) (s n : ℕ) → ok (record { there = t; size = s; next = n }) ≡ place_size i vs k
+-- what a bit's size says: whether the subfield is there, and its octets, none where it is not
+pub sized_says : (i : ℕ) (vs : List ℤ) (k : ℕ) (p : Place) → place_from i vs k ≡ ok p → {o : Option ℕ} {t : Bool} {s : ℕ} → o ≡ (sized_place p).octets → t ≡ is_some o → s ≡ unwrap_or o 0
+    → (t ≡ p.there) × (s ≡ length p.octets)
+sized_says i vs k p h eo et es =
+    let d = go p.there p.octets (place_facts i vs k p h).1 in
+    (et ∙ ap is_some eo ∙ d.0, es ∙ ap (λ o. unwrap_or o 0) eo ∙ d.1)
+  where
+    go : (t : Bool) (bs : List ℕ) → (t ≡ false → bs ≡ []) → (is_some (cond t (Some (length bs)) None) ≡ t) × (unwrap_or (cond t (Some (length bs)) None) 0 ≡ length bs)
+    go true bs e = (refl, refl)
+    go false bs e = (refl, sym (ap length (e refl)))
+
+size_ok : (i : ℕ) (vs : List ℤ) (k : ℕ) {o : Option ℕ} {t : Bool} {s n : ℕ} → ok (record { octets = o; next = n }) ≡ place_size i vs k → t ≡ is_some o → s ≡ unwrap_or o 0
     → (p : Place) × (place_from i vs k ≡ ok p) × ((p.there ≡ t) × ((length p.octets ≡ s) × (p.next ≡ n)))
 unfolding place_size
-size_ok i vs k t s n h =
+size_ok i vs k h et es =
     bind_elim _ _ (sym h) λ p q h₁.
     let d = ok_inj h₁ in
-    (p, q, (ap (λ x. x.there) d, (ap (λ x. x.size) d, ap (λ x. x.next) d)))
+    let (a, b) = sized_says i vs k p q (sym (ap (λ x. x.octets) d)) et es in
+    (p, q, (sym a, (sym b, ap (λ x. x.next) d)))
 
 size_no : (i : ℕ) (vs : List ℤ) (k : ℕ) {x y : ℕ} → refused x y ≡ place_size i vs k → place_from i vs k ≡ refused x y
 unfolding place_size
@@ -138,16 +150,16 @@ module _ (first : ℕ) (vs : List ℤ) (at e i n s k : ℕ) (c : Summing first v
     pub mark_fits_lem : (t : Bool) → marked true t n < 2 ^ 64
     mark_fits_lem t = lt_of_lt_of_le (marked_lt true t (i - first) n c.small) (pow_mono {j = 64} (omega (arith, c.end_is, c.few)))
 
-    module _ {t : Bool} {x k' : ℕ} (d : ok (record { there = t; size = x; next = k' }) ≡ place_size (subfield_at i) vs k) where
+    module _ {o : Option ℕ} {t : Bool} {x k' : ℕ} (d : ok (record { octets = o; next = k' }) ≡ place_size (subfield_at i) vs k) (et : t ≡ is_some o) (ex : x ≡ unwrap_or o 0) where
       pub sum_short : s + x ≤ 2_041 * (i + 1 - first)
       sum_short =
-          let (p, q, r) = size_ok (subfield_at i) vs k t x k' d in
+          let (p, q, r) = size_ok (subfield_at i) vs k d et ex in
           omega (arith, c.short, c.from, (place_facts (subfield_at i) vs k p q).0, r.1.0)
 
       pub sum_next : {m : ℕ} → m ≡ marked true t n → Summing first vs at e (i + 1) m (s + x) k'
       unfolding ◌>>=◌
       sum_next {m} em =
-          let (p, q, r) = size_ok (subfield_at i) vs k t x k' d in
+          let (p, q, r) = size_ok (subfield_at i) vs k d et ex in
           let w : i - first + 1 ≡ i + 1 - first = omega (arith, c.from) in
           record {
             end_is = c.end_is;

@@ -11,12 +11,13 @@ use native.Mathlib.Omega.{arith}
 use lib.IntN.{ℤ}
 use lib.ListN.{length, take, drop, length-drop}
 use lib.Seq.{sets}
+use Rattle.std.specs.Prelude.{Some, None}
 use Rattle.rules.specs.Answer.{ok, refused, ◌>>=◌}
 use Rattle.rules.specs.Field.{arity}
 use Rattle.rules.proofs.AnswerLaws.{refused_ok, ok_inj, bind_in, bind_out, bind_elim, if_true, if_false, if_inv}
 use Rattle.tables.specs.Tables.{layout_at, format_is}
 use Rattle.writing.specs.Write.{group_in, parts, Cut, cut_at, size_at, octets_at}
-use Rattle.writing.specs.Compound.{spanned, span_from, Place, place_in, place_from, place_size, place_of}
+use Rattle.writing.specs.Compound.{spanned, span_from, Place, place_in, place_from, sized_place, place_size, place_of}
 use Rattle.writing.proofs.RowLaws.{sized, size_refused}
 use Rattle.writing.proofs.PlainLaws.{row_listed_lem, some_arity, cut_count}
 use Rattle.writing.proofs.SpanLaws.{There, there}
@@ -63,7 +64,7 @@ module _ (i : ℕ) (vs : List ℤ) (at : ℕ) where
   unfolding place_from place_in
   there_is h = bind_in _ (sym h) (if_true _ refl refl)
 
-  pub place_absent : {n : ℕ} → ok (spanned false n n 0) ≡ span_from (format_is (layout_at i)) vs at → ok (record { there = false; size = 0; next = n }) ≡ place_size i vs at
+  pub place_absent : {n : ℕ} → ok (spanned false n n 0) ≡ span_from (format_is (layout_at i)) vs at → ok (record { octets = None; next = n }) ≡ place_size i vs at
   unfolding place_size
   place_absent h = sym (bind_in _ (absent_is h) refl)
 
@@ -72,11 +73,11 @@ module _ (i : ℕ) (vs : List ℤ) (at : ℕ) where
   place_unsized {a} {e} h d = sym (bind_out _ (there_is h ∙ bind_out _ (size_refused i (take (e - a) (drop a vs)) d)))
 
   pub place_sized : {a e c k s : ℕ} → ok (spanned true a e c) ≡ span_from (format_is (layout_at i)) vs at → ok (parts k s) ≡ size_at i (take (e - a) (drop a vs))
-      → ok (record { there = true; size = s; next = e }) ≡ place_size i vs at
+      → ok (record { octets = Some s; next = e }) ≡ place_size i vs at
   unfolding place_size
   place_sized {a} {e} {c} {k} {s} h d =
       let (z, n) = sized i (take (e - a) (drop a vs)) k s (sym d) in
-      ap (λ m. ok (record { there = true; size = m; next = e })) n ∙ sym (bind_in _ (there_is h ∙ bind_in _ z.laid refl) refl)
+      ap (λ m. ok (record { octets = Some m; next = e })) n ∙ sym (bind_in _ (there_is h ∙ bind_in _ z.laid refl) refl)
 
   -- ---- its octets, where the rule passes
 
@@ -108,20 +109,21 @@ module _ (i : ℕ) (vs : List ℤ) (at : ℕ) where
 
     pub absent_laid : {n : ℕ} (start : ℕ) (out : List ℕ) → ok (spanned false n n 0) ≡ span_from (format_is (layout_at i)) vs at
         → (out ≡ sets out start (place_of (place_from i vs at)).octets)
-        × ((false ≡ (place_of (place_from i vs at)).there) × ((n ≡ (place_of (place_from i vs at)).next) × (0 ≡ length (place_of (place_from i vs at)).octets)))
+        × (record { octets = None; next = n } ≡ sized_place (place_of (place_from i vs at)))
     absent_laid start out h =
         let d = absent_of h in
         let z : (place_of (place_from i vs at)).octets ≡ [] = ap (λ x. x.octets) d in
-        (sym (ap (sets out start) z), (sym (ap (λ x. x.there) d), (sym (ap (λ x. x.next) d), sym (ap length z))))
+        (sym (ap (sets out start) z), sym (ap sized_place d))
 
     pub there_laid : {a e c end : ℕ} (start : ℕ) (out : List ℕ) {out' : List ℕ} → kind_digit (layout_at i).kind ≤ 2 → ok (spanned true a e c) ≡ span_from (format_is (layout_at i)) vs at
         → out' ≡ sets out start (octets_at i (take (e - a) (drop a vs))) → end ≡ start + length (octets_at i (take (e - a) (drop a vs)))
         → (out' ≡ sets out start (place_of (place_from i vs at)).octets)
-        × ((true ≡ (place_of (place_from i vs at)).there) × ((e ≡ (place_of (place_from i vs at)).next) × (end - start ≡ length (place_of (place_from i vs at)).octets)))
-    there_laid start out few h d₁ d₂ =
+        × (record { octets = Some (end - start); next = e } ≡ sized_place (place_of (place_from i vs at)))
+    there_laid {a} {e} {c} {end} start out few h d₁ d₂ =
         let d = (lays few h).is in
         let z = ap (λ x. x.octets) d in
-        (d₁ ∙ ap (sets out start) (sym z), (sym (ap (λ x. x.there) d), (sym (ap (λ x. x.next) d), omega (arith, ap length z))))
+        let l : end - start ≡ length (octets_at i (take (e - a) (drop a vs))) = omega (arith, d₂) in
+        (d₁ ∙ ap (sets out start) (sym z), ap (λ m. record { octets = Some m; next = e }) l ∙ sym (ap sized_place d))
 
     pub there_fits : {a e c : ℕ} (start : ℕ) (out : List ℕ) → kind_digit (layout_at i).kind ≤ 2 → ok (spanned true a e c) ≡ span_from (format_is (layout_at i)) vs at
         → start + length (place_of (place_from i vs at)).octets ≤ length out → start + length (octets_at i (take (e - a) (drop a vs))) ≤ length out

@@ -2,7 +2,7 @@
 -- numbers on. `proofs/CompoundLaws` has that it is the rules' `write_fields`. Assumes nothing.
 --
 -- In order: where a subfield's values stand; one bit; one primary octet; all of them; the item; what the functions answer.
-use Rattle.std.specs.Prelude.{ℕ, zero, suc, ◌+◌, ◌-◌, ◌*◌, Bool, true, false, List, [], ◌∷◌, ◌++◌, leb, ltb, ℤ, pos, negsuc, length, get_or, take, drop, Result}
+use Rattle.std.specs.Prelude.{ℕ, zero, suc, ◌+◌, ◌-◌, ◌*◌, Bool, true, false, cond, List, [], ◌∷◌, ◌++◌, leb, ltb, ℤ, pos, negsuc, length, get_or, take, drop, Some, None, Result}
 use Rattle.std.proofs.Math.Option.{Option, none, some}
 use Rattle.rules.specs.Answer.{Answer, ok, refused, ◌>>=◌, need◌or◌then◌, when◌then◌else◌, octets_of}
 use Rattle.rules.specs.declared.faults.Fault.{Fault}
@@ -146,14 +146,17 @@ spanned_of (span.Absent n) = spanned false n n 0
 abbrev pub span_as : Result Span Fault → Answer Spanned
 span_as = begun_as spanned_of
 
--- a size in place of the octets
+-- a size in place of the octets, none where the subfield is absent
 abbrev pub PlaceSized : Type 0
 PlaceSized = PlaceSize
+
+abbrev pub sized_place : Place → PlaceSized
+sized_place x = record { octets = cond x.there (Some (length x.octets)) None; next = x.next }
 
 unfoldable pub place_size : ℕ → List ℤ → ℕ → Answer PlaceSized
 place_size i vs at = do
   x ← place_from i vs at
-  ok (record { there = x.there; size = length x.octets; next = x.next })
+  ok (sized_place x)
 
 abbrev pub RowSized : Type 0
 RowSized = RowSize

@@ -10,7 +10,7 @@ ghost use Rattle.rules.specs.Presence.{number};
 ghost use Rattle.tables.specs.declared.tables.Kind.TheVariants.{Compound};
 ghost use Rattle.tables.specs.Tables.{subfield_count, layout_at, format_is};
 ghost use Rattle.writing.specs.Write.{parts, answer_of};
-ghost use Rattle.writing.specs.Compound.{span_to, span_from, place_from, row_from, compound_octets, span_as, place_size, row_size, rows_size, place_of, row_of};
+ghost use Rattle.writing.specs.Compound.{span_to, span_from, place_from, row_from, compound_octets, span_as, sized_place, place_size, row_size, rows_size, place_of, row_of};
 
 use super::formats::{Counted, lay, lay_number, mark, size_of};
 use super::rows::{Layout, Subfield};
@@ -82,11 +82,10 @@ fn span_of(sub: Subfield, values: &[i64], at: usize) -> Result<Span, Fault>
     span_to(values.len(), at + 1, count, g.values)
 }
 
-// Whether a subfield is there; how many octets it takes; the place of the next number.
+// How many octets a subfield takes, if it is there; the place of the next number.
 #[derive(Clone, Copy)]
 pub struct PlaceSize {
-    pub there: bool,
-    pub size: usize,
+    pub octets: Option<usize>,
     pub next: usize,
 }
 
@@ -96,11 +95,7 @@ fn size_place(sub: Subfield, values: &[i64], at: usize) -> Result<PlaceSize, Fau
 {
     let span = span_of(sub, values, at)?;
     match span {
-        Span::Absent { next } => Ok(PlaceSize {
-            there: false,
-            size: 0,
-            next,
-        }),
+        Span::Absent { next } => Ok(PlaceSize { octets: None, next }),
         Span::Values {
             first,
             end,
@@ -108,8 +103,7 @@ fn size_place(sub: Subfield, values: &[i64], at: usize) -> Result<PlaceSize, Fau
         } => {
             let parts = size_of(sub.layout, &values[first..end])?;
             Ok(PlaceSize {
-                there: true,
-                size: parts.size,
+                octets: Some(parts.size),
                 next: end,
             })
         }
@@ -121,21 +115,15 @@ fn lay_place(sub: Subfield, values: &[i64], at: usize, out: &mut [u8], start: us
     requires passes { place_from sub.layout.place values.now at ≡ ok (place_of (place_from sub.layout.place values.now at)) }
     requires at_in_bounds { start + length (place_of (place_from sub.layout.place values.now at)).octets ≤ length out.old }
     ensures laid { out.new ≡ sets out.old start (place_of (place_from sub.layout.place values.now at)).octets }
-    ensures told { (result.there ≡ (place_of (place_from sub.layout.place values.now at)).there)
-        × ((result.next ≡ (place_of (place_from sub.layout.place values.now at)).next) × (result.size ≡ length (place_of (place_from sub.layout.place values.now at)).octets)) }
+    ensures told { result ≡ sized_place (place_of (place_from sub.layout.place values.now at)) }
 {
     let span = span_of(sub, values, at).unwrap();
     match span {
-        Span::Absent { next } => PlaceSize {
-            there: false,
-            size: 0,
-            next,
-        },
+        Span::Absent { next } => PlaceSize { octets: None, next },
         Span::Values { first, end, count } => {
             let after = lay(sub.layout, &values[first..end], count, out, start);
             PlaceSize {
-                there: true,
-                size: after - start,
+                octets: Some(after - start),
                 next: end,
             }
         }
@@ -163,8 +151,8 @@ fn size_row(first: usize, values: &[i64], at: usize) -> Result<RowSize, Fault>
     let mut k = at;
     for i in first..end {
         let place = size_place(Subfield::of(i), values, k)?;
-        bits = mark(true, place.there, bits);
-        size += place.size;
+        bits = mark(true, place.octets.is_some(), bits);
+        size += place.octets.unwrap_or(0);
         k = place.next;
     }
     Ok(RowSize {
@@ -188,9 +176,9 @@ fn lay_row(first: usize, values: &[i64], at: usize, out: &mut [u8], start: usize
     let mut q = start;
     for i in first..end {
         let x = lay_place(Subfield::of(i), values, k, out, q);
-        bits = mark(true, x.there, bits);
+        bits = mark(true, x.octets.is_some(), bits);
         k = x.next;
-        q += x.size;
+        q += x.octets.unwrap_or(0);
     }
     RowSize {
         bits,

@@ -3,7 +3,7 @@
 use Prim.Native.Nat.{◌+◌}
 use mathlib.Core.Path.{ap}
 use native.Mathlib.Omega.{arith}
-use Rattle.writing.proofs.BitTurns.{sub_many, stepping, step_all, step_in, step_fits, step}
+use Rattle.writing.proofs.BitTurns.{sub_many, sized_says, stepping, step_all, step_in, step_fits, step}
 use Rattle.writing.proofs.compound.lay_row.Goals as goal
 
 pub overflow_add-end : goal.overflow_add-end
@@ -21,17 +21,20 @@ lay_place-x-requires c =
     record { passes = t.passes; at_in_bounds = t.fit }
 
 pub mark-bits-requires : goal.mark-bits-requires
-mark-bits-requires c = step_fits _ _ _ _ _ _ _ _ _ _ _ c.loop-i.invariant c.loop-i-test.true c.lay_place-x.result.there
+mark-bits-requires c = step_fits _ _ _ _ _ _ _ _ _ _ _ c.loop-i.invariant c.loop-i-test.true c.is_some.result
 
 pub overflow_add-q : goal.overflow_add-q
 overflow_add-q c =
     let t = step _ _ _ _ _ _ _ _ _ _ _ c.loop-i.invariant c.loop-i-test.true c.of.ensures in
-    omega (arith, t.fit, c.lay_place-x.ensures.told.1.1, c.loop-i.invariant.long, c.well_formed)
+    let says = sized_says _ _ _ _ t.passes (ap (λ x. x.octets) c.lay_place-x.ensures.told) c.is_some.ensures c.unwrap_or-q.ensures in
+    omega (arith, t.fit, says.1, c.loop-i.invariant.long, c.well_formed)
 
 pub loop-i-preserved : goal.loop-i-preserved
 loop-i-preserved c =
+    let t = step _ _ _ _ _ _ _ _ _ _ _ c.loop-i.invariant c.loop-i-test.true c.of.ensures in
     let told = c.lay_place-x.ensures.told in
-    (step _ _ _ _ _ _ _ _ _ _ _ c.loop-i.invariant c.loop-i-test.true c.of.ensures).next c.lay_place-x.ensures.laid (told.0, (told.1.0, ap (λ s. c.loop-i.q + s) told.1.1)) c.mark-bits.ensures
+    let says = sized_says _ _ _ _ t.passes (ap (λ x. x.octets) told) c.is_some.ensures c.unwrap_or-q.ensures in
+    t.next c.lay_place-x.ensures.laid (says.0, (ap (λ x. x.next) told, ap (λ s. c.loop-i.q + s) says.1)) c.mark-bits.ensures
 
 pub shape_of-out : goal.shape_of-out
 shape_of-out c = c.loop-i.invariant.long

@@ -33,13 +33,13 @@ returns-in_err-place c =
     ∙ sum_no _ _ _ _ _ _ _ _ c.loop-i.invariant c.loop-i-test.true (c.in_err-place.ensures ∙ ap (λ x. place_size x c.args.values.now c.loop-i.k) c.of.ensures)
 
 pub mark-bits-requires : goal.mark-bits-requires
-mark-bits-requires c = mark_fits_lem _ _ _ _ _ _ _ _ c.loop-i.invariant c.loop-i-test.true c.in_ok-place.place.there
+mark-bits-requires c = mark_fits_lem _ _ _ _ _ _ _ _ c.loop-i.invariant c.loop-i-test.true c.is_some.result
 
 pub overflow_add-size : goal.overflow_add-size
-overflow_add-size c = omega (arith, sum_short _ _ _ _ _ _ _ _ c.loop-i.invariant c.loop-i-test.true (sized_at (goal.at.overflow_add-size c).In_ok-place), c.loop-i.invariant.end_is, c.loop-i-test.true)
+overflow_add-size c = omega (arith, sum_short _ _ _ _ _ _ _ _ c.loop-i.invariant c.loop-i-test.true (sized_at (goal.at.overflow_add-size c).In_ok-place) c.is_some.ensures c.unwrap_or-size.ensures, c.loop-i.invariant.end_is, c.loop-i-test.true)
 
 pub loop-i-preserved : goal.loop-i-preserved
-loop-i-preserved c = sum_next _ _ _ _ _ _ _ _ c.loop-i.invariant c.loop-i-test.true (sized_at (goal.at.loop-i-preserved c).In_ok-place) c.mark-bits.ensures
+loop-i-preserved c = sum_next _ _ _ _ _ _ _ _ c.loop-i.invariant c.loop-i-test.true (sized_at (goal.at.loop-i-preserved c).In_ok-place) c.is_some.ensures c.unwrap_or-size.ensures c.mark-bits.ensures
 
 -- all bits are summed
 pub returns : goal.returns
