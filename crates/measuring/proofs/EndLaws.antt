@@ -1,7 +1,7 @@
 -- Where the items of a set end.
 --
--- In order: the octets of an item; numbers as the code has them; flags end to end; the next item of a set; the items before an FRN and from it on; what is
--- measured, by cases. Assumes nothing.
+-- In order: the octets of an item; numbers as the code has them; flags end to end; FRN by FRN; the items before an FRN and from it on; what is measured, by
+-- cases. Assumes nothing.
 use Prim.Native.Nat.{ℕ, zero, suc, ◌+◌, ◌-◌, ◌*◌, ◌/◌, ◌%◌, ◌^◌, ◌≤◌, ◌<◌, min, max}
 use mathlib.Core.Path.{◌≡◌, refl, sym, ap, ap₂, ◌∙◌, subst}
 use mathlib.Core.Logic.{◌⊎◌, inl, inr, ⊎_elim}
@@ -9,8 +9,8 @@ use mathlib.Core.Bool.{Bool, true, false, ◌&&◌}
 use mathlib.Core.Option.{Option, none, some}
 use mathlib.Core.List.{List, [], ◌∷◌, ◌++◌}
 use native.Mathlib.Omega.{arith}
+use native.Mathlib.Numerals.{add-one}
 use native.Mathlib.Nat.{mod-lt, mod-eq_of_lt, div-eq_of_lt, add-zero, mul-le-mul_left}
-use lib.Count.{count_leading_zeros}
 use lib.Pow.{pow_pos, pow_mono, split, high, low}
 use lib.Dec.{leb, eqb, ltb}
 use lib.ListN.{length, get_or, take, drop, length-drop, drop_of_length-le}
@@ -24,17 +24,18 @@ use Rattle.rules.proofs.PresenceLaws.{flags_length}
 use Rattle.tables.specs.Tables.{profile_count, frn_count, groups, layouts, group_at, layout_at, place_row_at}
 use Rattle.tables.specs.Profiles.{profile_row_at}
 use Rattle.layouts.proofs.ReadLaws.{le_or_lt}
-use Rattle.std.specs.Prelude.{Result, Ok, Err, Some, None}
+use Rattle.std.specs.Prelude.{Result, Ok, Err, Some, None, unwrap_or}
 use Rattle.std.specs.Prelude as code
-use Rattle.std.specs.Result.{result_unwrap_or}
+use Rattle.std.specs.Result.{result_ok}
 use Rattle.items.specs.Answers.{checked_of, check_at}
-use Rattle.sets.specs.Sets.{set_at}
+use Rattle.sets.specs.Sets.{frns_from, frns_of, set_at}
+use Rattle.sets.specs.declared.ItemSet.{ItemSet}
 use Rattle.sets.specs.Steps.{type_frn}
 use Rattle.sets.specs.Answers.{set_of}
 use Rattle.sets.specs.declared.Fspec.{Fspec}
 use Rattle.rules.specs.declared.faults.Fault.{Fault}
 use Rattle.rules.specs.declared.faults.Refusal.{Refusal}
-use Rattle.sets.proofs.FlagLaws.{flags_split, First, first, first_from, first_rest, first_flags}
+use Rattle.sets.proofs.FlagLaws.{flags_split, frns_skip}
 use Rattle.tables.specs.Tests.{all_below}
 use Rattle.tables.specs.declared.tables.Kind.{Kind}
 use Rattle.tables.specs.declared.tables.Kind.TheVariants as parts
@@ -43,9 +44,9 @@ use Rattle.quick_items.specs.Item.{octets_by, first_tells, row_octets, row_tells
 use Rattle.tables.proofs.TableLaws.{all_below_lem}
 use Rattle.records.proofs.PlaceLaws.{check_within}
 use Rattle.quick_items.proofs.ItemLaws.{octet_at}
-use Rattle.measuring.specs.Measure.{end_from, end_of, start_of, time_frn, is_in, is_untimed, clock_at, time_in, time_out, sized, measure_by, measure_in}
+use Rattle.measuring.specs.Measure.{size_in, frn_out, end_from, end_of, start_of, time_frn, is_in, is_untimed, clock_at, time_in, time_out, sized, measure_by, measure_in}
 use Rattle.measuring.specs.Shape.{is_fixed, by_first}
-use Rattle.measuring.proofs.CategoryLaws.{untimed_told}
+use Rattle.measuring.proofs.CategoryLaws.{untimed_told, frn_missing}
 
 -- ---- the octets of an item
 
@@ -91,9 +92,13 @@ octets_most i f bs o = go (is_place i f) refl
     go true e = by e (row_tells (row_of i f))
     go false e = inr (asked (check_at i f bs) refl)
 
-or0 : (c : Result ℕ Refusal) → result_unwrap_or c 0 ≡ size_or0 (checked_of c)
-or0 (Ok n) = refl
-or0 (Err r) = refl
+size_out : (c : Result ℕ Refusal) → result_ok c ≡ size_in (checked_of c)
+size_out (Ok n) = refl
+size_out (Err r) = refl
+
+pub size_or : (a : Answer ℕ) → unwrap_or (size_in a) 0 ≡ size_or0 a
+size_or (ok n) = refl
+size_or (refused n p) = refl
 
 -- by a check of the octets from a place on, or from the end where the place lies past it
 module _ (i f : ℕ) (bs : List ℕ) (at : ℕ) {from : ℕ} (c : Result ℕ Refusal) (ef : from ≡ min at (length bs)) (ec : checked_of c ≡ check_at i f (take (length bs - from) (drop from bs))) where
@@ -107,8 +112,8 @@ module _ (i f : ℕ) (bs : List ℕ) (at : ℕ) {from : ℕ} (c : Result ℕ Ref
   check_is : checked_of c ≡ check_at i f (drop at bs)
   check_is = ec ∙ ap (check_at i f) (to_end bs from ∙ left)
 
-  pub asked_size : result_unwrap_or c 0 ≡ size_or0 (check_at i f (drop at bs))
-  asked_size = or0 c ∙ ap size_or0 check_is
+  pub asked_size : result_ok c ≡ size_in (check_at i f (drop at bs))
+  asked_size = size_out c ∙ ap size_in check_is
 
 pub first_at : (bs : List ℕ) (at : ℕ) → get_or bs at 0 ≡ get_or (drop at bs) 0 0
 first_at bs at = sym (get_or-drop at bs 0 0 ∙ ap (λ x. get_or bs x 0) (add-zero at))
@@ -146,18 +151,30 @@ module _ (bs : List ℕ) (at : ℕ) where
 pub sized_at : (n : ℕ) (t : Option ℕ) {x : code.Option ℕ} → x ≡ time_out t → record { size = n; time = x } ≡ sized n t
 sized_at n t e = ap (λ x. record { size = n; time = x }) e
 
+-- an FRN, as the code has it
+pub frn_none : (f : ℕ) → None ≡ frn_out f → f ≡ 0
+frn_none zero e = refl
+frn_none (suc f) e = cc
+
+pub frn_there : (f : ℕ) {x : ℕ} → Some x ≡ frn_out f → x ≡ f
+frn_there zero e = cc
+frn_there (suc f) e = cc
+
+pub frn_read : (f : ℕ) → (f ≡ 0 → ⊥) → Some f ≡ frn_out f
+frn_read zero z = absurd (z refl)
+frn_read (suc f) z = refl
+
 -- the set before an FRN
 pub early_few : (bits f : ℕ) {early : ℕ} → early ≡ bits / 2 ^ (64 - f) * 2 ^ (64 - f) → early ≤ bits
 early_few bits f e = omega (arith, e, split bits (64 - f))
 
+-- where the items at FRNs end, from a place on
+abbrev pub end_frns : ℕ → List ℕ → List ℕ → ℕ → ℕ
+end_frns i [] bs at = at
+end_frns i (f ∷ fs) bs at = end_frns i fs bs (at + octets_at i f (drop at bs))
+
 module _ (i : ℕ) (bs : List ℕ) where
   -- ---- flags end to end
-
-  pub end_least : (ts : List Bool) (f at : ℕ) → at ≤ end_from i ts f bs at
-  unfolding end_from
-  end_least [] f at = omega arith
-  end_least (false ∷ ts) f at = end_least ts (f + 1) at
-  end_least (true ∷ ts) f at = omega (arith, end_least ts (f + 1) (at + octets_at i f (drop at bs)))
 
   pub end_most : Octets bs → (ts : List Bool) (f at : ℕ) → end_from i ts f bs at ≤ max at (length bs) + 65_026 * length ts
   unfolding end_from
@@ -201,68 +218,48 @@ module _ (i : ℕ) (bs : List ℕ) where
       ∙ ap₂ (λ x y. end_from i (flags k x) (f + j) bs (end_from i (flags j y) f bs at)) (mod-eq_of_lt h) (div-eq_of_lt h)
       ∙ ap (end_from i (flags k n) (f + j) bs) (end_none j f at)
 
-  -- ---- the next item of a set: the highest bit that is left
+  -- ---- FRN by FRN
 
-  pub record Next (left at f : ℕ) : Type 0 where
-    pub few : f ≤ 63
-    pub there : 2 ^ (63 - f) ≤ left
-    pub on : end_of i left bs at ≡ end_of i (left - 2 ^ (63 - f)) bs (at + octets_at i f (drop at bs))
-
-  pub next : (left at : ℕ) → left < 2 ^ 63 → (left ≡ 0 → ⊥) → Next left at (count_leading_zeros 64 left)
-  unfolding end_of end_from
-  next left at h z =
-      let f : ℕ = count_leading_zeros 64 left in
-      let t : First left f = first left z (omega arith) in
-      let j : 1 ≤ f = first_from left f t 1 h in
-      let others : ℕ = left - 2 ^ (63 - f) in
+  frns_end : (ts : List Bool) (f at : ℕ) → end_frns i (frns_from f ts) bs at ≡ end_from i ts f bs at
+  unfolding end_from
+  frns_end [] f at = refl
+  frns_end (false ∷ ts) f at = frns_end ts (suc f) at ∙ ap (λ k. end_from i ts k bs at) (sym (add-one f))
+  frns_end (true ∷ ts) f at =
       let to : ℕ = at + octets_at i f (drop at bs) in
-      let e₁ : 63 ≡ f - 1 + (64 - f) = omega (arith, t.few) in
-      let e₂ : 1 + (f - 1) ≡ f = omega arith in
-      let e₃ : f + 1 ≡ 1 + f = omega arith in
-      let e₄ : f + (63 - f) ≡ 63 = omega (arith, t.few) in
-      record {
-        few = t.few;
-        there = t.there;
-        on =
-            ap (λ x. end_from i (flags x left) 1 bs at) e₁
-            ∙ end_blank (f - 1) (64 - f) left 1 at t.none_before
-            ∙ ap₂ (λ ts x. end_from i ts x bs at) (first_flags left f t) e₂
-            ∙ ap (λ x. end_from i (flags (63 - f) others) x bs to) e₃
-            ∙ sym (end_blank f (63 - f) others 1 to (first_rest left f t))
-            ∙ ap (λ x. end_from i (flags x others) 1 bs to) e₄;
-      }
+      frns_end ts (suc f) to ∙ ap (λ k. end_from i ts k bs to) (sym (add-one f))
 
-  pub ended : (left at : ℕ) → left ≡ 0 → end_of i left bs at ≡ at
-  unfolding end_of
-  ended left at z = ap (λ x. end_from i (flags 63 x) 1 bs at) z ∙ end_none 63 1 at
+  -- of a set without FRN 0
+  set_end : (bits at : ℕ) → bits < 2 ^ 63 → end_frns i (frns_of bits) bs at ≡ end_of i bits bs at
+  unfolding frns_of end_of
+  set_end bits at h = ap (λ fs. end_frns i fs bs at) (frns_skip 1 63 0 bits h) ∙ frns_end (flags 63 bits) 1 at
 
-  -- a place that the items pass lies before their end, which is not far
+  frns_least : (fs : List ℕ) (at : ℕ) → at ≤ end_frns i fs bs at
+  frns_least [] at = omega arith
+  frns_least (f ∷ fs) at = omega (arith, frns_least fs (at + octets_at i f (drop at bs)))
+
+  -- their end is not far
   pub end_far : Octets bs → (bits at : ℕ) → end_of i bits bs at ≤ max at (length bs) + 4_096_638
   unfolding end_of
   end_far o bits at = omega (arith, end_most o (flags 63 bits) 1 at, flags_length 63 bits)
 
-  pub end_past : (bits at : ℕ) → at ≤ end_of i bits bs at
-  unfolding end_of
-  end_past bits at = end_least (flags 63 bits) 1 at
-
-  -- where the loop over the set stands: what is left of the set ends where the whole set does
-  pub record Standing (bits from left at : ℕ) : Type 0 where
-    pub below : left < 2 ^ 63
-    pub same : end_of i left bs at ≡ end_of i bits bs from
+  -- where the loop over the set stands: the FRNs that are left end where the whole set does
+  pub record Standing (bits from : ℕ) (left : List ℕ) (at : ℕ) : Type 0 where
+    pub same : end_frns i left bs at ≡ end_of i bits bs from
 
   module _ (bits from : ℕ) where
-    pub stand_first : bits < 2 ^ 63 → Standing bits from bits from
-    stand_first h = record { below = h; same = refl }
+    -- before the first turn
+    pub stand_first : bits < 2 ^ 63 → {left : ItemSet} → left ≡ record { bits = bits } → Standing bits from (frns_of left.bits) from
+    stand_first h l = record { same = ap (λ s. end_frns i (frns_of s.bits) bs from) l ∙ set_end bits from h }
 
-    module _ (left at : ℕ) (s : Standing bits from left at) where
-      pub stand_next : (f : ℕ) → Next left at f → {n : ℕ} → n ≡ octets_at i f (drop at bs) → Standing bits from (left - 2 ^ (63 - f)) (at + n)
-      stand_next f x e = record { below = omega (arith, s.below); same = ap (λ n. end_of i (left - 2 ^ (63 - f)) bs (at + n)) e ∙ sym x.on ∙ s.same }
+    module _ (left : List ℕ) (at : ℕ) (s : Standing bits from left at) where
+      pub stand_next : (f : ℕ) (others : List ℕ) → left ≡ f ∷ others → {n : ℕ} → n ≡ octets_at i f (drop at bs) → Standing bits from others (at + n)
+      stand_next f others l e = record { same = ap (λ n. end_frns i others bs (at + n)) e ∙ ap (λ fs. end_frns i fs bs at) (sym l) ∙ s.same }
 
       pub stand_near : Octets bs → at ≤ max from (length bs) + 4_096_638
-      stand_near o = omega (arith, end_past left at, s.same, end_far o bits from)
+      stand_near o = omega (arith, frns_least left at, s.same, end_far o bits from)
 
-      pub stand_end : left ≡ 0 → at ≡ end_of i bits bs from
-      stand_end z = sym (ended left at z) ∙ s.same
+      pub stand_end : left ≡ [] → at ≡ end_of i bits bs from
+      stand_end l = ap (λ fs. end_frns i fs bs at) (sym l) ∙ s.same
 
   -- ---- the items before an FRN, and from it on
 
@@ -315,6 +312,11 @@ module _ (i : ℕ) (bs : List ℕ) where
 
     pub measure_there : (t : Option ℕ) → n ≤ length bs → t ≡ time_in i bits bs used → sized n t ≡ measure_by i bs (ok (bits, used))
     measure_there t h z = ap₂ sized e z ∙ sym (if_true _ (le-leb (end_of i bits bs used) (length bs) (subst (λ x. x ≤ length bs) e h)) refl)
+
+  -- the time of a profile without one
+  pub time_missing : (bits used : ℕ) → bits < 2 ^ 63 → None ≡ frn_out (time_frn i) → time_in i bits bs used ≡ none
+  unfolding time_in
+  time_missing bits used h e = if_false _ (ap (λ x. is_in x bits) (frn_none (time_frn i) e) ∙ frn_missing bits h) refl
 
   -- the time, where its item is absent, where it counts as none, and where it is there
   module _ (bits used : ℕ) {f : ℕ} (ef : f ≡ time_frn i) where

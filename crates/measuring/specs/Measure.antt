@@ -1,8 +1,8 @@
 -- A record that is known to be legal, measured: how many octets it has, by its FSPEC and by its items, each by its first octet where that tells, and its
 -- time (document 02, W-201). No rule of a field is asked but where the first octet does not tell (W-205). Assumes nothing.
 --
--- In order: the items of a set; the time; a record.
-use Rattle.std.specs.Prelude.{ℕ, ◌+◌, ◌-◌, ◌*◌, ◌/◌, ◌%◌, ◌^◌, Bool, true, false, List, [], ◌∷◌, eqb, leb, length, get_or, drop, Some, None}
+-- In order: an item that is checked; the items of a set; the time; a record.
+use Rattle.std.specs.Prelude.{ℕ, zero, suc, ◌+◌, ◌-◌, ◌*◌, ◌/◌, ◌%◌, ◌^◌, Bool, true, false, List, [], ◌∷◌, eqb, leb, length, get_or, drop, Some, None}
 use Rattle.std.specs.Prelude as code
 use Rattle.std.proofs.Math.Option.{Option, none, some}
 use Rattle.rules.specs.Answer.{Answer, ok, refused, when◌then◌else◌}
@@ -14,6 +14,12 @@ use Rattle.sets.specs.Sets.{category_at, set_at}
 use Rattle.sets.specs.Steps.{type_frn}
 use Rattle.quick_items.specs.Item.{octets_at}
 use Rattle.measuring.specs.declared.record.Measured.{Measured}
+
+-- ---- how many octets an item has that is checked, if it is legal
+
+abbrev pub size_in : Answer ℕ → code.Option ℕ
+size_in (ok n) = Some n
+size_in (refused n p) = None
 
 -- ---- the items that flags name, the first flag's FRN given, from a place on: where they end. What is past the end counts as 0
 
@@ -34,6 +40,11 @@ start_of i f bits bs at = end_of i (bits / 2 ^ (64 - f) * 2 ^ (64 - f)) bs at
 -- the FRN of the time, 0 where the profile has none
 abbrev pub time_frn : ℕ → ℕ
 time_frn i = frn_in (category_at i).time (category_at i)
+
+-- an FRN, as the code has it
+abbrev pub frn_out : ℕ → code.Option ℕ
+frn_out zero = None
+frn_out (suc f) = Some (suc f)
 
 abbrev pub is_in : ℕ → ℕ → Bool
 is_in f bits = eqb (bits / 2 ^ (63 - f) % 2) 1

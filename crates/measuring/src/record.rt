@@ -4,13 +4,13 @@ ghost use Rattle.std.proofs.Math.Option.{none};
 ghost use Rattle.rules.specs.Answer.{ok};
 ghost use Rattle.sets.specs.Steps.{type_frn};
 ghost use Rattle.items.specs.Answers.{check_at};
-ghost use Rattle.quick_items.specs.Item.{size_or0, octets_at};
-ghost use Rattle.measuring.specs.Measure.{end_of, start_of, time_frn, is_untimed, clock_at, time_in, time_out, sized, measure_by, measure_in};
+ghost use Rattle.quick_items.specs.Item.{octets_at};
+ghost use Rattle.measuring.specs.Measure.{size_in, end_of, start_of, time_frn, frn_out, is_untimed, clock_at, time_in, time_out, sized, measure_by, measure_in};
 
 use items::check_item;
 use numbers::{octet, wide};
 use quick_items::{Kind, Steps, kind_of};
-use sets::{ItemSet, type_frn, weight};
+use sets::{ItemSet, type_frn};
 use tables::profile_row;
 
 // How many octets a record has, 0 where it has no FSPEC of its category or ends past what is lent; and its time of day, in 1/128 s, where it counts as
@@ -34,22 +34,22 @@ pub fn octet_at(part: &[u8], at: usize) -> usize
 
 // A profile and a part travel together from here on, and are no struct: of a slice in a struct it is not known that its items are octets.
 
-// The octets of the item at an FRN that starts at a place, by its check; 0 where it is refused.
-fn asked_octets(profile: usize, frn: usize, part: &[u8], at: usize) -> usize
-    ensures { result ≡ size_or0 (check_at profile frn (drop at part.now)) }
+// The octets of the item at an FRN that starts at a place, by its check.
+fn asked_octets(profile: usize, frn: usize, part: &[u8], at: usize) -> Option<usize>
+    ensures { result ≡ size_in (check_at profile frn (drop at part.now)) }
 {
     let from = at.min(part.len());
-    check_item(profile, frn, &part[from..]).unwrap_or(0)
+    check_item(profile, frn, &part[from..]).ok()
 }
 
-// The same by its word, and where it is not one part by its first octet. A word of 0 says that the first octet does not tell.
+// The same by its word, and where it is not one part by its first octet; 0 where it is refused. A word of 0 says that the first octet does not tell.
 fn octets_at(profile: usize, frn: usize, part: &[u8], at: usize) -> usize
     ensures { result ≡ octets_at profile frn (drop at part.now) }
 {
     let w = Steps::new().word_of(profile, frn);
     if w < 8 {
         if w == 0 {
-            return asked_octets(profile, frn, part, at);
+            return asked_octets(profile, frn, part, at).unwrap_or(0);
         }
         return w;
     }
@@ -65,13 +65,9 @@ fn items_from(profile: usize, bits: u64, part: &[u8], from: usize) -> usize
     requires { (bits < 2 ^ 63) × (from < 0x8000_0000_0040_0000) }
     ensures { result ≡ end_of profile bits part.now from }
 {
-    let mut left = bits;
     let mut at = from;
-    // Not a `for`: what is counted down is the set itself, and the next FRN is a look at it.
-    while left != 0 {
-        let frn = u64::leading_zeros(left) as usize;
-        at = at + octets_at(profile, frn, part, at);
-        left = left - weight(frn);
+    for frn in (ItemSet { bits }).frns() {
+        at += octets_at(profile, frn, part, at);
     }
     at
 }
@@ -115,11 +111,15 @@ pub fn clock_at(part: &[u8], at: usize) -> Option<u64>
     Some(wide(part[at]) * 65536 + wide(part[at + 1]) * 256 + wide(part[at + 2]))
 }
 
-// The FRN of the time, 0 where the profile has none.
-fn time_frn(profile: usize) -> usize
-    ensures { result ≡ time_frn profile }
+// The FRN of the time, if the profile has one: the table's 0 is none.
+fn time_frn(profile: usize) -> Option<usize>
+    ensures { result ≡ frn_out (time_frn profile) }
 {
-    profile_row(profile).time as usize
+    let frn = profile_row(profile).time as usize;
+    if frn == 0 {
+        return None;
+    }
+    Some(frn)
 }
 
 // A record that is not timed, whose set has been read.
@@ -139,7 +139,9 @@ fn measure_set(profile: usize, bits: u64, part: &[u8], from: usize) -> Measured
     requires { (bits < 2 ^ 63) × (from < 2 ^ 63) }
     ensures { result ≡ measure_by profile part.now (ok (bits, from)) }
 {
-    let frn = time_frn(profile);
+    let Some(frn) = time_frn(profile) else {
+        return measure_untimed(profile, bits, part, from);
+    };
     if (bits >> (63 - frn)) % 2 != 1 {
         return measure_untimed(profile, bits, part, from);
     }

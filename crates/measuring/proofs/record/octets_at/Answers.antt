@@ -3,10 +3,12 @@ use Prim.Native.Nat.{◌<◌}
 use mathlib.Core.Path.{◌≡◌, ap, ◌∙◌, subst}
 use native.Mathlib.Omega.{arith}
 use lib.ListN.{get_or, drop}
+use Rattle.std.specs.Prelude.{unwrap_or}
 use Rattle.quick_items.proofs.ItemLaws.{kind_digit, octet_at, asked_octets, free_octets, extended_octets, counted_octets}
 use Rattle.sets.proofs.SetLaws.{octets_all}
 use Rattle.quick_items.specs.Item.{kind_by}
-use Rattle.measuring.proofs.EndLaws.{first_at}
+use Rattle.items.specs.Answers.{check_at}
+use Rattle.measuring.proofs.EndLaws.{first_at, size_or}
 use Rattle.measuring.proofs.record.octets_at.Goals as goal
 use Rattle.measuring.proofs.record.octets_at.Goals.{After-octet_at-x, After-word_of-w}
 
@@ -17,7 +19,9 @@ few c =
 
 pub returns-then-w-eq0 : goal.returns-then-w-eq0
 returns-then-w-eq0 c =
-    c.asked_octets.ensures
+    c.unwrap_or.ensures
+    ∙ ap (λ x. unwrap_or x 0) c.asked_octets.ensures
+    ∙ size_or (check_at c.args.profile c.args.frn (drop c.args.at c.args.part.now))
     ∙ asked_octets _ _ _ c.new.result.exact c.word_of-w.ensures _ c.if-w-eq0.true
 
 pub returns-then-w-lt8 : goal.returns-then-w-lt8
