@@ -3,18 +3,23 @@
     python3 model/contracts.py [--write]
 
 A function is callable from another crate where it is `pub` in a crate's lib.rt, is exported there by
-`pub use`, or is a `pub` method of a type that is. For each, the table has which definitions of the
+`pub use`, or is a `pub` method of a type that is, or a method of a trait that such a type, or one of
+another crate, has by an `impl TRAIT for TYPE`. What states a trait's method is the trait's law of it,
+which the ghost member of the impl fills in: `from_gives` of `from`, `next_gives` of `next`, `output` of
+`fmt`, one of the method's own name of `cmp`. For each, the table has which definitions of the
 crates' specs its statement cites, whether it asks something of its caller, and the theorem that no
 two results meet its statement, or on what ground there is none. The exports to C have no rows of their
 own: each is held to state, word for word, what the function of its name in the crate `asterix` states.
 
 Held, each difference being a line and the exit status 1: no function without a row, no row without a
 function; each function states its result, by its clauses or by what its result's type keeps of
-itself, and of each buffer lent to be written to what it then holds; a theorem is named `one_` and the function's name, stands in a file of the crate's proofs
-whose name ends in Unique, has as hypotheses, twice, the very words of the function's statement, and
-beside them only what types give (a bound by a power of two) or the function asks, and ends in that
-the results, and what is left in lent buffers, are the same; a function without one has its ground in
-the table. --write makes the rows anew, grounds kept.
+itself, and of each buffer lent to be written to, `self` too, what it then holds; a theorem is named
+`one_` and the function's name (its type's before it, where two share one), stands in a file of the
+crate's proofs whose name ends in Unique, has as hypotheses, twice, the very words of the function's
+statement (of a trait's method those of the ghost member, at its arguments, its result and what `self`
+then is), and beside them only what types give (a bound by a power of two) or the function asks, ends
+in that the results, and what is left in lent buffers, are the same, and is of no other function; a
+function without one has its ground in the table. --write makes the rows anew, grounds kept.
 """
 
 import pathlib
@@ -49,10 +54,21 @@ def clause(text, start):
     raise ValueError("a brace is not closed")
 
 
+def applied(member, arguments):
+    """A ghost member at its arguments, in a clause's words: where it is a function, what it says of them."""
+    function = re.match(r"λ ([^.]*)\. ", member)
+    if not function:
+        return " ".join([member] + arguments)
+    names = function.group(1).split()
+    given = {name: argument for name, argument in zip(names, arguments) if name != "_"}
+    said = re.sub(r"(?<![\w.])[^\W\d]\w*(?![\w'])", lambda word: given.get(word.group(), word.group()), member[function.end():])
+    return " ".join(["(%s)" % said] + arguments[len(names):]) if arguments[len(names):] else said
+
+
 class Function:
-    def __init__(self, crate, owner, name, known, text, start):
-        """known: the definitions of specs that its file brings in."""
-        self.crate, self.owner, self.name, self.known = crate, owner, name, known
+    def __init__(self, crate, owner, name, known, text, start, trait=None, members=None):
+        """known: the definitions of specs that its file brings in. members: of a trait's method the ghost members of its impl."""
+        self.crate, self.owner, self.name, self.known, self.trait = crate, owner, name, known, trait
         opened = text.index("(", start)
         depth, at = 0, opened
         while True:
@@ -62,7 +78,9 @@ class Function:
                 break
         self.parameters = {}
         for parameter in re.split(r",(?![^\[]*\])", text[opened + 1:at - 1]):
-            if ":" in parameter:
+            if re.fullmatch(r"\s*(?:&(?:'\w+ )?)?(?:mut )?self\s*", parameter):
+                self.parameters["self"] = " ".join(parameter.replace("self", "Self").split())
+            elif ":" in parameter:
                 left, kind = parameter.split(":", 1)
                 self.parameters[left.replace("mut ", "").strip()] = " ".join(kind.split())
         self.result = ""
@@ -77,9 +95,27 @@ class Function:
                 continue
             body, at = clause(text, word.end())
             (self.requires if word.group(2) == "requires" else self.ensures).append(" ".join(body.split()))
+        # clauses of a method's own stand in the place of its trait's
+        if trait and not self.ensures:
+            self.by_law(members)
+
+    def by_law(self, members):
+        """What the ghost members of its impl say of a trait's method."""
+        lent = [name for name, kind in self.parameters.items() if kind.startswith("&mut")]
+        given = [name + (".old" if name in lent else ".now" if kind.startswith("&") else "") for name, kind in self.parameters.items()]
+        if "can_" + self.name in members:
+            self.requires.append(applied(members["can_" + self.name], given))
+        if self.name + "_gives" in members:
+            self.ensures.append(applied(members[self.name + "_gives"], given + ["result"] * bool(self.result) + [name + ".new" for name in lent]))
+        elif self.name in members:
+            self.ensures.append("result ≡ " + applied(members[self.name], given))
+        elif self.name == "fmt" and "output" in members:
+            self.ensures.append("%s.new by output %s" % (lent[0], applied(members["output"], given[:1])))
 
     @property
     def title(self):
+        if self.trait:
+            return "<%s as %s>::%s" % (self.owner, self.trait, self.name)
         return "%s::%s" % (self.owner, self.name) if self.owner else self.name
 
     @property
@@ -88,7 +124,8 @@ class Function:
         bare = re.sub(r"^asterix_", "", self.name)
         if not self.owner:
             return ["one_" + bare]
-        return ["one_" + bare, "one_%s_%s" % (re.sub(r"(?<=.)([A-Z])", r"_\1", self.owner).lower(), bare)]
+        owner = "_".join(re.sub(r"(?<=.)([A-Z])", r"_\1", part).lower() for part in re.findall(r"\w+", re.sub(r"<.*", "", self.owner)))
+        return ["one_" + bare, "one_%s_%s" % (owner, bare)]
 
     def hypothesis(self, said, which):
         """A clause in a theorem's words, of the result a and what is left, or of b and what is right."""
@@ -120,7 +157,8 @@ def kept_facts():
     return {name: own + [fact for kind in fields[name] for fact in facts.get(kind, [])] for name, own in facts.items()}
 
 
-def functions_in(crate, text, exported, everything):
+def functions_in(crate, text, exported, everything, private):
+    """private: the types and traits of the crate that no other can name."""
     found = []
     impls = []
     known = {name for names in re.findall(r"(?m)^ghost use Rattle\.(?!std\.)\S+\.\{(.*)\};", text) for name in names.split(", ")}
@@ -130,8 +168,17 @@ def functions_in(crate, text, exported, everything):
     for word in re.finditer(r"(?m)^[ \t]*pub (?:extern \"C\" )?fn (\w+)(?:<[^>]*>)?", text):
         owner = next((name for first, last, name in impls if first < word.start() < last), None)
         if everything or (owner or word.group(1)) in exported:
-            found.append(Function(crate, owner, word.group(1), known, text, word.end()))
-    return found
+            found.append((word.start(), Function(crate, owner, word.group(1), known, text, word.end())))
+    for block in re.finditer(r"(?m)^impl\b(?:<[^{;]*?>)? ([^{;]+?) for ([^{;]+?)\s*(?=\{)", text):
+        trait, owner = (" ".join(re.sub(r"\bwhere\b.*", "", part, flags=re.S).split()) for part in block.groups())
+        if private & set(re.findall(r"(?<!:)\b\w+", trait + " " + owner)):
+            continue
+        body, end = clause(text, block.end())
+        members = {word.group(1): " ".join(clause(body, word.end())[0].split()) for word in re.finditer(r"\bghost (\w+) = (?=\{)", body)}
+        for word in re.finditer(r"(?m)^[ \t]*fn (\w+)(?:<[^>]*>)?", text[:end]):
+            if block.end() < word.start():
+                found.append((word.start(), Function(crate, owner, word.group(1), known, text, word.end(), trait, members)))
+    return [function for _, function in sorted(found, key=lambda one: one[0])]
 
 
 def callable_functions():
@@ -143,10 +190,12 @@ def callable_functions():
             continue
         text = bare(root.read_text())
         exported = {name for names in re.findall(r"(?m)^pub use (?:\w+::)*(\w+|\{[^}]*\});", text) for name in re.findall(r"\w+", names)}
-        found += functions_in(crate, text, exported, True)
-        for other in sorted(root.parent.glob("*.rt")):
-            if other != root:
-                found += functions_in(crate, bare(other.read_text()), exported, False)
+        others = [bare(other.read_text()) for other in sorted(root.parent.glob("*.rt")) if other != root]
+        named = {name for source in [text] + others for name in re.findall(r"\b(?:struct|enum|trait) (\w+)", source)}
+        private = named - exported - set(re.findall(r"\bpub (?:struct|enum|trait) (\w+)", text))
+        found += functions_in(crate, text, exported, True, private)
+        for other in others:
+            found += functions_in(crate, other, exported, False, private)
     return found
 
 
@@ -232,13 +281,15 @@ def main(arguments):
     kept = kept_facts()
     for function in functions:
         function.kept = kept.get(function.owner if function.result == "Self" else function.result, [])
-        if function.crate == EXPORTS:
+        if function.crate == EXPORTS and not function.trait:
             continue
         statements = theorems(function.crate)
         plain = {f.theorems[0] for f in functions if f.crate == function.crate and not f.owner}
         key = (function.crate, function.title)
         name = check(function, statements, plain)
-        used.setdefault(function.crate, set()).add(name)
+        if name in used.setdefault(function.crate, set()) - {None}:
+            differ("%s::%s: %s is another function's" % (*key, name))
+        used[function.crate].add(name)
         cited = []
         for said in function.ensures:
             for word in re.findall(r"[^\s(){},;.]+", said):
@@ -256,8 +307,8 @@ def main(arguments):
             once = ""
             differ("%s::%s: no theorem %s, and no ground in docs/CONTRACTS.md" % (*key, " or ".join(function.theorems)))
         made[key] = (says, "yes" if function.requires else "", once)
-    exported = {function.name: function for function in functions if function.crate == EXPORTS}
-    own = {function.name: function for function in functions if function.crate == EXPORTED}
+    exported = {function.name: function for function in functions if function.crate == EXPORTS and not function.trait}
+    own = {function.name: function for function in functions if function.crate == EXPORTED and not function.trait}
     for name in sorted(exported.keys() ^ own.keys()):
         differ("%s: it is in one of %s and %s alone" % (name, EXPORTED, EXPORTS))
     for name in sorted(exported.keys() & own.keys()):

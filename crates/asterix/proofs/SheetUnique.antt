@@ -1,4 +1,5 @@
--- For each function of include/asterix.h on exercise sheets, no two distinct results meet its statement, as `Unique` has it of the others. Assumes nothing.
+-- For each function of include/asterix.h on exercise sheets, and for each conversion of theirs, no two distinct results meet its statement, as `Unique` has it of
+-- the others. Assumes nothing.
 use Prim.Native.Nat.{ℕ}
 use mathlib.Core.Path.{◌≡◌, sym, ◌∙◌}
 use mathlib.Core.List.{List}
@@ -10,17 +11,31 @@ use Rattle.rules.specs.SheetChange.{sheet_add, sheet_remove, sheet_empty, write_
 use Rattle.rules.specs.Sheet.{read_sheet}
 use Rattle.marks.specs.Lists.{found_mark}
 use Rattle.asterix.specs.declared.sheet.Marks.{Marks}
+use Rattle.std.specs.Prelude.{Result}
 use Rattle.rules.specs.declared.Mark.{Mark}
+use Rattle.rules.specs.declared.faults.Refusal.{Refusal}
+use Rattle.marks.specs.declared.Lists.{Lists}
 use Rattle.asterix.specs.declared.sheet.SheetRead.{SheetRead}
 use Rattle.asterix.specs.declared.sheet.MarkFound.{MarkFound}
 use Rattle.asterix.specs.declared.sheet.SheetWritten.{SheetWritten}
-use Rattle.asterix.specs.Sheets.{marks_in, sheet_told, mark_found, sheet_written}
+use Rattle.asterix.specs.Sheets.{marks_out, marks_in, sheet_told, mark_found, written_by, sheet_written}
 
 pub one_read_sheet : (sheet : List ℕ) (a b : SheetRead) → a ≡ sheet_told (read_sheet form sheet) → b ≡ sheet_told (read_sheet form sheet) → a ≡ b
 one_read_sheet sheet a b p q = p ∙ sym q
 
 pub one_find_mark : (sheet : List ℕ) (marks : Marks) (n : ℕ) (a b : MarkFound) → a ≡ mark_found (found_mark (marks_in marks) sheet n) → b ≡ mark_found (found_mark (marks_in marks) sheet n) → a ≡ b
 one_find_mark sheet marks n a b p q = p ∙ sym q
+
+-- ---- where the marks lie, in C and in the code; what C is told of a length or a refusal
+
+pub one_marks_from : (lists : Lists) (a b : Marks) → a ≡ marks_out lists → b ≡ marks_out lists → a ≡ b
+one_marks_from lists a b p q = p ∙ sym q
+
+pub one_lists_from : (marks : Marks) (a b : Lists) → a ≡ marks_in marks → b ≡ marks_in marks → a ≡ b
+one_lists_from marks a b p q = p ∙ sym q
+
+pub one_sheet_written_from : (answer : Result ℕ Refusal) (a b : SheetWritten) → a ≡ written_by answer → b ≡ written_by answer → a ≡ b
+one_sheet_written_from answer a b p q = p ∙ sym q
 
 -- ---- the answer, and what the output then holds
 

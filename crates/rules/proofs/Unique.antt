@@ -14,3 +14,6 @@ one_at self place a b p q s t = ap₂ (λ f k. record { fault = f; place = k }) 
 
 pub one_later : (self : Refusal) (by : ℕ) (a b : Refusal) → a ≡ moved by self → b ≡ moved by self → a ≡ b
 one_later self by a b p q = p ∙ sym q
+
+pub one_from : (fault : Fault) (a b : Refusal) → (a.fault ≡ fault) × (a.place ≡ 0) → (b.fault ≡ fault) × (b.place ≡ 0) → a ≡ b
+one_from fault a b p q = one_at fault 0 a b p.0 p.1 q.0 q.1

@@ -72,13 +72,13 @@ one_frns self a b p q = ap (λ s. record { left = s }) (p ∙ sym q)
 same_frns : (a b : Frns) → a.left.bits < 2 ^ 64 → b.left.bits < 2 ^ 64 → frns_of a.left.bits ≡ frns_of b.left.bits → a ≡ b
 same_frns a b f g e = ap (λ s. record { left = s }) (same_set_lem a.left b.left (frns_same a.left.bits b.left.bits f g e))
 
-pub yields_one : (old : Frns) (r s : Option ℕ) (a b : Frns)
-    → a.left.bits < 2 ^ 64 → b.left.bits < 2 ^ 64 → YieldsFirst (λ s. frns_of s.left.bits) old r a
-    → YieldsFirst (λ s. frns_of s.left.bits) old s b → (r ≡ s) × (a ≡ b)
-yields_one old None None a b f g p q = (refl, same_frns a b f g (p.1 ∙ sym q.1))
-yields_one old None (Some y) a b f g p q = let z : ◌≡◌ {A = ℕ} 0 1 = cc in absurd (omega arith)
-yields_one old (Some x) None a b f g p q = let z : ◌≡◌ {A = ℕ} 0 1 = cc in absurd (omega arith)
-yields_one old (Some x) (Some y) a b f g p q = let e : x ≡ y = cc in let h : frns_of a.left.bits ≡ frns_of b.left.bits = cc in (ap Some e, same_frns a b f g h)
+pub one_next : (self : Frns) (a b : Option ℕ) (left right : Frns)
+    → left.left.bits < 2 ^ 64 → right.left.bits < 2 ^ 64 → YieldsFirst (λ s. frns_of s.left.bits) self a left
+    → YieldsFirst (λ s. frns_of s.left.bits) self b right → (a ≡ b) × (left ≡ right)
+one_next self None None s t f g p q = (refl, same_frns s t f g (p.1 ∙ sym q.1))
+one_next self None (Some y) s t f g p q = let z : ◌≡◌ {A = ℕ} 0 1 = cc in absurd (omega arith)
+one_next self (Some x) None s t f g p q = let z : ◌≡◌ {A = ℕ} 0 1 = cc in absurd (omega arith)
+one_next self (Some x) (Some y) s t f g p q = let e : x ≡ y = cc in let h : frns_of s.left.bits ≡ frns_of t.left.bits = cc in (ap Some e, same_frns s t f g h)
 
 -- ---- an FSPEC
 
