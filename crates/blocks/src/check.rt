@@ -69,7 +69,7 @@ pub struct Front {
     pub records: usize,
 }
 
-// A refusal's place is counted from the block's start. The tables are lent, so that a recording's blocks share them.
+// A refusal's place is counted from the block's start. The tables stand in the library: what is lent says where, and costs no block anything.
 pub fn check_front(tables: &Tables, part: &[u8]) -> Result<Front, Refusal>
     ensures { front_of result ≡ check_front part.now }
 {

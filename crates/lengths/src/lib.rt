@@ -24,6 +24,7 @@ fn sums_of(profile: usize) -> &'static [[u8; 256]]
 }
 
 // Of the octet at a place of an FSPEC, counted from 0, of a profile; its FX bit adds nothing.
+// 0 and no `None` where there is no such place or profile: the statement's number is a sum, and it names no item there.
 pub fn least_length(profile: usize, place: usize, octet: u8) -> usize
     ensures { result ≡ least_length categories profile place octet }
 {

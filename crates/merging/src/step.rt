@@ -47,8 +47,8 @@ fn step_from(
     }))
 }
 
-// Which record comes next, and the new places; none where both are at their ends, and there, and where there is a refusal, the places are those given. The
-// logs' own refusals and OffsetRange as where a run begins, then PlaceInside.
+// Which record comes next, and the new places; `None` where both are at their ends. The logs' own refusals and OffsetRange as where a run begins, then
+// PlaceInside. By the type no place comes with these and with `None`: the step's are then those given (`merged_of`), and `asterix_merge_step` hands them back.
 pub fn merge_at(
     log_a: &[u8],
     log_b: &[u8],

@@ -188,6 +188,7 @@ pub fn octets_of(bits: u64) -> usize
 }
 
 // How many octets the FSPEC of a set has; 0 where the set is empty or names an FRN that the profile lacks.
+// 0 and no `None`: the statement's number is the length of an FSPEC, and that of such a set has no octet.
 pub fn fspec_octets(profile: usize, set: ItemSet) -> usize
     ensures { result ≡ length (fspec_at profile set.bits) }
 {

@@ -25,7 +25,7 @@ pub fn row_of(profile: usize, kind: u8) -> Option<MessageRow>
     if PROFILES <= profile {
         return None;
     }
-    // One `match`, an arm to a type, as docs/DECISIONS.md has it: an array would be written out at each record.
+    // One `match`, an arm to a type: document 01's form, in which the message type's number decides its row (docs/DECISIONS.md).
     let (must, may) = match profile * 256 + kind as usize {
         // ---- made by model/make.py: the rows of message types
         // category 017

@@ -1,4 +1,4 @@
--- What holds of the tables of rules, by computed tests over each whole table: their columns are the rules of the fields, group after group.
+-- What holds of the tables of rules, by computed tests over each whole table: their rows are the rules of the fields, group after group.
 --
 -- In order: the tables; tests; a turn of the loop over rules; the groups of the tables. Assumes nothing.
 use Prim.Native.Nat.{ℕ, zero, suc, ◌+◌, ◌/◌, ◌%◌, ◌<◌, ◌≤◌, ◌^◌}

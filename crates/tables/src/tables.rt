@@ -70,7 +70,7 @@ pub const PROFILES: usize = 3;
 pub const FRNS: usize = 36;
 // ---- end of what is made
 
-// ---- the tables: a row is one number, its columns set apart by `_`, so that a table is small
+// ---- the tables: a row is one number, its columns set apart by `_`, so that a table is small; of RANGES and PLACES it is a struct
 
 // Fields: bits _ what it holds _ the place of its range.
 // ---- made by model/make.py: FIELDS
@@ -883,6 +883,7 @@ pub fn primary_at(place: usize) -> u8
 }
 
 // The place of the layout of a subfield, 0 where a bit has none.
+// 0 and no `None`: the statement's number is the table's, and 0 is the place of the layout of no item.
 pub fn subfield_at(place: usize) -> usize
     requires { place < subfield_count }
     ensures { (result ≡ subfield_at place) × (result < layout_count) }
