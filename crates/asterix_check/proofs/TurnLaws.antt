@@ -9,10 +9,10 @@ use Rattle.std.specs.Result.{is_err}
 use Rattle.rules.specs.Answer.{Answer, ok, refused, ◌>>=◌}
 use Rattle.rules.specs.Entry.{Counts}
 use Rattle.rules.proofs.AnswerLaws.{if_true, if_false}
-use Rattle.rules.specs.declared.faults.Refusal.{Refusal}
 use Rattle.recordings.specs.Feed.{SoFar, fed, finished}
-use Rattle.recordings.specs.Answers.{counts_of}
+use Rattle.recordings.specs.Answers.{whole_of}
 use Rattle.recordings.specs.declared.Counts as code
+use Rattle.recordings.specs.declared.Refused.{Refused}
 use Rattle.input.specs.declared.Filled.{Filled}
 use Rattle.input.specs.declared.Filled.TheVariants.{More, End}
 use Rattle.asterix_check.specs.Whole.{whole_in}
@@ -52,9 +52,9 @@ unfolding finished ◌>>=◌
 finish_stops (ok a) = refl
 finish_stops (refused n p) = refl
 
-err_refused : (r : Result code.Counts Refusal) → is_err r ≡ is_refused (counts_of r)
+err_refused : (r : Result code.Counts Refused) → is_err r ≡ is_refused (whole_of r)
 err_refused (Ok a) = refl
 err_refused (Err e) = refl
 
-pub stopped : (r : Result code.Counts Refusal) (s : Answer SoFar) (b : Bool) → counts_of r ≡ finished s → b ≡ is_err r → is_refused s ≡ b
+pub stopped : (r : Result code.Counts Refused) (s : Answer SoFar) (b : Bool) → whole_of r ≡ finished s → b ≡ is_err r → is_refused s ≡ b
 stopped r s b h e = sym (e ∙ err_refused r ∙ ap is_refused h ∙ finish_stops s)

@@ -5,10 +5,10 @@ use Rattle.std.specs.declared.ops.ControlFlow.{ControlFlow}
 use Rattle.std.specs.declared.ops.ControlFlow.TheVariants.{Continue, Break}
 use Rattle.rules.specs.Answer.{Answer, ok, refused, when◌then◌else◌}
 use Rattle.rules.specs.Entry.{Counts}
-use Rattle.rules.specs.declared.faults.Refusal.{Refusal}
 use Rattle.recordings.specs.Feed.{SoFar, fed, finished}
-use Rattle.recordings.specs.Answers.{counts_of, state_of}
+use Rattle.recordings.specs.Answers.{whole_of, state_of}
 use Rattle.recordings.specs.declared.Counts as code
+use Rattle.recordings.specs.declared.Refused.{Refused}
 use Rattle.input.specs.declared.Filled.{Filled}
 use Rattle.input.specs.declared.Filled.TheVariants as filled
 use Rattle.asterix_check.specs.Whole.{whole_in}
@@ -23,9 +23,9 @@ pub data Turned : Type 0 where
   on : Answer SoFar → ℕ → ℕ → Turned
   verdict : Answer Counts → Turned
 
-abbrev pub turn_of : ControlFlow (Result code.Counts Refusal) Pending → Turned
+abbrev pub turn_of : ControlFlow (Result code.Counts Refused) Pending → Turned
 turn_of (Continue p) = on (state_of p.state) p.from p.to
-turn_of (Break c) = verdict (counts_of c)
+turn_of (Break c) = verdict (whole_of c)
 
 -- n octets came, of which the whole blocks at the front take k: they are fed, and the first fault found ends the work
 unfoldable pub fed_whole : Answer SoFar → ℕ → ℕ → Turned
@@ -42,6 +42,6 @@ Came (filled.More n) size = n ≤ size
 Came (filled.End n) size = n ≤ size
 
 -- and so is what is still wanted
-abbrev pub Wanted : ControlFlow (Result code.Counts Refusal) Pending → ℕ → Type 0
+abbrev pub Wanted : ControlFlow (Result code.Counts Refused) Pending → ℕ → Type 0
 Wanted (Continue p) size = (p.from ≤ p.to) × (p.to ≤ size)
 Wanted (Break c) size = Unit {0}

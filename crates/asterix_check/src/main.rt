@@ -3,18 +3,19 @@
 // fails there is no verdict, and a line on standard error says so.
 #![tactic(auto)]
 
-ghost use Rattle.std.specs.Prelude.{◌≡◌, length, Some};
-ghost use Rattle.std.specs.Fmt.{WritesOnOk};
-ghost use Rattle.recordings.specs.Answers.{counts_of, state_of};
+ghost use Rattle.std.specs.Prelude.{◌≡◌, ◌≤◌, length};
+ghost use Rattle.rules.specs.Entry.{over};
+ghost use Rattle.recordings.specs.Answers.{whole_of, state_of};
+ghost use Rattle.text.specs.Page.{page, puts};
 ghost use Rattle.asterix_check.specs.Whole.{whole_in};
 ghost use Rattle.asterix_check.specs.Turn.{turn_of, turned, Came, Wanted};
-ghost use Rattle.asterix_check.specs.Verdict.{counts_text, refusal_text, verdict_text};
+ghost use Rattle.asterix_check.specs.Verdict.{sentence, verdict_text};
 
 use input::Filled;
-use recordings::{Counts, RecordingState};
-use rules::Refusal;
+use recordings::{Counts, RecordingState, Refused};
+use std::io;
+use std::io::Write;
 use std::ops::ControlFlow;
-use std::{fmt, io};
 
 // How many octets the whole blocks at the front of a part take, as their LEN says.
 fn whole_blocks(part: &[u8]) -> usize
@@ -41,7 +42,7 @@ fn advance(
     state: RecordingState,
     filled: Filled,
     buffer: &[u8],
-) -> ControlFlow<Result<Counts, Refusal>, Pending>
+) -> ControlFlow<Result<Counts, Refused>, Pending>
     requires { Came filled (length buffer.now) }
     ensures is { turn_of result ≡ turned (state_of state) filled buffer.now }
     ensures within { Wanted result (length buffer.now) }
@@ -66,30 +67,41 @@ fn advance(
 
 // ---- the line
 
-fn write_counts<W: fmt::Write>(f: &mut fmt::Formatter<W>, blocks: u64, records: u64) -> fmt::Result
-    ensures { WritesOnOk W.write_str_gives f.old result (counts_text blocks records) f.new }
+// Two numbers between three texts, from the buffer's start on; what has no room is left out.
+fn put_sentence(out: &mut [u8], s: &[u8], n: u64, t: &[u8], m: u64, u: &[u8]) -> usize
+    ensures { page out.new result ≡ puts (sentence s.now n t.now m u.now) (page out.old 0) }
 {
-    writeln!(f, "accepted {blocks} blocks {records} records")
+    let a = text::put_text(out, 0, s);
+    let b = text::put_decimal(out, a, n);
+    let c = text::put_text(out, b, t);
+    let d = text::put_decimal(out, c, m);
+    text::put_text(out, d, u)
 }
 
-fn write_refusal<W: fmt::Write>(f: &mut fmt::Formatter<W>, number: u8, place: usize) -> fmt::Result
-    ensures { WritesOnOk W.write_str_gives f.old result (refusal_text number place) f.new }
+// The line that says what a recording is, at the buffer's start, and its length: the longest has two numbers of 20 digits. No `Display`, of which nothing is
+// known where it fails: this cannot fail.
+fn verdict(checked: Result<Counts, Refused>, out: &mut [u8; 66]) -> usize
+    ensures size { result ≡ length (verdict_text (whole_of checked)) }
+    ensures text { out.new ≡ over (verdict_text (whole_of checked)) out.old }
+    ensures room { result ≤ length out.new }
 {
-    writeln!(f, "refused {number} at {place}")
-}
-
-// What a recording is, in a line.
-#[derive(Drop)]
-struct Verdict(Result<Counts, Refusal>);
-
-impl fmt::Display for Verdict {
-    ghost output = { λ v. Some (verdict_text (counts_of v.0)) };
-
-    fn fmt<W: fmt::Write>(&self, f: &mut fmt::Formatter<W>) -> fmt::Result {
-        match self.0 {
-            Ok(counts) => write_counts(f, counts.blocks, counts.records),
-            Err(refusal) => write_refusal(f, refusal.fault.number(), refusal.place),
-        }
+    match checked {
+        Ok(Counts { blocks, records }) => put_sentence(
+            out,
+            b"accepted ",
+            blocks,
+            b" blocks ",
+            records,
+            b" records\n",
+        ),
+        Err(refused) => put_sentence(
+            out,
+            b"refused ",
+            refused.number as u64,
+            b" at ",
+            refused.place as u64,
+            b"\n",
+        ),
     }
 }
 
@@ -107,7 +119,11 @@ fn main(rt: HostRuntime) -> io::Result<()> {
             return eprintln!(rt; "asterix_check: standard input cannot be read");
         };
         match advance(pending.state, filled, &buffer) {
-            ControlFlow::Break(checked) => return rt.print(Verdict(checked)),
+            ControlFlow::Break(checked) => {
+                let mut line = [0u8; 66];
+                let n = verdict(checked, &mut line);
+                return rt.stdout().write_all(&line[..n]);
+            }
             ControlFlow::Continue(next) => pending = next,
         }
     }

@@ -1,3 +1,4 @@
 pub mod CountLaws
+pub mod KeptLaws
 pub mod FeedLaws
 pub mod Unique
