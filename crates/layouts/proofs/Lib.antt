@@ -5,6 +5,7 @@ pub mod Turns
 pub mod OctetLaws
 pub mod PartLaws
 pub mod ShapeLaws
+pub mod KindNumbers
 pub mod ReadLaws
 pub mod WholeLaws
 pub mod StoreLaws

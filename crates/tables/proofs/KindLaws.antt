@@ -11,7 +11,7 @@ use Rattle.tables.specs.declared.tables.Holds.{Holds}
 use Rattle.tables.specs.declared.tables.Holds.TheVariants.{Unsigned, Twos, Spare}
 use Rattle.tables.specs.declared.tables.Kind.{Kind}
 use Rattle.tables.specs.declared.tables.Kind.TheVariants.{NoItem, Fixed, Repeated, Led, Extended, Compound}
-use Rattle.tables.specs.Tables.{holds_digit, kind_digit, same_holds, same_kind}
+use Rattle.tables.specs.Tables.{holds_digit, kind_digit, kind_by, same_holds, same_kind}
 
 -- ---- what a field holds
 
@@ -40,9 +40,6 @@ pub holds_other : (h i : Holds) → ¬ (h ≡ i) → same_holds h i ≡ false
 holds_other h i e = ne_eqb _ _ (λ d. e (one_holds h i d))
 
 -- ---- how parts lie
-
-abbrev pub kind_by : ℕ → Kind
-kind_by n = get_or (NoItem ∷ Fixed ∷ Repeated ∷ Led ∷ Extended ∷ Compound ∷ []) n NoItem
 
 pub kind_by_lem : (k : Kind) → kind_by (kind_digit k) ≡ k
 kind_by_lem NoItem = refl

@@ -28,9 +28,9 @@ use Rattle.rules.specs.Entry.{profile_at, over}
 use Rattle.tables.specs.declared.tables.GroupRow.{GroupRow}
 use Rattle.tables.specs.declared.tables.LayoutRow.{LayoutRow}
 use Rattle.tables.specs.declared.tables.FieldRow.{FieldRow}
-use Rattle.tables.proofs.KindLaws.{holds_by, kind_by}
+use Rattle.tables.proofs.KindLaws.{holds_by}
 use Rattle.tables.specs.Tests.{all_below, within}
-use Rattle.tables.specs.Tables.{field_count, group_count, layout_count, profile_count, frn_count, range_count, fields, field_row, no_field_row, no_group_row, no_layout_row, field_at, ranges, range_rows, field_word, field_words, group_word, group_words, layout_word, layout_words, place_pair, place_pairs, is_free, groups, layouts, group_rows, group_at, layout_rows, format_by, format_is, layout_is, layout_at, primaries, primary_count, subfields_in, subfield_at, subfield_count, nowhere, profile_rows, place_row_at, place_is}
+use Rattle.tables.specs.Tables.{kind_by, field_count, group_count, layout_count, profile_count, frn_count, range_count, fields, field_row, no_field_row, no_group_row, no_layout_row, field_at, ranges, range_rows, field_word, field_words, group_word, group_words, layout_word, layout_words, place_pair, place_pairs, is_free, groups, layouts, group_rows, group_at, layout_rows, format_by, format_is, layout_is, layout_at, primaries, primary_count, subfields_in, subfield_at, subfield_count, nowhere, profile_rows, place_row_at, place_is}
 
 -- ---- what holds of each row of a table, by one test
 

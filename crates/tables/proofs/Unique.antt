@@ -8,13 +8,17 @@ use Rattle.rules.specs.Catalogue.{categories}
 use Rattle.tables.specs.declared.profiles.ProfileRow.{ProfileRow}
 use Rattle.tables.specs.declared.tables.FieldRow.{FieldRow}
 use Rattle.tables.specs.declared.tables.GroupRow.{GroupRow}
+use Rattle.tables.specs.declared.tables.Kind.{Kind}
 use Rattle.tables.specs.declared.tables.LayoutRow.{LayoutRow}
 use Rattle.tables.specs.declared.tables.PlaceRow.{PlaceRow}
-use Rattle.tables.specs.Tables.{layout_count, field_at, group_at, layout_at, place_row_at, primary_at, subfield_at}
+use Rattle.tables.specs.Tables.{kind_by, layout_count, field_at, group_at, layout_at, place_row_at, primary_at, subfield_at}
 use Rattle.tables.specs.Profiles.{profile_in, profile_row_at}
 use Rattle.tables.specs.FieldRules.{all_obeyed, rules, first_rule, singles}
 
--- ---- rows
+-- ---- rows, and how parts lie by a number
+
+pub one_kind_of : (number : ℕ) (a b : Kind) → a ≡ kind_by number → b ≡ kind_by number → a ≡ b
+one_kind_of number a b p q = p ∙ sym q
 
 pub one_field_at : (place : ℕ) (a b : FieldRow) → a ≡ field_at place → b ≡ field_at place → a ≡ b
 one_field_at place a b p q = p ∙ sym q

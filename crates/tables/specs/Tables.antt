@@ -37,6 +37,10 @@ kind_digit Led = 3
 kind_digit Extended = 4
 kind_digit Compound = 5
 
+-- the kind of a number; one that no kind has is no item's, whose parts have nothing before them and no FX bit (`layouts/proofs/KindNumbers`)
+abbrev pub kind_by : ℕ → Kind
+kind_by n = get_or (NoItem ∷ Fixed ∷ Repeated ∷ Led ∷ Extended ∷ Compound ∷ []) n NoItem
+
 -- whether two are the same (`KindLaws`)
 abbrev pub same_holds : Holds → Holds → Bool
 same_holds h i = eqb (holds_digit h) (holds_digit i)

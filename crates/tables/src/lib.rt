@@ -10,5 +10,5 @@ pub use field_rules::{are_obeyed, first_rule, is_free, pow2, single_at, size_at}
 pub use profiles::{ProfileRow, profile_of, profile_row};
 pub use tables::{
     FRNS, FieldRow, GroupRow, Holds, Kind, LayoutRow, PROFILES, PlaceRow, field_at, group_at,
-    layout_at, layout_row, place_at, primary_at, subfield_at,
+    kind_of, layout_at, layout_row, place_at, primary_at, subfield_at,
 };

@@ -2,7 +2,7 @@
 // document; Table 2 of category 017, 5.3.1; Table 9 of category 018, 5.3.1; Table 3 of category 061, 5.3). Profile 0 is category 017, edition
 // 1.3; profile 1 is category 018, edition 1.6; profile 2 is category 061, edition 1.2. Rows stand in the order of the profiles, FRN by FRN; the contracts tie each table, whole, to the rules' profiles.
 ghost use Rattle.std.specs.Prelude.{◌≡◌, ◌<◌, ◌≤◌, get_or, pos};
-ghost use Rattle.tables.specs.Tables.{holds_digit, kind_digit, field_count, range_count, group_count, layout_count, place_count, primary_count, subfield_count, range_rows, field_at, group_at, layout_at, place_row_at, primary_at, subfield_at};
+ghost use Rattle.tables.specs.Tables.{holds_digit, kind_by, field_count, range_count, group_count, layout_count, place_count, primary_count, subfield_count, range_rows, field_at, group_at, layout_at, place_row_at, primary_at, subfield_at};
 
 // What a field holds: a number, a number in two's complement, or zero. By the digit that a row has for it.
 #[derive(Clone, Copy, Debug, PartialEq, Eq)]
@@ -799,17 +799,18 @@ fn holds_of(digit: u16) -> Holds
     }
 }
 
-fn kind_of(digit: u32) -> Kind
-    requires { digit ≤ 5 }
-    ensures { kind_digit result ≡ digit }
+// Of any number: one that no kind has is no item's.
+pub fn kind_of(number: u32) -> Kind
+    ensures { result ≡ kind_by number }
 {
-    match digit {
+    match number {
         0 => Kind::NoItem,
         1 => Kind::Fixed,
         2 => Kind::Repeated,
         3 => Kind::Led,
         4 => Kind::Extended,
-        _ => Kind::Compound,
+        5 => Kind::Compound,
+        _ => Kind::NoItem,
     }
 }
 

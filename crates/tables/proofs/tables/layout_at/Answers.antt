@@ -2,8 +2,7 @@
 use borrow.Author.Rules.{rules}
 use Rattle.rules.specs.Catalogue.{categories}
 use Rattle.tables.specs.Tables.{layout_words, layouts}
-use Rattle.tables.proofs.KindLaws.{kind_read}
-use Rattle.tables.proofs.TableLaws.{layout_digits_lem, layout_kind}
+use Rattle.tables.proofs.TableLaws.{layout_digits_lem}
 use Rattle.tables.proofs.tables.layout_at.Goals as goal
 
 pub offset_bounds-place : goal.offset_bounds-place
@@ -14,10 +13,6 @@ pub bounds-place : goal.bounds-place
 unfolding layouts categories
 bounds-place c = search rules
 
-pub kind_of-requires : goal.kind_of-requires
-unfolding layout_words layouts categories
-kind_of-requires c = layout_kind c.args.place c.requires
-
 pub returns : goal.returns
 unfolding layout_words layouts categories
-returns c = rw (kind_read _ _ c.kind_of.ensures) (layout_digits_lem c.args.place c.requires)
+returns c = rw (c.kind_of.ensures) (layout_digits_lem c.args.place c.requires)
