@@ -10,8 +10,9 @@ use Rattle.rules.specs.Chain.{flatten}
 use Rattle.rules.specs.Presence.{flags}
 use Rattle.rules.specs.Layout.{at_start}
 use Rattle.rules.specs.FieldList.{absent_field}
-use Rattle.rules.specs.Told.{begun_as}
+use Rattle.rules.specs.Told.{told_as, begun_as}
 use Rattle.rules.specs.declared.faults.Fault.{Fault}
+use Rattle.rules.specs.declared.faults.Refusal.{Refusal}
 use Rattle.tables.specs.declared.tables.Kind.{Kind}
 use Rattle.tables.specs.declared.tables.Kind.TheVariants.{Compound}
 use Rattle.tables.specs.declared.tables.LayoutRow.{LayoutRow}
@@ -123,8 +124,8 @@ size_from k (ok x) = ok (0, k + x.1)
 size_from k (refused n p) = refused n 0
 
 -- what the code has of them: the octets, or why not
-abbrev pub octets_is : Result ℕ Fault → Answer Shaped
-octets_is r = begun_as (λ n. (0, n)) r
+abbrev pub octets_is : Result ℕ Refusal → Answer Shaped
+octets_is r = told_as (λ n. (0, n)) r
 
 unfoldable pub shaped : LayoutRow → List ℕ → Answer Shaped
 shaped l bs = when same_kind l.kind Compound then size_from 0 (compound_read l bs) else whole_of l bs

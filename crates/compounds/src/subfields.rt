@@ -7,11 +7,11 @@ ghost use Rattle.compounds.specs.Compound.{place_read, subfields_read, printed, 
 
 use super::primary::primary_of;
 use layouts::{Parts, whole_of};
-use rules::{Fault, Refusal};
+use rules::Refusal;
 use tables::{Kind, LayoutRow, layout_at, pow2, subfield_at};
 
 // The octets of the subfield of a bit, none if it is not there. A refusal is at the item's start, wherever it is inside.
-fn place_of(place: usize, there: bool, s: &[u8]) -> Result<usize, Fault>
+fn place_of(place: usize, there: bool, s: &[u8]) -> Result<usize, Refusal>
     requires { place < subfield_count }
     ensures { octets_is result ≡ size_from 0 (place_read place there s.now) }
 {
@@ -20,12 +20,12 @@ fn place_of(place: usize, there: bool, s: &[u8]) -> Result<usize, Fault>
     }
     match whole_of(layout_at(subfield_at(place)), s) {
         Ok(parts) => Ok(parts.long),
-        Err(refusal) => Err(refusal.fault),
+        Err(refusal) => Err(refusal.fault.at(0)),
     }
 }
 
 // The octets of the subfields that so many bits name, the first of them at a place of the table.
-fn subfields_of(first: usize, places: usize, bits: u64, s: &[u8]) -> Result<usize, Fault>
+fn subfields_of(first: usize, places: usize, bits: u64, s: &[u8]) -> Result<usize, Refusal>
     requires { (first + places ≤ subfield_count) × (places ≤ 63) × (bits < 2 ^ places) }
     ensures { octets_is result ≡ size_from 0 (subfields_read first (flags places bits) s.now) }
 {
@@ -42,7 +42,7 @@ fn subfields_of(first: usize, places: usize, bits: u64, s: &[u8]) -> Result<usiz
 }
 
 // The octets of a compound item: its primary octets, 9, 6, 7, 8; then its subfields.
-fn compound_of(l: LayoutRow, s: &[u8]) -> Result<usize, Fault>
+fn compound_of(l: LayoutRow, s: &[u8]) -> Result<usize, Refusal>
     requires { (l.first ≤ l.end) × (l.end ≤ primary_count) × (printed l ≤ 2) }
     ensures { octets_is result ≡ size_from 0 (compound_read l s.now) }
 {

@@ -7,8 +7,7 @@ use Rattle.rules.specs.Answer.{Answer, ok, refused, ◌>>=◌, need◌or◌then�
 use Rattle.rules.specs.Field.{Field, spare, value, unsigned, signed}
 use Rattle.rules.specs.Chain.{joined, flatten}
 use Rattle.rules.specs.Format.{PartValues}
-use Rattle.rules.specs.Told.{told_as, begun_as}
-use Rattle.rules.specs.declared.faults.Fault.{Fault}
+use Rattle.rules.specs.Told.{told_as}
 use Rattle.rules.specs.declared.faults.Refusal.{Refusal}
 use Rattle.tables.specs.declared.tables.Holds.TheVariants.{Twos, Spare}
 use Rattle.tables.specs.declared.tables.Kind.{Kind}
@@ -143,10 +142,6 @@ parts_is p = (p.count, p.long)
 
 abbrev pub shape_is : Result Parts Refusal → Answer Shaped
 shape_is r = told_as parts_is r
-
--- the same of a shape alone, which is refused at the item's start
-abbrev pub begun_is : Result Parts Fault → Answer Shaped
-begun_is r = begun_as parts_is r
 
 -- so many printed parts, the first by the group at a place: 9 where one is cut, 6 where FX asks for more
 unfoldable pub chain : ℕ → ℕ → List ℕ → Answer Shaped

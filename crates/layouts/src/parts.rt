@@ -2,7 +2,7 @@
 ghost use Rattle.std.specs.Prelude.{◌≡◌, true, ◌+◌, ◌-◌, ◌*◌, ◌%◌, ◌≤◌, ◌<◌, ◌^◌, length, take, drop, eqb};
 ghost use Rattle.std.proofs.lemmas.List.Edits.{sets};
 ghost use Rattle.rules.specs.Chain.{joined, flatten};
-ghost use Rattle.layouts.specs.Read.{rows_at, part_at, legal, span, parts_sound, values, count, holds, part_values, run_legal, run_fault, run_sound, first_sound, run_rest, run_values, run_holds, shape_is, begun_is, chain, list_shape, head_of, step_of, run_of, shape_of, whole_of, row_sound};
+ghost use Rattle.layouts.specs.Read.{rows_at, part_at, legal, span, parts_sound, values, count, holds, part_values, run_legal, run_fault, run_sound, first_sound, run_rest, run_values, run_holds, shape_is, chain, list_shape, head_of, step_of, run_of, shape_of, whole_of, row_sound};
 ghost use Rattle.tables.specs.Tables.{group_count, group_at};
 ghost use Rattle.tables.specs.declared.tables.Kind.TheVariants.{Repeated};
 
@@ -166,16 +166,16 @@ fn is_last(x: u8) -> bool
 }
 
 // The shape of an item whose parts follow each other as far as the FX bits say, at most those of the groups from first to before last.
-fn chain_of(s: &[u8], first: usize, last: usize) -> Result<Parts, Fault>
+fn chain_of(s: &[u8], first: usize, last: usize) -> Result<Parts, Refusal>
     requires { (last ≤ group_count) × (parts_sound 1 first (last - first) ≡ true) }
-    ensures { begun_is result ≡ chain first (last - first) s.now }
+    ensures { shape_is result ≡ chain first (last - first) s.now }
 {
     let mut at: usize = 0;
     let mut count: usize = 0;
     for g in first..last {
         let size = size_at(g);
         if s.len() - at < size {
-            return Err(Fault::ItemCut);
+            return Err(Fault::ItemCut.at(0));
         }
         at += size;
         count += 1;
@@ -183,20 +183,20 @@ fn chain_of(s: &[u8], first: usize, last: usize) -> Result<Parts, Fault>
             return Ok(Parts { count, long: at });
         }
     }
-    Err(Fault::FxPastEnd)
+    Err(Fault::FxPastEnd.at(0))
 }
 
 // The shape of a list of n parts, of which an item may have so many, in as many octets as there are.
-fn list_of(l: LayoutRow, n: usize, have: usize) -> Result<Parts, Fault>
+fn list_of(l: LayoutRow, n: usize, have: usize) -> Result<Parts, Refusal>
     requires { (row_sound l ≡ true) × (l.kind ≡ Repeated) × (n ≤ 255) }
-    ensures { begun_is result ≡ list_shape l.least l.most (group_at l.first).octets n have }
+    ensures { shape_is result ≡ list_shape l.least l.most (group_at l.first).octets n have }
 {
     let long = 1 + n * size_at(l.first);
     if have < long {
-        return Err(Fault::ItemCut);
+        return Err(Fault::ItemCut.at(0));
     }
     if n < l.least || l.most < n {
-        return Err(Fault::FieldBarred);
+        return Err(Fault::FieldBarred.at(0));
     }
     Ok(Parts { count: n, long })
 }
@@ -204,35 +204,35 @@ fn list_of(l: LayoutRow, n: usize, have: usize) -> Result<Parts, Fault>
 // The shape of an item that starts a part of a block, by its layout: 21 where there is no item, and for a compound one, which has no parts of its
 // own; 9 where its count or length octet is cut, 10 where its length is under the least, 9 where it is cut, 6 where FX asks for more than is
 // printed, 11 where its count is barred.
-pub fn shape_of(l: LayoutRow, s: &[u8]) -> Result<Parts, Fault>
+pub fn shape_of(l: LayoutRow, s: &[u8]) -> Result<Parts, Refusal>
     requires { row_sound l ≡ true }
-    ensures { begun_is result ≡ shape_of l s.now }
+    ensures { shape_is result ≡ shape_of l s.now }
 {
     match l.kind {
-        Kind::NoItem | Kind::Compound => Err(Fault::ReferenceUnknown),
+        Kind::NoItem | Kind::Compound => Err(Fault::ReferenceUnknown.at(0)),
         Kind::Fixed => {
             let long = size_at(l.first);
             if s.len() < long {
-                return Err(Fault::ItemCut);
+                return Err(Fault::ItemCut.at(0));
             }
             Ok(Parts { count: 1, long })
         }
         Kind::Repeated => {
             if s.len() < 1 {
-                return Err(Fault::ItemCut);
+                return Err(Fault::ItemCut.at(0));
             }
             list_of(l, octet(s[0]), s.len())
         }
         Kind::Led => {
             if s.len() < 1 {
-                return Err(Fault::ItemCut);
+                return Err(Fault::ItemCut.at(0));
             }
             let long = octet(s[0]);
             if long <= l.least {
-                return Err(Fault::LengthTooSmall);
+                return Err(Fault::LengthTooSmall.at(0));
             }
             if s.len() < long {
-                return Err(Fault::ItemCut);
+                return Err(Fault::ItemCut.at(0));
             }
             Ok(Parts {
                 count: long - 1,

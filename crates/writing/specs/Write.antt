@@ -3,11 +3,9 @@
 -- the rules' `write_plain` and `write_fields`. Assumes nothing.
 use Rattle.tables.specs.declared.tables.Kind.TheVariants.{Repeated, Led, Extended}
 use Rattle.tables.specs.Tables.{same_kind}
-use Rattle.std.specs.Prelude.{ℕ, suc, ◌+◌, ◌*◌, ◌^◌, Bool, true, false, cond, List, [], ◌∷◌, ◌++◌, map, leb, ltb, eqb, length, get_or, take, drop, replicate, ℤ, Result}
+use Rattle.std.specs.Prelude.{ℕ, suc, ◌+◌, ◌*◌, ◌^◌, Bool, true, false, cond, List, [], ◌∷◌, ◌++◌, map, leb, ltb, eqb, length, get_or, take, drop, replicate, ℤ}
 use Rattle.std.proofs.Math.Seq.{slice}
 use Rattle.rules.specs.Answer.{Answer, ok, refused, ◌>>=◌, need◌or◌then◌, when◌then◌else◌, octets_of, Write}
-use Rattle.rules.specs.declared.faults.Fault.{Fault}
-use Rattle.rules.specs.Told.{begun_as}
 use Rattle.rules.specs.Field.{Field, Kind, spare, value, unsigned, any, arity, put, pack}
 use Rattle.rules.specs.Chain.{octets}
 use Rattle.rules.specs.Format.{Group, Format, fixed, repeated, led, extended, group, groups, PartValues, pack_all, write_plain}
@@ -101,10 +99,7 @@ chained_at i = same_kind (layout_at i).kind Extended
 unfoldable pub head_at : ℕ → ℕ → List ℕ
 head_at i k = cond (same_kind (layout_at i).kind Repeated) (k ∷ []) (cond (same_kind (layout_at i).kind Led) (suc k ∷ []) [])
 
--- ---- what the functions answer: what is refused is refused at the item's start
-
-abbrev pub answer_of : {A : Type 0} → Result A Fault → Answer A
-answer_of = begun_as (λ a. a)
+-- ---- what the functions answer
 
 abbrev pub width_of : Field → ℕ
 width_of (spare w) = w

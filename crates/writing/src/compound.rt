@@ -7,16 +7,17 @@ ghost use Rattle.std.specs.Prelude.{◌≡◌, cond, ◌+◌, ◌<◌, ◌≤◌
 ghost use Rattle.std.proofs.lemmas.List.Edits.{sets};
 ghost use Rattle.rules.specs.Answer.{ok};
 ghost use Rattle.rules.specs.Presence.{number};
+ghost use Rattle.rules.specs.Told.{told};
 ghost use Rattle.tables.specs.declared.tables.Kind.TheVariants.{Compound};
 ghost use Rattle.tables.specs.Tables.{subfield_count, layout_at, format_is};
-ghost use Rattle.writing.specs.Write.{parts, answer_of};
+ghost use Rattle.writing.specs.Write.{parts};
 ghost use Rattle.writing.specs.Compound.{span_to, span_from, place_from, row_from, compound_octets, span_as, sized_place, place_size, row_size, rows_size, place_of, row_of};
 
 use super::formats::{Counted, lay, lay_number, mark, size_of};
 use super::rows::{Layout, Subfield};
 use super::write::is_absent;
 use numbers::magnitude;
-use rules::Fault;
+use rules::{Fault, Refusal};
 use tables::{Kind, group_at};
 
 // ---- one bit
@@ -90,8 +91,8 @@ pub struct PlaceSize {
 }
 
 // The subfield of a bit, by its layout, from a place of the numbers on.
-fn size_place(sub: Subfield, values: &[i64], at: usize) -> Result<PlaceSize, Fault>
-    ensures { answer_of result ≡ place_size sub.layout.place values.now at }
+fn size_place(sub: Subfield, values: &[i64], at: usize) -> Result<PlaceSize, Refusal>
+    ensures { told result ≡ place_size sub.layout.place values.now at }
 {
     let span = span_of(sub, values, at)?;
     match span {
@@ -141,9 +142,9 @@ pub struct RowSize {
 }
 
 // The subfields of a primary octet, the first of its bits at a place of the table, from a place of the numbers on.
-fn size_row(first: usize, values: &[i64], at: usize) -> Result<RowSize, Fault>
+fn size_row(first: usize, values: &[i64], at: usize) -> Result<RowSize, Refusal>
     requires { first + 7 ≤ subfield_count }
-    ensures { answer_of result ≡ row_size first values.now at }
+    ensures { told result ≡ row_size first values.now at }
 {
     let end = first + 7;
     let mut bits: u64 = 0;
@@ -197,9 +198,9 @@ fn rows_to(bits: u64, row: usize, before: usize) -> usize
 }
 
 // How many primary octets a list of numbers makes, and how many octets with the subfields, by the layout at a place of the table.
-pub fn size_rows(layout: Layout, values: &[i64]) -> Result<Counted, Fault>
+pub fn size_rows(layout: Layout, values: &[i64]) -> Result<Counted, Refusal>
     requires { (layout_at layout.place).kind ≡ Compound }
-    ensures { answer_of result ≡ rows_size layout.place values.now }
+    ensures { told result ≡ rows_size layout.place values.now }
 {
     let l = layout.row();
     let rows = l.end - l.first;
@@ -214,10 +215,10 @@ pub fn size_rows(layout: Layout, values: &[i64]) -> Result<Counted, Fault>
         at = x.next;
     }
     if at < values.len() {
-        return Err(Fault::FieldBarred);
+        return Err(Fault::FieldBarred.at(0));
     }
     if count == 0 {
-        return Err(Fault::FieldBarred);
+        return Err(Fault::FieldBarred.at(0));
     }
     Ok(Counted {
         count,

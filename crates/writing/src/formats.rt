@@ -4,13 +4,14 @@ ghost use Rattle.std.specs.Prelude.{◌≡◌, ℕ, ◌+◌, ◌*◌, ◌^◌, �
 ghost use Rattle.std.proofs.lemmas.List.Edits.{sets};
 ghost use Rattle.rules.specs.Answer.{ok, octets_of};
 ghost use Rattle.rules.specs.Chain.{octets};
+ghost use Rattle.rules.specs.Told.{told};
 ghost use Rattle.tables.specs.declared.tables.Kind.TheVariants.{Extended};
 ghost use Rattle.tables.specs.Tables.{same_kind, field_count, group_count};
-ghost use Rattle.writing.specs.Write.{field_in, group_in, no_group, parts_at, chained_at, code_for, pack_from, count_parts, parts, lay_parts, head_at, marked, size_at, octets_at, answer_of};
+ghost use Rattle.writing.specs.Write.{field_in, group_in, no_group, parts_at, chained_at, code_for, pack_from, count_parts, parts, lay_parts, head_at, marked, size_at, octets_at};
 
 use super::rows::Layout;
 use numbers::magnitude;
-use rules::Fault;
+use rules::{Fault, Refusal};
 use tables::{Holds, Kind, LayoutRow, field_at, group_at};
 
 // ---- one value
@@ -24,17 +25,17 @@ fn append_bits(n: u64, bits: u64, code: u64) -> u64
 }
 
 // The bits of the value at a place of a list, in the field at a place of the table: none where there is no value, or it is outside the field's range.
-fn code_at(field: usize, values: &[i64], at: usize) -> Result<u64, Fault>
+fn code_at(field: usize, values: &[i64], at: usize) -> Result<u64, Refusal>
     requires { field < field_count }
-    ensures { answer_of result ≡ code_for (field_in field) (drop at values.now) }
+    ensures { told result ≡ code_for (field_in field) (drop at values.now) }
 {
     let f = field_at(field);
     if values.len() <= at {
-        return Err(Fault::FieldBarred);
+        return Err(Fault::FieldBarred.at(0));
     }
     let v = values[at];
     if v < f.least || f.greatest < v {
-        return Err(Fault::FieldBarred);
+        return Err(Fault::FieldBarred.at(0));
     }
     if v < 0 {
         let bits = f.bits;
@@ -53,9 +54,9 @@ pub struct Packed {
 }
 
 // The number of the part whose values start at a place of a list, by the group at a place of the table.
-fn pack_part(group: usize, values: &[i64], at: usize) -> Result<Packed, Fault>
+fn pack_part(group: usize, values: &[i64], at: usize) -> Result<Packed, Refusal>
     requires { group < group_count }
-    ensures { answer_of result ≡ pack_from (group_in group).fields values.now at }
+    ensures { told result ≡ pack_from (group_in group).fields values.now at }
 {
     let g = group_at(group);
     let end = g.end;
@@ -121,8 +122,8 @@ pub struct Counted {
 }
 
 // The parts that a list of values makes, by the layout at a place of the table.
-fn count_parts(layout: Layout, values: &[i64]) -> Result<Counted, Fault>
-    ensures { answer_of result ≡ count_parts (chained_at layout.place) (parts_at layout.place) values.now }
+fn count_parts(layout: Layout, values: &[i64]) -> Result<Counted, Refusal>
+    ensures { told result ≡ count_parts (chained_at layout.place) (parts_at layout.place) values.now }
 {
     let l = layout.row();
     let most = l.most;
@@ -132,7 +133,7 @@ fn count_parts(layout: Layout, values: &[i64]) -> Result<Counted, Fault>
     // (no index is counted: each part says where the next one's values start)
     while at < values.len() {
         if most <= count {
-            return Err(Fault::FieldBarred);
+            return Err(Fault::FieldBarred.at(0));
         }
         let group = part_group(layout, count);
         let part = pack_part(group, values, at)?;
@@ -207,13 +208,13 @@ fn lay_head(layout: Layout, count: usize, out: &mut [u8], start: usize)
 }
 
 // The parts that a list of values makes, by the layout at a place of the table, and the octets that they take with what stands before them.
-pub fn size_of(layout: Layout, values: &[i64]) -> Result<Counted, Fault>
-    ensures { answer_of result ≡ size_at layout.place values.now }
+pub fn size_of(layout: Layout, values: &[i64]) -> Result<Counted, Refusal>
+    ensures { told result ≡ size_at layout.place values.now }
 {
     let Counted { count, size } = count_parts(layout, values)?;
     let l = layout.row();
     if count < l.least {
-        return Err(Fault::FieldBarred);
+        return Err(Fault::FieldBarred.at(0));
     }
     Ok(Counted {
         count,

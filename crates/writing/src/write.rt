@@ -7,7 +7,7 @@ ghost use Rattle.rules.specs.Entry.{write_one, leaves};
 ghost use Rattle.tables.specs.declared.tables.Kind.TheVariants.{Compound};
 ghost use Rattle.tables.specs.Tables.{layout_at, format_is};
 ghost use Rattle.items.specs.Answers.{count_of};
-ghost use Rattle.writing.specs.Write.{parts_at, answer_of};
+ghost use Rattle.writing.specs.Write.{parts_at};
 ghost use Rattle.writing.specs.Item.{Front, FrontAt, told_at, write_at, written_as};
 
 use super::compound::{lay_rows, size_rows};
@@ -63,32 +63,32 @@ fn are_told(layout: Layout, count: usize, absent: usize) -> bool
 // ---- the item
 
 // An item that is not compound, by its layout: how many octets it has, at the start of the output.
-fn write_plain(layout: Layout, fields: &[i64], out: &mut [u8]) -> Result<usize, Fault>
+fn write_plain(layout: Layout, fields: &[i64], out: &mut [u8]) -> Result<usize, Refusal>
     requires { present (format_is (layout_at layout.place)) ≡ true }
-    ensures answer { answer_of result ≡ count_of (write_at layout.place fields.now (length out.old)) }
+    ensures answer { written_as result ≡ count_of (write_at layout.place fields.now (length out.old)) }
     ensures left { out.new ≡ leaves (write_at layout.place fields.now (length out.old)) out.old }
 {
     let n = values_of(layout, fields);
     let Counted { count, size } = size_of(layout, &fields[0..n])?;
     if !are_told(layout, count, fields.len() - n) {
-        return Err(Fault::FieldBarred);
+        return Err(Fault::FieldBarred.at(0));
     }
     if out.len() < size {
-        return Err(Fault::NoRoom);
+        return Err(Fault::NoRoom.at(0));
     }
     lay(layout, &fields[0..n], count, out, 0);
     Ok(size)
 }
 
 // A compound item, likewise.
-fn write_compound(layout: Layout, fields: &[i64], out: &mut [u8]) -> Result<usize, Fault>
+fn write_compound(layout: Layout, fields: &[i64], out: &mut [u8]) -> Result<usize, Refusal>
     requires { (layout_at layout.place).kind ≡ Compound }
-    ensures answer { answer_of result ≡ count_of (write_at layout.place fields.now (length out.old)) }
+    ensures answer { written_as result ≡ count_of (write_at layout.place fields.now (length out.old)) }
     ensures left { out.new ≡ leaves (write_at layout.place fields.now (length out.old)) out.old }
 {
     let Counted { count, size } = size_rows(layout, fields)?;
     if out.len() < size {
-        return Err(Fault::NoRoom);
+        return Err(Fault::NoRoom.at(0));
     }
     lay_rows(layout, fields, count, out);
     Ok(size)
@@ -109,7 +109,7 @@ pub fn write_item(
     let layout = Layout { place };
     let l = layout.row();
     if l.kind == Kind::Compound {
-        return Ok(write_compound(layout, fields, out)?);
+        return write_compound(layout, fields, out);
     }
-    Ok(write_plain(layout, fields, out)?)
+    write_plain(layout, fields, out)
 }

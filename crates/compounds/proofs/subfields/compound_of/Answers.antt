@@ -15,7 +15,7 @@ use Rattle.compounds.proofs.subfields.compound_of.Goals.{In_ok-long}
 pub returns-in_err-primary : goal.returns-in_err-primary
 returns-in_err-primary c =
     let p = err_from_is_err_and c.from_residual.result c.from_residual.ensures.1 in
-    rw p.1 (rw p.2 (compound_refused _ _ _ _ c.in_err-primary.ensures))
+    rw p.1 (rw (p.2.0, p.2.1) (compound_refused _ _ _ _ c.in_err-primary.ensures))
 
 pub overflow_mul-first : goal.overflow_mul-first
 overflow_mul-first c = record { fits = omega (arith, primaries_few, c.requires.0, c.requires.1) }

@@ -9,7 +9,7 @@ compound_of-requires c = let s = compounded c.args.l c.requires.1 c.in-Compound.
 pub returns-in_err-long-in-Compound : goal.returns-in_err-long-in-Compound
 returns-in_err-long-in-Compound c =
     let p = err_from_is_err_and c.from_residual.result c.from_residual.ensures.1 in
-    rw p.1 (rw (p.2.0, p.2.1) (shape_compound _ _ c.in-Compound.is c.in_err-long-in-Compound.ensures))
+    rw p.1 (rw p.2 (shape_compound _ _ c.in-Compound.is c.in_err-long-in-Compound.ensures))
 
 pub returns-in_ok-long-in-Compound : goal.returns-in_ok-long-in-Compound
 returns-in_ok-long-in-Compound c = shape_compound _ _ c.in-Compound.is c.in_ok-long-in-Compound.ensures

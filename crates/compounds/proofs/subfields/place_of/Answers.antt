@@ -4,6 +4,7 @@ use mathlib.Core.Bool.{true}
 use Rattle.tables.specs.declared.tables.LayoutRow.{LayoutRow}
 use Rattle.tables.specs.Tables.{subfield_at, layout_at}
 use Rattle.tables.proofs.TableLaws.{subfield_row}
+use Rattle.rules.proofs.ToldLaws.{refused_as}
 use Rattle.layouts.specs.Read.{whole_of, row_sound}
 use Rattle.layouts.proofs.SoundLaws.{layout_sound}
 use Rattle.compounds.proofs.SubfieldLaws.{absent_size, there_size, there_refused}
@@ -30,5 +31,6 @@ returns-in-Ok c =
 
 pub returns-in-Err : goal.returns-in-Err
 returns-in-Err c =
-    there_refused c.args.place c.args.s.now {t = c.args.there} _ _ c.if-not-there.false
+    refused_as _ _ _ c.at.ensures.is c.at.ensures.place
+    ∙ there_refused c.args.place c.args.s.now {t = c.args.there} _ _ c.if-not-there.false
     (c.in-Err.ensures ∙ ap (λ (l : LayoutRow). whole_of l c.args.s.now) (row_at (goal.at.returns-in-Err c).After-layout_at))

@@ -1,8 +1,9 @@
 -- `layouts::parts::list_of` meets its contract: each `return` is a case of `list_shape`. Assumes nothing.
 use Prim.Native.Nat.{◌*◌, ◌≤◌}
-use mathlib.Core.Path.{sym, subst}
+use mathlib.Core.Path.{sym, ◌∙◌, subst}
 use native.Mathlib.Omega.{arith}
 use native.Mathlib.Nat.{mul-le-mul}
+use Rattle.rules.proofs.ToldLaws.{refused_as}
 use Rattle.layouts.proofs.ShapeLaws.{rowed, list_group, list_cut, list_few, list_many, list_there}
 use Rattle.layouts.proofs.parts.list_of.Goals as goal
 use Rattle.layouts.proofs.parts.list_of.Goals.{After-size_at, then-n-l-via-then-n-l, then-n-l-via-else-n-l+then-l-n}
@@ -23,11 +24,12 @@ pub overflow_add-long : goal.overflow_add-long
 overflow_add-long c = omega (arith, small (goal.at.overflow_add-long c).After-size_at)
 
 pub returns-then-have-long : goal.returns-then-have-long
-returns-then-have-long c = list_cut _ _ _ _ _ c.size_at.ensures c.if-have-long.true
+returns-then-have-long c = refused_as _ _ _ c.at.ensures.is c.at.ensures.place ∙ list_cut _ _ _ _ _ c.size_at.ensures c.if-have-long.true
 
 pub returns-then-n-l : goal.returns-then-n-l
 returns-then-n-l c =
-    elim c.then-n-l.branch [
+    refused_as _ _ _ c.at-then-n-l.ensures.is c.at-then-n-l.ensures.place
+    ∙ elim c.then-n-l.branch [
       | then-n-l-via-then-n-l w ↦ list_few _ _ _ _ _ c.size_at.ensures c.if-have-long.false w.if-n-l.true
       | then-n-l-via-else-n-l+then-l-n w ↦ list_many _ _ _ _ _ c.size_at.ensures c.if-have-long.false w.if-n-l.false w.if-l-n.true
     ]

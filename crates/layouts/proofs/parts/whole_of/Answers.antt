@@ -23,7 +23,7 @@ walked c = walk _ _ _ _ (shaped c) c.requires (octets c)
 pub returns-in_err-parts : goal.returns-in_err-parts
 returns-in_err-parts c =
     let p = err_from_is_err_and c.from_residual.result c.from_residual.ensures.1 in
-    rw p.1 (rw (p.2.0, p.2.1) (sym (whole_stopped _ _ _ _ (sym c.in_err-parts.ensures))))
+    rw p.1 (rw p.2 (sym (whole_stopped _ _ _ _ (sym c.in_err-parts.ensures))))
 
 pub is_free-requires : goal.is_free-requires
 is_free-requires c =

@@ -5,7 +5,7 @@ use native.Mathlib.Omega.{arith}
 use Rattle.rules.specs.Answer.{ok}
 use Rattle.tables.specs.Tables.{layout_at, format_is}
 use Rattle.writing.specs.Compound.{spanned, spanned_of, span_from}
-use Rattle.writing.proofs.Handed.{handed}
+use Rattle.rules.proofs.ToldLaws.{begun, handed}
 use Rattle.writing.proofs.PlaceLaws.{span_inside, place_no, place_absent, place_unsized, place_sized}
 use Rattle.writing.proofs.compound.size_place.Goals as goal
 use Rattle.writing.proofs.compound.size_place.Goals.{In-Values}
@@ -29,7 +29,7 @@ slice_bounds-size_of-end c = (span_inside _ _ _ c.args.sub.plain (spanned_at (go
 
 -- no values of it
 pub returns-in_err-span : goal.returns-in_err-span
-returns-in_err-span c = handed _ _ c.from_residual.ensures.1 ∙ place_no _ _ _ c.in_err-span.ensures
+returns-in_err-span c = begun _ _ c.from_residual.ensures.1 ∙ place_no _ _ _ c.in_err-span.ensures
 
 -- absent
 pub returns-in-Absent : goal.returns-in-Absent

@@ -5,7 +5,7 @@ use native.Mathlib.Omega.{arith}
 use Rattle.rules.specs.Answer.{ok}
 use Rattle.tables.specs.Tables.{subfield_at}
 use Rattle.writing.specs.Compound.{place_size}
-use Rattle.writing.proofs.Handed.{handed}
+use Rattle.rules.proofs.ToldLaws.{handed}
 use Rattle.writing.proofs.BitTurns.{sub_many, summing, sum_all, bit_in, sum_no, mark_fits_lem, sum_short, sum_next}
 use Rattle.writing.proofs.compound.size_row.Goals as goal
 use Rattle.writing.proofs.compound.size_row.Goals.{In_ok-place}

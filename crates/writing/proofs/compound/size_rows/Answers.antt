@@ -6,7 +6,7 @@ use native.Mathlib.Omega.{arith}
 use Rattle.rules.specs.Answer.{ok}
 use Rattle.writing.specs.Compound.{row_size}
 use Rattle.writing.proofs.BitTurns.{sub_many}
-use Rattle.writing.proofs.Handed.{handed}
+use Rattle.rules.proofs.ToldLaws.{refused_as, handed}
 use Rattle.writing.proofs.PrimaryTurns.{compound_order, adding, adding_in, rows_few, add_no, add_short, add_next, add_more, add_none, add_all}
 use Rattle.writing.proofs.compound.size_rows.Goals as goal
 use Rattle.writing.proofs.compound.size_rows.Goals.{In_ok-x}
@@ -48,11 +48,11 @@ loop-row-preserved c = add_next _ _ _ _ _ _ _ _ c.loop-row.invariant c.loop-row-
 
 -- a number is left
 pub returns-then-at-values : goal.returns-then-at-values
-returns-then-at-values c = add_more _ _ _ _ _ _ _ _ c.loop-row.invariant c.loop-row-test.false c.if-at-values.true
+returns-then-at-values c = refused_as _ _ _ c.at.ensures.is c.at.ensures.place ∙ add_more _ _ _ _ _ _ _ _ c.loop-row.invariant c.loop-row-test.false c.if-at-values.true
 
 -- no subfield is there
 pub returns-then-count-eq0 : goal.returns-then-count-eq0
-returns-then-count-eq0 c = add_none _ _ _ _ _ _ _ _ c.loop-row.invariant c.loop-row-test.false c.if-at-values.false c.if-count-eq0.true
+returns-then-count-eq0 c = refused_as _ _ _ c.at-then-count-eq0.ensures.is c.at-then-count-eq0.ensures.place ∙ add_none _ _ _ _ _ _ _ _ c.loop-row.invariant c.loop-row-test.false c.if-at-values.false c.if-count-eq0.true
 
 pub overflow_add-result : goal.overflow_add-result
 overflow_add-result c = omega (arith, c.loop-row.invariant.kept, c.loop-row.invariant.short, c.loop-row.invariant.few, rows_few _ _ _ _ _ _ _ _ c.loop-row.invariant c.requires)

@@ -3,7 +3,7 @@
 use Prim.Native.Nat.{◌+◌, ◌*◌, ◌≤◌, ◌<◌}
 use mathlib.Core.Path.{◌∙◌}
 use native.Mathlib.Omega.{arith}
-use Rattle.writing.proofs.Handed.{handed}
+use Rattle.rules.proofs.ToldLaws.{refused_as, handed}
 use Rattle.writing.proofs.PartTurns.{counting, count_all, count_over, part_in_lem, count_no, size_fits, counted}
 use Rattle.writing.proofs.formats.count_parts.Goals as goal
 use Rattle.writing.proofs.formats.count_parts.Goals.{After-struct_known-1}
@@ -24,7 +24,8 @@ loop-at-init c =
 -- more values than parts
 pub returns-then-most-count : goal.returns-then-most-count
 returns-then-most-count c =
-    count_over _ _ _ _ _ _ c.loop-at.invariant c.loop-at-test.true c.if-most-count.true
+    refused_as _ _ _ c.at.ensures.is c.at.ensures.place
+    ∙ count_over _ _ _ _ _ _ c.loop-at.invariant c.loop-at-test.true c.if-most-count.true
 
 pub part_group-group-requires : goal.part_group-group-requires
 part_group-group-requires c =

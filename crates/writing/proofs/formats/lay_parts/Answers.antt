@@ -3,8 +3,8 @@
 use Prim.Native.Nat.{◌*◌, ◌^◌, ◌<◌}
 use mathlib.Core.Path.{sym, ap, ◌∙◌, subst}
 use native.Mathlib.Omega.{arith}
-use Rattle.writing.specs.Write.{answer_of}
-use Rattle.writing.proofs.Handed.{passes}
+use Rattle.rules.specs.Told.{told}
+use Rattle.writing.proofs.Handed.{told_passes}
 use Rattle.writing.proofs.PartTurns.{placing, group_in_lem, packs, Placed, placed, placed_all}
 use Rattle.writing.proofs.formats.lay_parts.Goals as goal
 use Rattle.writing.proofs.formats.lay_parts.Goals.{After-group_at-g}
@@ -24,7 +24,7 @@ placed_at : (c : After-group_at-g)
 placed_at c =
     placed _ _ _ _ _ _ _ _ _ _ c.loop-part.invariant c.loop-part-test.true _
     c.part_group-group.ensures.1 c.group_at-g.ensures
-    (sym (ap answer_of c.unwrap-packed.ensures) ∙ c.pack_part.ensures)
+    (sym (ap told c.unwrap-packed.ensures) ∙ c.pack_part.ensures)
 
 pub loop-part-init : goal.loop-part-init
 loop-part-init c =
@@ -40,7 +40,7 @@ pack_part-requires c =
 
 -- every part was packed before
 pub unwrap-packed-requires : goal.unwrap-packed-requires
-unwrap-packed-requires c = passes _ _ c.pack_part.ensures (λ n p. packs _ _ _ _ _ _ _ _ _ _ c.loop-part.invariant c.loop-part-test.true _ c.part_group-group.ensures.1)
+unwrap-packed-requires c = told_passes _ c.pack_part.ensures (λ n p. packs _ _ _ _ _ _ _ _ _ _ c.loop-part.invariant c.loop-part-test.true _ c.part_group-group.ensures.1)
 
 pub group_at-g-requires : goal.group_at-g-requires
 group_at-g-requires c =

@@ -7,7 +7,7 @@ use lib.ListN.{length}
 use denote.Enum.Bare.{same_true, same_false}
 use Rattle.tables.specs.contracts.tables.Holds.{the_type}
 use Rattle.writing.specs.Write.{group_in}
-use Rattle.writing.proofs.Handed.{handed}
+use Rattle.rules.proofs.ToldLaws.{handed}
 use Rattle.writing.proofs.PartLaws.{packing, in_place, Added, turn_spare, turn_value, turn_no, packed_all}
 use Rattle.writing.proofs.formats.pack_part.Goals as goal
 use Rattle.writing.proofs.formats.pack_part.Goals.{In_ok-code}

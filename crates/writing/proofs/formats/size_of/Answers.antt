@@ -1,13 +1,13 @@
 -- `writing::formats::size_of` meets its contract: the count of the parts, and the tests that led to each `return` (`RowLaws`). Assumes nothing.
 use mathlib.Core.Path.{◌∙◌}
 use native.Mathlib.Omega.{arith}
-use Rattle.writing.proofs.Handed.{handed}
+use Rattle.rules.proofs.ToldLaws.{refused_as, handed}
 use Rattle.writing.proofs.RowLaws.{size_no, size_short, size_few, size_yes}
 use Rattle.writing.proofs.formats.size_of.Goals as goal
 
 -- too few parts
 pub returns-then-count-l : goal.returns-then-count-l
-returns-then-count-l c = size_few _ _ _ _ c.in_ok-count.ensures c.row-l.ensures c.if-count-l.true
+returns-then-count-l c = refused_as _ _ _ c.at.ensures.is c.at.ensures.place ∙ size_few _ _ _ _ c.in_ok-count.ensures c.row-l.ensures c.if-count-l.true
 
 pub overflow_add-result : goal.overflow_add-result
 overflow_add-result c = omega (arith, size_short _ _ _ _ c.in_ok-count.ensures, c.head_size.ensures.0)

@@ -1,14 +1,14 @@
 -- `writing::write::write_compound` meets its contract: at each `return` the tests that led there say what the rules' `write_fields` answers (`ItemLaws`).
 -- Assumes nothing.
 use mathlib.Core.Path.{◌∙◌}
-use Rattle.writing.proofs.Handed.{handed}
+use Rattle.rules.proofs.ToldLaws.{refused_as, handed}
 use Rattle.writing.proofs.ItemLaws.{compound_no, compound_lays, compound_fits, compound_full, compound_done}
 use Rattle.writing.proofs.write.write_compound.Goals as goal
 
 -- 16
 pub returns-then-out-size : goal.returns-then-out-size
 returns-then-out-size c = let told = compound_full _ _ _ c.requires _ _ c.in_ok-count.ensures c.if-out-size.true in
-    record { answer = told.0; left = told.1 }
+    record { answer = refused_as _ _ _ c.at.ensures.is c.at.ensures.place ∙ told.0; left = told.1 }
 
 pub lay_rows-requires : goal.lay_rows-requires
 lay_rows-requires c =

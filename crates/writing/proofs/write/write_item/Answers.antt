@@ -29,15 +29,9 @@ pub write_compound-requires : goal.write_compound-requires
 write_compound-requires c = sym (ap (λ x. x.kind) c.row-l.ensures) ∙ same_true the_type tt _ _ (sym c.eq.ensures ∙ c.if-eq.true)
 
 -- a compound item
-pub returns-in_err-write_compound : goal.returns-in_err-write_compound
-returns-in_err-write_compound c =
-    let e = c.in_err-write_compound.ensures in
-    let told = one_layout _ _ _ _ c.args.out.now (layout_lem (goal.at.returns-in_err-write_compound c).In_ok-place) (e.answer, e.left) in
-    record { answer = begun _ _ c.from_residual-in_err-write_compound.ensures.1 ∙ told.0; left = told.1 }
-
 pub returns-then-eq : goal.returns-then-eq
 returns-then-eq c =
-    let e = c.in_ok-write_compound.ensures in
+    let e = c.write_compound.ensures in
     let told = one_layout _ _ _ _ c.args.out.now (layout_lem (goal.at.returns-then-eq c).In_ok-place) (e.answer, e.left) in
     record { answer = told.0; left = told.1 }
 
@@ -47,14 +41,8 @@ write_plain-requires c =
     has_format _ k.1 k.0 c.row-l.ensures (same_false the_type _ _ (sym c.eq.ensures ∙ c.if-eq.false))
 
 -- any other
-pub returns-in_err-write_plain : goal.returns-in_err-write_plain
-returns-in_err-write_plain c =
-    let e = c.in_err-write_plain.ensures in
-    let told = one_layout _ _ _ _ c.args.out.now (layout_lem (goal.at.returns-in_err-write_plain c).In_ok-place) (e.answer, e.left) in
-    record { answer = begun _ _ c.from_residual-in_err-write_plain.ensures.1 ∙ told.0; left = told.1 }
-
 pub returns : goal.returns
 returns c =
-    let e = c.in_ok-write_plain.ensures in
+    let e = c.write_plain.ensures in
     let told = one_layout _ _ _ _ c.args.out.now (layout_lem (goal.at.returns c).In_ok-place) (e.answer, e.left) in
     record { answer = told.0; left = told.1 }
