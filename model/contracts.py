@@ -280,7 +280,7 @@ def main(arguments):
     functions = callable_functions()
     kept = kept_facts()
     for function in functions:
-        function.kept = kept.get(function.owner if function.result == "Self" else function.result, [])
+        function.kept = kept.get(function.owner if function.result == "Self" else re.sub(r"<'[^>]*>", "", function.result), [])
         if function.crate == EXPORTS and not function.trait:
             continue
         statements = theorems(function.crate)
@@ -296,8 +296,8 @@ def main(arguments):
                 if word in function.known and word not in function.parameters and word not in cited:
                     cited.append(word)
         says = ", ".join("`%s`" % word for word in cited) or "; ".join("`%s`" % said for said in function.ensures)
-        if not says:
-            says = "by its type: " + ", ".join("`%s`" % fact for fact in dict.fromkeys(function.kept))
+        if function.kept:
+            says = "; ".join(filter(None, [says, "by its type: " + ", ".join("`%s`" % fact for fact in dict.fromkeys(function.kept))]))
         ground = there.get(key, ("", "", ""))[2]
         if name:
             once = "`%s`" % name

@@ -6,6 +6,7 @@
 use Prim.Native.Nat.{ℕ, ◌/◌, ◌%◌}
 use mathlib.Core.Path.{◌≡◌, sym, ◌∙◌}
 use mathlib.Core.Bool.{Bool}
+use mathlib.Core.List.{List}
 use Rattle.quick_items.specs.declared.Kind.{Kind}
 use Rattle.quick_items.specs.declared.Steps.{Steps}
 use Rattle.quick_items.specs.Item.{asks, kind_by, word_for}
@@ -16,5 +17,8 @@ one_is_kept low high n a b p q = p ∙ sym q
 pub one_kind_of : (word : ℕ) (a b : Kind) → a ≡ kind_by (word / 256 % 16) → b ≡ kind_by (word / 256 % 16) → a ≡ b
 one_kind_of word a b p q = p ∙ sym q
 
-pub one_word_of : (self : Steps) (profile frn a b : ℕ) → a ≡ word_for self.words.now profile frn → b ≡ word_for self.words.now profile frn → a ≡ b
-one_word_of self profile frn a b p q = p ∙ sym q
+pub one_word_of : (t : List ℕ) (profile frn a b : ℕ) → a ≡ word_for t profile frn → b ≡ word_for t profile frn → a ≡ b
+one_word_of t profile frn a b p q = p ∙ sym q
+
+pub one_steps_word_of : (self : Steps) (profile frn a b : ℕ) → a ≡ word_for self.words.now profile frn → b ≡ word_for self.words.now profile frn → a ≡ b
+one_steps_word_of self = one_word_of self.words.now

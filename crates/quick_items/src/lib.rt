@@ -251,16 +251,30 @@ pub fn is_kept(low: usize, high: usize, n: usize) -> bool
 
 // ---- the table
 
-// A word says nothing that the item at its place does not have.
-#[derive(Clone, Copy)]
-pub struct Steps {
-    words: &'static [u32; HIGHS + RULES],
-    pub ghost sound: { sound_steps words.now ≡ true },
-    pub ghost exact: { exact_steps words.now ≡ true },
+pub type StepTable = [u32; HIGHS + RULES];
+
+// The word of a profile's item at an FRN, by any table; where the tables have no such place 0, a word that tells nothing.
+pub fn word_of(t: &StepTable, profile: usize, frn: usize) -> usize
+    ensures { result ≡ word_for t.now profile frn }
+{
+    match place_of(profile, frn) {
+        None => 0,
+        Some(place) => t[place.index] as usize,
+    }
 }
 
-impl Steps {
-    pub fn new() -> Steps {
+// A table that is lent, whosever it is. A word says nothing that the item at its place does not have.
+#[derive(Clone, Copy)]
+pub struct Steps<'a> {
+    pub words: &'a StepTable,
+    pub ghost sound: { sound_steps words.now ≡ true },
+}
+
+impl Steps<'_> {
+    // The table of this library, which says besides how many octets each item has whose first octet tells.
+    pub fn new() -> Steps<'static>
+        ensures { exact_steps result.words.now ≡ true }
+    {
         Steps { words: &WORDS }
     }
 
@@ -271,14 +285,11 @@ impl Steps {
         self.words[at] as usize
     }
 
-    // The word of a profile's item at an FRN; where the tables have no such place 0, a word that tells nothing (`one_word_of`).
+    // The same by the table that is lent.
     pub fn word_of(&self, profile: usize, frn: usize) -> usize
         ensures { result ≡ word_for self.now.words.now profile frn }
     {
-        match place_of(profile, frn) {
-            None => 0,
-            Some(place) => self.word_at(place.index),
-        }
+        word_of(self.words, profile, frn)
     }
 
     // Whether a number of three octets obeys the rule at a row.

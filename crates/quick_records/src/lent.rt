@@ -2,6 +2,7 @@
 ghost use Rattle.std.specs.Prelude.{◌≡◌, true, ◌+◌, ◌<◌, IfSome};
 ghost use Rattle.rules.specs.Presence.{flags};
 ghost use Rattle.tables.specs.Tables.{profile_count};
+ghost use Rattle.quick_items.specs.Item.{exact_steps};
 ghost use Rattle.quick_records.specs.Record.{row_count, way_count, must_at, may_at, all_free, free_sum, has_front, front_octets, type_at, sound_types, Typed};
 ghost use Rattle.quick_records.specs.Shape.{shape_count, sound_shape, sound_sets, OfType};
 
@@ -555,10 +556,12 @@ static SETS: [u64; FIRST_SHAPE + 4 * SLOTS] = [
 ];
 // ---- end of what is made
 
+pub type TypeTable = [u8; FIRST_PLACE + PROFILES];
+
 // Message types, and the octets of the first items. No entry says what the rules do not have.
 #[derive(Clone, Copy)]
-pub struct Types {
-    octets: &'static [u8; FIRST_PLACE + PROFILES],
+pub struct Types<'a> {
+    pub octets: &'a TypeTable,
     pub ghost sound: { sound_types octets.now ≡ true },
 }
 
@@ -569,8 +572,8 @@ pub struct FirstItems {
     pub kind: usize,
 }
 
-impl Types {
-    fn new() -> Types {
+impl Types<'_> {
+    fn new() -> Types<'static> {
         Types { octets: &TYPES }
     }
 
@@ -622,10 +625,12 @@ impl Types {
     }
 }
 
+pub type SetTable = [u64; FIRST_SHAPE + 4 * SLOTS];
+
 // What message types ask for, and shapes. No row says what the rules do not have.
 #[derive(Clone, Copy)]
-pub struct Sets {
-    words: &'static [u64; FIRST_SHAPE + 4 * SLOTS],
+pub struct Sets<'a> {
+    pub words: &'a SetTable,
     pub ghost sound: { sound_sets words.now ≡ true },
 }
 
@@ -639,8 +644,8 @@ pub struct Shape {
     pub ghost sound: { sound_shape fspec item rule left ≡ true },
 }
 
-impl Sets {
-    fn new() -> Sets {
+impl Sets<'_> {
+    fn new() -> Sets<'static> {
         Sets { words: &SETS }
     }
 
@@ -673,16 +678,19 @@ impl Sets {
     }
 }
 
-// The tables that are lent. Each points at one that stands in the library, so that none is written out for a call.
+// The tables that are lent, whosever they are: with a lifetime each, so that they may come from three places.
 #[derive(Clone, Copy)]
-pub struct Tables {
-    pub steps: Steps,
-    pub types: Types,
-    pub sets: Sets,
+pub struct Tables<'a, 'b, 'c> {
+    pub steps: Steps<'a>,
+    pub types: Types<'b>,
+    pub sets: Sets<'c>,
 }
 
-impl Tables {
-    pub fn new() -> Tables {
+impl Tables<'_, '_, '_> {
+    // Those that stand in the library, so that none is written out for a call.
+    pub fn new() -> Tables<'static, 'static, 'static>
+        ensures { exact_steps result.steps.words.now ≡ true }
+    {
         Tables {
             steps: Steps::new(),
             types: Types::new(),

@@ -8,5 +8,5 @@ mod record;
 mod shape;
 
 pub use end::record_end;
-pub use lent::{SLOTS, Sets, Tables, Types, long};
+pub use lent::{SLOTS, SetTable, Sets, Tables, TypeTable, Types, long};
 pub use shape::{first_five, slot_of};

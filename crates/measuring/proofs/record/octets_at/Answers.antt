@@ -22,10 +22,10 @@ returns-then-w-eq0 c =
     c.unwrap_or.ensures
     ∙ ap (λ x. unwrap_or x 0) c.asked_octets.ensures
     ∙ size_or (check_at c.args.profile c.args.frn (drop c.args.at c.args.part.now))
-    ∙ asked_octets _ _ _ c.new.result.exact c.word_of-w.ensures _ c.if-w-eq0.true
+    ∙ asked_octets _ _ _ c.new.ensures c.word_of-w.ensures _ c.if-w-eq0.true
 
 pub returns-then-w-lt8 : goal.returns-then-w-lt8
-returns-then-w-lt8 c = free_octets _ _ _ c.new.result.exact c.word_of-w.ensures _ (few (goal.at.returns-then-w-lt8 c).After-word_of-w) (omega (arith, c.if-w-eq0.false)) c.if-w-lt8.true
+returns-then-w-lt8 c = free_octets _ _ _ c.new.ensures c.word_of-w.ensures _ (few (goal.at.returns-then-w-lt8 c).After-word_of-w) (omega (arith, c.if-w-eq0.false)) c.if-w-lt8.true
 
 -- the first octet, as it was read
 first_is : (c : After-octet_at-x)
@@ -33,7 +33,7 @@ first_is : (c : After-octet_at-x)
 first_is c = c.octet_at-x.ensures.0 ∙ first_at c.args.part.now c.args.at
 
 pub returns-in-Extended : goal.returns-in-Extended
-returns-in-Extended c = extended_octets _ _ _ c.new.result.exact c.word_of-w.ensures _ (few (goal.at.returns-in-Extended c).After-word_of-w) (omega (arith, c.if-w-lt8.false)) (first_is (goal.at.returns-in-Extended c).After-octet_at-x) (kind_digit _ c.in-Extended.ensures (omega arith))
+returns-in-Extended c = extended_octets _ _ _ c.new.ensures c.word_of-w.ensures _ (few (goal.at.returns-in-Extended c).After-word_of-w) (omega (arith, c.if-w-lt8.false)) (first_is (goal.at.returns-in-Extended c).After-octet_at-x) (kind_digit _ c.in-Extended.ensures (omega arith))
 
 pub returns-in_default : goal.returns-in_default
-returns-in_default c = counted_octets _ _ _ c.new.result.exact c.word_of-w.ensures _ (few (goal.at.returns-in_default c).After-word_of-w) (omega (arith, c.if-w-lt8.false)) (first_is (goal.at.returns-in_default c).After-octet_at-x) (λ e. c.in_default.not-Extended (c.kind_of.ensures ∙ ap kind_by e))
+returns-in_default c = counted_octets _ _ _ c.new.ensures c.word_of-w.ensures _ (few (goal.at.returns-in_default c).After-word_of-w) (omega (arith, c.if-w-lt8.false)) (first_is (goal.at.returns-in_default c).After-octet_at-x) (λ e. c.in_default.not-Extended (c.kind_of.ensures ∙ ap kind_by e))
