@@ -18,8 +18,10 @@ use borrow.Author.Tests.{lt-leb}
 use Rattle.rules.specs.Answer.{Answer, ok, refused, ◌>>=◌}
 use Rattle.rules.specs.Chain.{octets}
 use Rattle.rules.specs.Catalogue.{categories}
+use Rattle.rules.specs.declared.faults.Refusal.{Refusal}
+use Rattle.rules.specs.Told.{number_of}
 use Rattle.rules.specs.Entry.{over, new_record, join_record, added, refused_old, refused_new, in_new, in_old, Added, add_record, leaves_added}
-use Rattle.rules.proofs.AnswerLaws.{ok_inj, bind_in, bind_out, bind_elim, need_in, need_out, Octets}
+use Rattle.rules.proofs.AnswerLaws.{refused_ok, ok_inj, bind_in, bind_out, bind_elim, need_in, need_out, Octets}
 use Rattle.rules.proofs.EntryLaws.{over_is}
 use Rattle.blocks.specs.Read.{Opening, open_from}
 use Rattle.blocks.proofs.HeadLaws.{headed, len_few, old_none, old_is}
@@ -28,7 +30,9 @@ use Rattle.rules.proofs.ChainLaws.{octets_take}
 use Rattle.sets.specs.Sets.{category_at, frns_of, fspec_at}
 use Rattle.records.specs.Answers.{new_at}
 use Rattle.records.proofs.NewLaws.{new_octets}
-use Rattle.adding.specs.Added.{added_as, laid}
+use Rattle.adding.specs.declared.add.AddRefusal.{AddRefusal}
+use Rattle.adding.specs.declared.add.AddRefusal.TheVariants.{Old, New}
+use Rattle.adding.specs.Added.{added_of, added_as, laid}
 
 -- ---- a loop that lays octets: so many of s stand in d, from a place on
 
@@ -249,3 +253,27 @@ mapped_ok D (Err e) Q a n h = absurd (n e h)
 pub mapped_err : {T E D : Type 0} (r : Result T E) (Q : E → Type 0) (d : D) → MatchResult r (λ x. ◌≡◌ {A = Result T D} (Err d) (Ok x)) Q → (e : E) × (r ≡ Err e) × Q e
 mapped_err (Ok b) Q d h = let z : ◌≡◌ {A = ℕ} 0 1 = cc in absurd (omega arith)
 mapped_err (Err e) Q d h = (e, refl, h)
+
+-- ---- what the answer says is what the rules answer
+
+pub told_length : (x : Added) {r : Result ℕ AddRefusal} (n : ℕ) → added_of r ≡ added_as x → r ≡ Ok n → (bs : List ℕ) × (x ≡ added bs) × (length bs ≡ n)
+told_length (added bs) n h e = (bs, refl, ok_inj (ap (λ z. z.0) (sym h ∙ ap added_of e)))
+told_length (refused_old m q) n h e = refused_ok (ap (λ z. z.0) (sym h ∙ ap added_of e))
+told_length (refused_new m q) n h e = refused_ok (ap (λ z. z.0) (sym h ∙ ap added_of e))
+
+-- the refusal of which this is said; of a length any
+abbrev refused_by : Answer ℕ × Bool → Added
+refused_by (ok n, t) = added []
+refused_by (refused n p, false) = refused_old n p
+refused_by (refused n p, true) = refused_new n p
+
+told_refused : (x : Added) (n p : ℕ) (t : Bool) → added_as x ≡ (refused n p, t) → x ≡ refused_by (refused n p, t)
+told_refused (added bs) n p t h = refused_ok (ap (λ z. z.0) (sym h))
+told_refused (refused_old m q) n p t h = ap refused_by h
+told_refused (refused_new m q) n p t h = ap refused_by h
+
+pub told_old : (x : Added) {r : Result ℕ AddRefusal} (f : Refusal) → added_of r ≡ added_as x → r ≡ Err (Old f) → x ≡ refused_old (number_of f.fault) f.place
+told_old x f h e = told_refused x (number_of f.fault) f.place false (sym h ∙ ap added_of e)
+
+pub told_new : (x : Added) {r : Result ℕ AddRefusal} (f : Refusal) → added_of r ≡ added_as x → r ≡ Err (New f) → x ≡ refused_new (number_of f.fault) f.place
+told_new x f h e = told_refused x (number_of f.fault) f.place true (sym h ∙ ap added_of e)

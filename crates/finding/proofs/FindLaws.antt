@@ -350,10 +350,25 @@ item_lost (refused m q) n p h = cc
 pub item_inside_at : (bs : List ℕ) (ref n s l : ℕ) → Octets bs → ItemSpan (find_item categories bs ref n) s l → s + l ≤ length bs
 item_inside_at bs ref n s l b a = omega (arith, item_inside bs ref n a.item b a.found, a.start_is, a.size_is)
 
+-- there is no record with a number only for the reason 19
+numbered_refused : (c : Category) (k : ℕ) (rs : List Record) (n m p : ℕ) → numbered c k rs n ≡ refused m p → ◌≡◌ {A = Answer Numbered} (refused m p) (refused 19 0)
+unfolding numbered
+numbered_refused c k [] n m p h = sym h
+numbered_refused c k (r ∷ rs) zero m p h = refused_ok (sym h)
+numbered_refused c k (r ∷ rs) (suc n) m p h = numbered_refused c (k + length (octets_of (write_record c r))) rs n m p h
+
 -- the item of a block that is opened, by its FRN and the map of its record
 module _ (bs : List ℕ) (ref n i count : ℕ) (k : Opens bs (record { category = category_at i; count = count })) where
   pub no_record_is : (f m p : ℕ) → NamedAt ref 1 (places (category_at i)) f → seek_at (category_at i) 3 (drop 3 bs) n ≡ refused m p → find_item categories bs ref n ≡ refused m p
   no_record_is f m p named h = item_nowhere bs ref n _ k named.is_item m p h
+
+  pub no_record_at : (f m p : ℕ) → NamedAt ref 1 (places (category_at i)) f → seek_at (category_at i) 3 (drop 3 bs) n ≡ refused m p → find_item categories bs ref n ≡ refused 19 0
+  unfolding seek_at
+  no_record_at f m p named h =
+      let e : numbered (category_at i) 3 k.block.records n ≡ refused m p =
+      made_refused (numbered (category_at i) 3 k.block.records n) (map_of (category_at i)) m p (sym (bind_in _ k.reads refl) ∙ h) in
+      let g : ◌≡◌ {A = Answer Numbered} (refused m p) (refused 19 0) = numbered_refused (category_at i) 3 k.block.records n m p e in
+      item_nowhere bs ref n _ k named.is_item m p h ∙ (cc)
 
   -- the map has a place for it
   pub index_in : (f : ℕ) → NamedAt ref 1 (places (category_at i)) f → f - 1 < map_places

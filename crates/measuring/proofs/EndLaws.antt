@@ -176,6 +176,12 @@ end_frns i (f ∷ fs) bs at = end_frns i fs bs (at + octets_at i f (drop at bs))
 module _ (i : ℕ) (bs : List ℕ) where
   -- ---- flags end to end
 
+  pub end_least : (ts : List Bool) (f at : ℕ) → at ≤ end_from i ts f bs at
+  unfolding end_from
+  end_least [] f at = omega arith
+  end_least (false ∷ ts) f at = end_least ts (f + 1) at
+  end_least (true ∷ ts) f at = omega (arith, end_least ts (f + 1) (at + octets_at i f (drop at bs)))
+
   pub end_most : Octets bs → (ts : List Bool) (f at : ℕ) → end_from i ts f bs at ≤ max at (length bs) + 65_026 * length ts
   unfolding end_from
   end_most o [] f at = omega arith
@@ -241,6 +247,10 @@ module _ (i : ℕ) (bs : List ℕ) where
   pub end_far : Octets bs → (bits at : ℕ) → end_of i bits bs at ≤ max at (length bs) + 4_096_638
   unfolding end_of
   end_far o bits at = omega (arith, end_most o (flags 63 bits) 1 at, flags_length 63 bits)
+
+  pub end_past : (bits at : ℕ) → at ≤ end_of i bits bs at
+  unfolding end_of
+  end_past bits at = end_least (flags 63 bits) 1 at
 
   -- where the loop over the set stands: the FRNs that are left end where the whole set does
   pub record Standing (bits from : ℕ) (left : List ℕ) (at : ℕ) : Type 0 where

@@ -147,7 +147,7 @@ module _ (as' bs : List ℕ) (m : Merge) (old : List ℕ) (room : ℕ) where
           ends_by (ap (λ k. many_of k as' bs at) left_is ∙ many_off (room - (n + 1)) as' bs at d)
 
       -- a record comes
-      running_on : (x : Move) → x ≡ move_of as' bs at → log_number x.told < 2
+      pub running_on : (x : Move) → x ≡ move_of as' bs at → log_number x.told < 2
           → Running as' bs m old room (n + 1) x.merge (sets out (6 * n) (numbers_of (log_number x.told) x.size x.at))
       running_on x e h =
           let ns : List ℕ = numbers_of (log_number x.told) x.size x.at in

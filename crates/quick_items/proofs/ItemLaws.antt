@@ -16,7 +16,7 @@ use mir.Val.{Fits}
 use lib.Dec.{leb, ltb, eqb, lit<, eqb-suc-zero}
 use lib.ListN.{length, get_or, take, drop, length-drop, get_or-eq_default}
 use lib.Seq.{slice, take_all}
-use lib.Pow.{shr-shr, shl-shr, high, field}
+use lib.Pow.{shr_le, shr-shr, shl-shr, high, field}
 use borrow.Author.Tests.{leb-true, ltb-true, eqb-true, eq-eqb, ne_eqb, lt-ltb, le-ltb}
 use Rattle.rules.specs.Answer.{ok, when◌then◌else◌}
 use Rattle.rules.specs.Catalogue.{categories}
@@ -212,6 +212,10 @@ highest bs o s k d h =
     (le_or_lt s 3)
 
 -- ---- a rule
+
+-- its sum fits
+pub sum_small : (n d a : ℕ) → n < 2 ^ 24 → n / 2 ^ d + a % 16_777_216 < 2 ^ 64
+sum_small n d a h = let s : n / 2 ^ d ≤ n = shr_le n d in omega arith
 
 -- bits are cut off by a move up and down
 pub cut : (c u : ℕ) → u < 64 → c * 2 ^ u % 2 ^ 64 / 2 ^ u ≡ c % 2 ^ (64 - u)

@@ -54,11 +54,11 @@ pub back_same : (f : Form) (e : Edition) → f.least ≤ e.byte → e ≡ back_o
 unfolding back_of when◌then◌else◌
 back_same f e h = rw (le-leb f.least e.byte h)
 
-back_found : (f : Form) (e x : Edition) → e.byte < f.least → ok x ≡ edition_of f.editions f.least → x ≡ back_of f e
+pub back_found : (f : Form) (e x : Edition) → e.byte < f.least → ok x ≡ edition_of f.editions f.least → x ≡ back_of f e
 unfolding back_of when◌then◌else◌
 back_found f e x h g = rw (lt-leb f.least e.byte h, ← g)
 
-back_none : (f : Form) (e : Edition) (k p : ℕ) → e.byte < f.least → refused k p ≡ edition_of f.editions f.least → e ≡ back_of f e
+pub back_none : (f : Form) (e : Edition) (k p : ℕ) → e.byte < f.least → refused k p ≡ edition_of f.editions f.least → e ≡ back_of f e
 unfolding back_of when◌then◌else◌
 back_none f e k p h g = rw (lt-leb f.least e.byte h, ← g)
 
@@ -145,7 +145,7 @@ seen s k v b h =
     }
 
 -- a rule that reads the sheet first, and a sheet that is refused
-read_stops : (f : Sheet → Answer (List ℕ)) (s old : List ℕ) (j k p : ℕ) (x : Result ℕ Refusal) → told x ≡ refused k p → refused k p ≡ fmap (view_of j) (read_sheet form s) → Wrote x (fitted (length old) (read_sheet form s >>= f)) old old
+pub read_stops : (f : Sheet → Answer (List ℕ)) (s old : List ℕ) (j k p : ℕ) (x : Result ℕ Refusal) → told x ≡ refused k p → refused k p ≡ fmap (view_of j) (read_sheet form s) → Wrote x (fitted (length old) (read_sheet form s >>= f)) old old
 unfolding fitted ◌>>=◌
 read_stops f s old j k p x e h =
     let r : read_sheet form s ≡ refused k p = fmap_refused (view_of j) (read_sheet form s) k p h in
