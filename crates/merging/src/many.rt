@@ -61,8 +61,14 @@ pub fn next_records(merge: Merge, log_a: &[u8], log_b: &[u8], out: &mut [usize])
         let head = sides[i].head;
         put(out, 6 * n, log, head);
         let after = stand_in(pick(log, log_a, log_b), behind(head));
+        // By its fields: the octets that a flag leaves unused would be copied through memory.
         sides[i] = Side {
-            head: after,
+            head: Standing {
+                at: after.at,
+                size: after.size,
+                timed: after.timed,
+                time: after.time,
+            },
             there: 0 < after.size,
         };
     }
