@@ -47,7 +47,10 @@ fn lay_record(out: &mut [u8], used: usize, len: usize, profile: usize, set: Item
     let start = len - items.len();
     lay_len(out, len);
     lay_fspec(out, used, profile, set);
-    out[start..len].copy_from_slice(items);
+    // (octet by octet: copied whole they would be a call of memmove, which the archive would need from outside)
+    for (k, octet) in items.iter().enumerate() {
+        out[start + k] = *octet;
+    }
 }
 
 // Into an output whose first bytes, so many as are used, are a block: the record of a set of FRNs, whose items are lent end to end. The block's new length.

@@ -4,19 +4,19 @@
 use Rattle.tables.specs.declared.tables.Holds.TheVariants.{Spare}
 use Rattle.tables.specs.Tables.{holds_digit}
 use Rattle.std.specs.Int.{w64, byte_at, bytes_high_first, to_be_bytes}
-use borrow.Rule.Slice.PartMut.{put_mid}
 use Prim.Native.Nat.{ℕ, zero, suc, ◌+◌, ◌-◌, ◌*◌, ◌/◌, ◌%◌, ◌^◌, ◌<◌, ◌≤◌}
 use mathlib.Core.Path.{◌≡◌, refl, sym, ap, ap₂, ◌∙◌, subst}
 use mathlib.Core.Bool.{Bool, true, false, not}
-use mathlib.Core.List.{List, [], ◌∷◌, ◌++◌, append_assoc}
+use mathlib.Core.List.{List, [], ◌∷◌, ◌++◌}
 use native.Mathlib.Omega.{arith}
 use native.Mathlib.Nat.{mod-eq_of_lt, add-mul, div-one, mul_assoc, lt_of_lt_of_le}
 use native.Mathlib.Numerals.{add-one}
 use borrow.Author.Tests.{not-true, not-false}
-use lib.ListN.{length, take, drop, length-drop, drop_of_length-le}
+use lib.ListN.{length, take, drop, get_or, set, length-drop, drop_of_length-le}
 use lib.Arith.{digits_lt}
 use lib.Pow.{pow_pos, pow_mono, pow-add, field, mod-mod-pow}
-use lib.Seq.{sets, sets-eq, take_all, slice, slice-cons, drop-drop, length-take-le}
+use lib.Seq.{sets, sets-eq, paste, paste-zero, take-length, get_or-drop, slice, slice-cons, drop-drop, length-take-le}
+use Rattle.std.proofs.lemmas.List.Edits.{paste_more}
 use lib.Dec.{ltb→lt}
 use lib.IntN.{ℤ}
 use Rattle.rules.specs.Answer.{Answer, ok, refused, ◌>>=◌}
@@ -76,17 +76,32 @@ past_bytes (suc j) k (suc m) n e = past_bytes j k m n (omega arith)
 pub number_octets : (n size : ℕ) → size ≤ 8 → n < 2 ^ (8 * size) → drop (8 - size) (to_be_bytes w64 n) ≡ octets size n
 number_octets n size k h = past_bytes (8 - size) size 8 n (omega arith) ∙ last_bytes size n ∙ last_all size n h
 
--- the last of its octets stand where they were copied to
-pub copied : (n size at : ℕ) (out bs : List ℕ) → size ≤ 8 → n < 2 ^ (8 * size) → at + size ≤ length out → bs ≡ take (8 - (8 - size)) (drop (8 - size) (to_be_bytes w64 n))
-    → put_mid at (at + size - at) out bs ≡ sets out at (octets size n)
-copied n size at out bs k h r e =
-    let m : at + size - at ≡ size = omega arith in
-    let l : at + length (octets size n) ≡ at + size = ap (λ x. at + x) (octets_length size n) in
-    ap (λ x. put_mid at x out bs) m
-    ∙ ap (λ x. put_mid at size out x) (e ∙ ap (take (8 - (8 - size))) (number_octets n size k h) ∙ take_all _ (octets size n) (omega (arith, octets_length size n)))
-    ∙ ap (λ x. take at out ++ (octets size n ++ x)) (drop-drop size at out ∙ ap (λ x. drop x out) (sym l))
-    ∙ sym (append_assoc (take at out) (octets size n) _)
-    ∙ sym (sets-eq (octets size n) out at (omega arith))
+-- a loop that lays them: so many stand in the output
+pub record Laying (n size at : ℕ) (d out : List ℕ) (k : ℕ) : Type 0 where
+  pub room : at + size ≤ length d
+  pub few : k ≤ size
+  pub is : out ≡ paste d at (octets size n) k
+
+pub laying : (n size at : ℕ) (d : List ℕ) → at + size ≤ length d → Laying n size at d d 0
+laying n size at d r = record { room = r; few = omega arith; is = paste-zero d at (octets size n) }
+
+pub laid : {n size at k v : ℕ} {d out : List ℕ} → Laying n size at d out k → size ≤ 8 → n < 2 ^ (8 * size) → k < size → v ≡ get_or (to_be_bytes w64 n) (8 - size + k) 0
+    → Laying n size at d (set out (at + k) v) (k + 1)
+laid {n} {size} {at} {k} {v} {d} l few h lt e =
+    let is_octet : v ≡ get_or (octets size n) k 0 = e ∙ sym (get_or-drop (8 - size) (to_be_bytes w64 n) k 0) ∙ ap (λ s. get_or s k 0) (number_octets n size few h) in
+    record {
+      room = l.room;
+      few = omega arith;
+      is = ap₂ (λ o x. set o (at + k) x) l.is is_octet ∙ paste_more d at (octets size n) k 0 (omega (arith, l.room)) (omega (arith, octets_length size n));
+    }
+
+pub all_laid : {n size at k : ℕ} {d out : List ℕ} → Laying n size at d out k → size ≤ k → out ≡ sets d at (octets size n)
+all_laid {n} {size} {at} {k} {d} l h =
+    let e : k ≡ length (octets size n) = omega (arith, l.few, octets_length size n) in
+    l.is
+    ∙ ap (paste d at (octets size n)) e
+    ∙ ap (λ s. take at d ++ s ++ drop (at + length (octets size n)) d) (take-length (octets size n))
+    ∙ sym (sets-eq (octets size n) d at (omega (arith, l.room, octets_length size n)))
 
 -- ---- the fields of a part
 

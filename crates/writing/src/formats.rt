@@ -89,8 +89,10 @@ pub fn lay_number(n: u64, size: usize, out: &mut [u8], at: usize)
     requires size_in_bounds { at + size ≤ length out.old }
     ensures { out.new ≡ sets out.old at (octets size n) }
 {
-    let octets = n.to_be_bytes();
-    out[at..at + size].copy_from_slice(&octets[8 - size..]);
+    // (octet by octet: copied from an array they would be a call of memcpy, which the archive would need from outside)
+    for k in 0..size {
+        out[at + k] = n.to_be_bytes()[8 - size + k];
+    }
 }
 
 // ---- all parts
