@@ -6,7 +6,7 @@ use Rattle.std.specs.declared.ops.ControlFlow.TheVariants.{Continue, Break}
 use Rattle.rules.specs.Answer.{Answer, ok, refused, when◌then◌else◌}
 use Rattle.rules.specs.Entry.{Counts}
 use Rattle.recordings.specs.Feed.{SoFar, fed, finished}
-use Rattle.recordings.specs.Answers.{whole_of, state_of}
+use Rattle.recordings.specs.Answers.{whole_of, kept_state_of}
 use Rattle.recordings.specs.declared.Counts as code
 use Rattle.recordings.specs.declared.Refused.{Refused}
 use Rattle.input.specs.declared.Filled.{Filled}
@@ -24,7 +24,7 @@ pub data Turned : Type 0 where
   verdict : Answer Counts → Turned
 
 abbrev pub turn_of : ControlFlow (Result code.Counts Refused) Pending → Turned
-turn_of (Continue p) = on (state_of p.state) p.from p.to
+turn_of (Continue p) = on (kept_state_of p.state) p.from p.to
 turn_of (Break c) = verdict (whole_of c)
 
 -- n octets came, of which the whole blocks at the front take k: they are fed, and the first fault found ends the work

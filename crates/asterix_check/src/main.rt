@@ -5,14 +5,14 @@
 
 ghost use Rattle.std.specs.Prelude.{◌≡◌, ◌≤◌, length};
 ghost use Rattle.rules.specs.Entry.{over};
-ghost use Rattle.recordings.specs.Answers.{whole_of, state_of};
+ghost use Rattle.recordings.specs.Answers.{whole_of, kept_state_of};
 ghost use Rattle.text.specs.Page.{page, puts};
 ghost use Rattle.asterix_check.specs.Whole.{whole_in};
 ghost use Rattle.asterix_check.specs.Turn.{turn_of, turned, Came, Wanted};
 ghost use Rattle.asterix_check.specs.Verdict.{sentence, verdict_text};
 
 use input::Filled;
-use recordings::{Counts, RecordingState, Refused};
+use recordings::{Counts, KeptState, Refused};
 use std::io;
 use std::io::Write;
 use std::ops::ControlFlow;
@@ -32,19 +32,19 @@ fn whole_blocks(part: &[u8]) -> usize
 // What is known so far, and the octets still wanted, from a place of the buffer to before another.
 #[derive(Clone, Copy)]
 struct Pending {
-    state: RecordingState,
+    state: KeptState,
     from: usize,
     to: usize,
 }
 
 // Feeds the whole blocks that came, or at the input's end what is left over; the first fault found ends the work.
 fn advance(
-    state: RecordingState,
+    state: KeptState,
     filled: Filled,
     buffer: &[u8],
 ) -> ControlFlow<Result<Counts, Refused>, Pending>
     requires { Came filled (length buffer.now) }
-    ensures is { turn_of result ≡ turned (state_of state) filled buffer.now }
+    ensures is { turn_of result ≡ turned (kept_state_of state) filled buffer.now }
     ensures within { Wanted result (length buffer.now) }
 {
     match filled {
@@ -110,7 +110,7 @@ fn main(rt: HostRuntime) -> io::Result<()> {
     // A block has 65,535 octets at most, so that a full buffer always holds a whole one.
     let mut buffer = [0u8; 131072];
     let mut pending = Pending {
-        state: RecordingState::start(),
+        state: KeptState::start(),
         from: 0,
         to: 0,
     };

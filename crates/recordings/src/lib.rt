@@ -5,9 +5,14 @@ ghost use Rattle.std.specs.Prelude.{◌≡◌};
 ghost use Rattle.rules.specs.Catalogue.{categories};
 ghost use Rattle.rules.specs.Entry.{check_recording};
 ghost use Rattle.recordings.specs.Feed.{started, fed, finished, block_length};
-ghost use Rattle.recordings.specs.Answers.{counts_of, whole_of, so_far_of, state_of};
+ghost use Rattle.recordings.specs.Answers.{counts_of, so_far_of, state_of};
+
+mod kept;
+#[cfg(test)]
+mod tests;
 
 use blocks::HEAD;
+pub use kept::KeptState;
 use quick_records::Tables;
 use rules::Refusal;
 
@@ -63,15 +68,8 @@ pub struct SoFar {
     pub counts: Counts,
 }
 
-// Why a recording that is fed is refused. A number and no `Fault`: whoever keeps a state may write any down, and has it back.
-#[derive(Clone, Copy)]
-pub struct Refused {
-    pub number: u8,
-    pub place: usize,
-}
-
 // What is known with a piece more.
-fn feed_on(so_far: Result<SoFar, Refused>, piece: &[u8]) -> Result<SoFar, Refused>
+fn feed_on(so_far: Result<SoFar, Refusal>, piece: &[u8]) -> Result<SoFar, Refusal>
     ensures { so_far_of result ≡ fed (so_far_of so_far) piece.now }
 {
     let known = so_far?;
@@ -83,17 +81,14 @@ fn feed_on(so_far: Result<SoFar, Refused>, piece: &[u8]) -> Result<SoFar, Refuse
                 records: known.counts.records.saturating_add(more.records),
             },
         }),
-        Err(refusal) => Err(Refused {
-            number: refusal.fault.number(),
-            place: known.place.saturating_add(refusal.place),
-        }),
+        Err(refusal) => Err(refusal.fault.at(known.place.saturating_add(refusal.place))),
     }
 }
 
 // What is known of a recording so far, or the first refusal.
 #[derive(Clone, Copy)]
 pub struct RecordingState {
-    pub so_far: Result<SoFar, Refused>,
+    pub so_far: Result<SoFar, Refusal>,
 }
 
 impl RecordingState {
@@ -122,10 +117,17 @@ impl RecordingState {
     }
 
     // What the whole recording is, once all of it is fed.
-    pub fn finish(self) -> Result<Counts, Refused>
-        ensures { whole_of result ≡ finished (state_of self) }
+    pub fn finish(self) -> Result<Counts, Refusal>
+        ensures { counts_of result ≡ finished (state_of self) }
     {
         let known = self.so_far?;
         Ok(known.counts)
     }
+}
+
+// Why a recording is refused whose state is kept (`KeptState`). A number and no `Fault`: whoever keeps one may write any down, and has it back.
+#[derive(Clone, Copy)]
+pub struct Refused {
+    pub number: u8,
+    pub place: usize,
 }
