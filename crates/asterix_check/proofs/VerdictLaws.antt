@@ -1,4 +1,5 @@
--- What holds of the line that says what a recording is: how long its numbers are, and that a page of 66 octets has room for it.
+-- What holds of the line that says what a recording is: the numbers in it are those that the library writes, how long they are, and that a page of 66 octets has
+-- room for it.
 --
 -- In order: a number's digits; a text that has room; the line. Assumes nothing.
 use Prim.Native.Nat.{ℕ, zero, suc, ◌+◌, ◌/◌, ◌%◌, ◌^◌, ◌≤◌, ◌<◌}
@@ -10,7 +11,10 @@ use native.Mathlib.Omega.{arith}
 use lib.Dec.{ltb}
 use lib.ListN.{length, length-append}
 use lib.Seq.{set-append_seam, append_snoc}
-use borrow.Author.Tests.{ltb-false}
+use borrow.Author.Tests.{ltb-false, lt-ltb, le-ltb}
+use Rattle.std.proofs.Common.{append_assoc}
+use Rattle.std.specs.Fmt.{decimal}
+use Rattle.std.proofs.lemmas.Fmt.{decimal_from_appends, length-decimal-le_succ}
 use Rattle.rules.specs.Answer.{Answer, ok, refused}
 use Rattle.rules.specs.Entry.{Counts, over}
 use Rattle.text.specs.Page.{Page, page, puts}
@@ -38,6 +42,14 @@ decimal_few : (n : ℕ) → n < 2 ^ 64 → length (decimal_text n) ≤ 20
 unfolding decimal_text
 decimal_few n h = digits_few (suc n) n 19 (omega arith)
 
+-- a number's text, as `{}` writes it
+decimal_is : (n : ℕ) → n < 2 ^ 64 → decimal_text n ≡ decimal n
+unfolding decimal_text decimal_from
+decimal_is n h =
+    decimal_from_appends decimal_from
+    (record { one = λ k n l. rw (lt-ltb n 10 l); more = λ k n l. rw (le-ltb n 10 l) })
+    (suc n) n h (omega (arith, length-decimal-le_succ n h))
+
 -- ---- a text that has room stands at the start, and nothing else changes
 
 laid_from : {A : Type 0} (t a l : List A) → length t ≤ length l → puts t (page (a ++ l) (length a)) ≡ page (a ++ over t l) (length a + length t)
@@ -58,6 +70,11 @@ laid : {A : Type 0} (t l : List A) → length t ≤ length l → puts t (page l 
 laid t l h = laid_from t [] l h ∙ ap (page (over t l)) (zero-add (length t))
 
 -- ---- the line
+
+pub written : (s : List ℕ) (n : ℕ) (t : List ℕ) (m : ℕ) (u : List ℕ) → n < 2 ^ 64 → m < 2 ^ 64
+    → s ++ (decimal n ++ (t ++ (decimal m ++ u))) ≡ sentence s n t m u
+unfolding sentence
+written s n t m u a b = rw (decimal_is n a, decimal_is m b) (simp append_assoc)
 
 -- two numbers of 64 bits between three texts, put one after another
 pub put_five : (p : Page ℕ) {q₁ q₂ q₃ q₄ q₅ : Page ℕ} (s : List ℕ) (n : ℕ) (t : List ℕ) (m : ℕ) (u : List ℕ) → q₁ ≡ puts s p → q₂ ≡ puts (decimal_text n) q₁
